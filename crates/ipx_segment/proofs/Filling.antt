@@ -1,15 +1,15 @@
 -- How many stations are known.
 use Rattle.std.proofs.Common.{◌≡◌, ◌∙◌, refl, sym, ap, subst, arith, ℕ, ◌<◌, ◌≤◌, Bool, true, false, ◌==◌, ◌&&◌, not, nat_lt, if◌then◌else◌, cond, suc, inl, inr, List, [], ◌∷◌, ◌++◌, length, filter, map, length-append}
 use Rattle.std.specs.List.{AllByRecursion}
-use Rattle.std.proofs.lemmas.Bool.{cases_Bool, false≢true, ltb-true, cases_eq, eq-eqb, ne_eqb}
+use Rattle.std.proofs.lemmas.Bool.{cases_Bool, ltb-true, cases_eq, eq-eqb, ne_eqb}
 use Rattle.std.proofs.lemmas.List.{length-map}
 use Rattle.std.proofs.lemmas.List.Elements.{filter-append}
 use Rattle.ipx_wire.specs.declared.node.Node.{Node}
 use Rattle.ipx_segment.specs.declared.link.Link.{Link}
-use Rattle.ipx_segment.specs.declared.link.Link.TheVariants.{Down, Cable, Sure}
+use Rattle.ipx_segment.specs.declared.link.Link.TheVariants.{Cable, Sure}
 use Rattle.ipx_segment.specs.declared.setting.Setting.{Setting}
 use Rattle.ipx_segment.specs.declared.station.Station.{Station}
-use Rattle.ipx_segment.specs.Nodes.{same_node, is_ordinary}
+use Rattle.ipx_segment.specs.Nodes.{same_node}
 use Rattle.ipx_segment.specs.Events.{Changes, Heard, Comes, Leaves, Second, Sends, History}
 use Rattle.ipx_segment.specs.Links.{link_at, links}
 use Rattle.ipx_segment.specs.Stations.{station_of, is_at, at_link, has_room, without, placed, refreshed, learned, counts, came, later, stays, heard_at, sure_at, stations}
@@ -20,12 +20,10 @@ use Rattle.ipx_segment.proofs.Standing.{once, link_kept}
 use Rattle.ipx_segment.proofs.Staying.{known_by, later_link}
 
 left_of : (a b : Bool) → (a && b) ≡ true → a ≡ true
-left_of true b is = refl
-left_of false b is = absurd (false≢true is)
+left_of a b is = grind arith
 
 right_of : (a b : Bool) → (a && b) ≡ true → b ≡ true
-right_of true b is = is
-right_of false b is = absurd (false≢true is)
+right_of a b is = grind arith
 
 module _ (setting : Setting) where
   -- ---- in all
@@ -51,42 +49,32 @@ module _ (setting : Setting) where
     few_at share link false = few_placed share (heard_at link node) xs few
 
     few_learned : (kind : Link) (link : ℕ) → length (learned setting kind link node xs) ≤ setting.capacity
-    few_learned Down link = few
-    few_learned (Cable share) link = few_at share link (is_at link (station_of node xs))
-    few_learned (Sure share) link = few
+    few_learned kind link = grind (arith, few_at)
 
     few_taken : (kind : Link) (link : ℕ) (taken : Bool) → length (if taken then learned setting kind link node xs else xs) ≤ setting.capacity
-    few_taken kind link true = few_learned kind link
-    few_taken kind link false = few
+    few_taken kind link taken = grind (arith, few_learned)
 
     few_sure : (share link : ℕ) (ordinary : Bool) → length (if ordinary then placed setting share (sure_at link node) xs else xs) ≤ setting.capacity
     few_sure share link true = few_placed share (sure_at link node) xs few
     few_sure share link false = few
 
     few_came : (kind : Link) (link : ℕ) → length (came setting kind link node xs) ≤ setting.capacity
-    few_came Down link = few
-    few_came (Cable share) link = few
-    few_came (Sure share) link = few_sure share link (is_ordinary setting node)
+    few_came kind link = grind (arith, few_sure)
 
   pub capacity : (history : History) → length (stations setting history) ≤ setting.capacity
   capacity [] = omega arith
   capacity (Changes link to ∷ earlier) = omega (arith, capacity earlier, filter_few (λ (s : Station). not (s.link == link)) (stations setting earlier))
-  capacity (Heard link source destination ∷ earlier) =
-      few_taken source (stations setting earlier) (capacity earlier) (link_at link (links setting earlier)) link
-      (counts setting (links setting earlier) (stations setting earlier) link source)
+  capacity (Heard link source destination ∷ earlier) = grind (arith, capacity earlier, few_taken)
   capacity (Comes link comer ∷ earlier) = few_came comer (stations setting earlier) (capacity earlier) (link_at link (links setting earlier)) link
-  capacity (Leaves link leaver ∷ earlier) =
-      omega (arith, capacity earlier, filter_few (λ (s : Station). not (same_node s.node leaver && (s.link == link))) (stations setting earlier))
-  capacity (Second ∷ earlier) =
-      omega (arith, capacity earlier, filter_few stays (map later (stations setting earlier)), length-map (stations setting earlier) later)
+  capacity (Leaves link leaver ∷ earlier) = omega (arith, capacity earlier, filter_few)
+  capacity (Second ∷ earlier) = grind (arith, capacity earlier, filter_few, length-map)
   capacity (Sends destination ∷ earlier) = capacity earlier
 
   -- ---- of a link
 
   module _ (link : ℕ) where
     pub fewer_kept : (p : Station → Bool) (xs : List Station) → length (at_link link (filter p xs)) ≤ length (at_link link xs)
-    fewer_kept p xs =
-        omega (arith, filter_few p (at_link link xs), ap length (filter-swap (λ (s : Station). s.link == link) p xs))
+    fewer_kept p xs = grind (arith, filter_few, filter-swap)
 
     -- a link whose stations are forgotten has none
     forgotten : (xs : List Station) → at_link link (filter (λ s. not (s.link == link)) xs) ≡ []
@@ -142,24 +130,17 @@ module _ (setting : Setting) where
     module _ (node : Node) (xs : List Station) (ls : List Link) (once_known : length (of_node node xs) ≤ 1) (few : length (at_link link xs) ≤ share_of (link_at link ls)) where
       share_at : (share place : ℕ) (here : Bool) → is_at place (station_of node xs) ≡ here → link_at place ls ≡ Cable share
           → length (at_link link (if here then map (refreshed place node) xs else placed setting share (heard_at place node) xs)) ≤ share_of (link_at link ls)
-      share_at share place true is kind =
-          let known = known_by place (of_node node xs) once_known (ap (is_at place) (sym (station_first node xs)) ∙ is) in
-          let all : AllByRecursion (λ (s : Station). s.link ≡ place) (of_node node xs) =
-          subst (AllByRecursion (λ (s : Station). s.link ≡ place)) (sym known.1) (known.2, tt) in
-          omega (arith, few, same_link place node xs all)
+      share_at share place true is kind = grind (arith, known_by, station_first, same_link)
       share_at share place false is kind =
           share_placed share (share_of (link_at link ls)) (heard_at place node) xs few
           (λ e. sym (ap share_of (ap (λ (l : ℕ). link_at l ls) (sym e) ∙ kind)))
 
       share_learned : (kind : Link) (place : ℕ) → link_at place ls ≡ kind → length (at_link link (learned setting kind place node xs)) ≤ share_of (link_at link ls)
-      share_learned Down place is = few
-      share_learned (Cable share) place is = share_at share place (is_at place (station_of node xs)) refl is
-      share_learned (Sure share) place is = few
+      share_learned kind place is = grind (arith, share_at)
 
       share_taken : (kind : Link) (place : ℕ) (taken : Bool) → link_at place ls ≡ kind
           → length (at_link link (if taken then learned setting kind place node xs else xs)) ≤ share_of (link_at link ls)
-      share_taken kind place true is = share_learned kind place is
-      share_taken kind place false is = few
+      share_taken kind place taken is = grind (arith, share_learned)
 
       share_sure : (share place : ℕ) (ordinary : Bool) → link_at place ls ≡ Sure share
           → length (at_link link (if ordinary then placed setting share (sure_at place node) xs else xs)) ≤ share_of (link_at link ls)
@@ -169,9 +150,7 @@ module _ (setting : Setting) where
       share_sure share place false kind = few
 
       share_came : (kind : Link) (place : ℕ) → link_at place ls ≡ kind → length (at_link link (came setting kind place node xs)) ≤ share_of (link_at link ls)
-      share_came Down place is = few
-      share_came (Cable share) place is = few
-      share_came (Sure share) place is = share_sure share place (is_ordinary setting node) is
+      share_came kind place is = grind (arith, share_sure)
 
     later_links : (xs : List Station) → at_link link (map later xs) ≡ map later (at_link link xs)
     later_links xs = filter-map (λ (s : Station). s.link == link) later (λ s. ap (λ (n : ℕ). n == link) (later_link s)) xs

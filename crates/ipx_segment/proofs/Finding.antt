@@ -1,25 +1,19 @@
 -- Where packets for a node go that was heard at a cable.
-use Rattle.std.proofs.Common.{◌≡◌, ◌∙◌, refl, sym, ap, subst, arith, ℕ, ◌-◌, ◌<◌, ◌≤◌, Bool, true, false, ◌==◌, ◌&&◌, not, if◌then◌else◌, ◌⊎◌, inl, inr, [], ◌∷◌, filter, Option, None, Some}
-use Rattle.std.proofs.lemmas.Bool.{false≢true, eq-eqb}
+use Rattle.std.proofs.Common.{◌≡◌, ◌∙◌, refl, sym, ap, subst, arith, ℕ, ◌-◌, ◌<◌, ◌≤◌, Bool, true, false, ◌==◌, if◌then◌else◌, ◌⊎◌, inl, inr, [], ◌∷◌, Option, None, Some}
+use Rattle.std.proofs.lemmas.Bool.{eq-eqb}
 use Rattle.ipx_wire.specs.declared.node.Node.{Node}
 use Rattle.ipx_segment.specs.declared.setting.Setting.{Setting}
-use Rattle.ipx_segment.specs.declared.station.Station.{Station}
 use Rattle.ipx_segment.specs.Numbers.{station_lasts}
 use Rattle.ipx_segment.specs.Nodes.{same_node, is_ordinary}
 use Rattle.ipx_segment.specs.Events.{Heard, Sends, History}
-use Rattle.ipx_segment.specs.Links.{is_up, link_at, links}
-use Rattle.ipx_segment.specs.Stations.{station_of, is_elsewhere, heard_at, stations}
-use Rattle.ipx_segment.specs.Receivers.{numbers, is_towards, is_back, gets, links_for, takes, receivers}
+use Rattle.ipx_segment.specs.Links.{is_up, links}
+use Rattle.ipx_segment.specs.Stations.{station_of, heard_at, stations}
+use Rattle.ipx_segment.specs.Receivers.{is_towards, is_back, links_for, takes, receivers}
 use Rattle.ipx_segment.specs.Laws.{copies, seconds, link_after, is_known, LastHeard}
 use Rattle.ipx_segment.proofs.Own.{one_known, none_known}
 use Rattle.ipx_segment.proofs.Ways.{towards, alone, comes_there}
 use Rattle.ipx_segment.proofs.Standing.{own, links_long}
 use Rattle.ipx_segment.proofs.Staying.{At, Nowhere, Fading, at_least, at_heard, at_known, at_step, found_through, reaches_through, others_step, link_through, turns_none, heard_then, known_some, fades_through}
-
-middle_of : (a b c : Bool) → (a && b && c) ≡ true → b ≡ true
-middle_of true true c is = refl
-middle_of true false c is = absurd (false≢true is)
-middle_of false b c is = absurd (false≢true is)
 
 module _ (setting : Setting) (node : Node) (link : ℕ) (history : History) (last : LastHeard setting node link history) where
   abbrev base : History
@@ -27,13 +21,10 @@ module _ (setting : Setting) (node : Node) (link : ℕ) (history : History) (las
 
   -- what the law starts from
   up : is_up (link_after setting link history) ≡ true
-  up =
-      ap is_up (ap (link_after setting link) last.event ∙ link_through setting node link last.later base (turns_none setting node link last.later last.others) ∙ last.cable)
+  up = grind (arith, link_through, turns_none)
 
   ordinary : is_ordinary setting node ≡ true
-  ordinary =
-      middle_of (is_up (link_at link (links setting last.earlier))) (is_ordinary setting node)
-      (not (is_elsewhere link (station_of node (stations setting last.earlier)))) last.counts
+  ordinary = grind arith
 
   pub at_now : is_known setting node link base ≡ true → seconds last.later < station_lasts
       → At link (station_lasts - seconds last.later) (own setting node history)
@@ -74,10 +65,7 @@ module _ (setting : Setting) (node : Node) (link : ℕ) (history : History) (las
 
   to_it : (h : History) (least : ℕ) (came : Option ℕ) → is_up (link_after setting link h) ≡ true → At link least (own setting node h)
       → links_for setting (links setting h) (stations setting h) came node ≡ (if is_back came link then [] else link ∷ [])
-  to_it h least came is_up_now a =
-      towards setting (links setting h) (stations setting h) came (links_long setting h) node ordinary
-      ∙ ap (λ (o : Option Station). filter (gets (links setting h) o came) (numbers setting.links)) (one_known node (stations setting h) a.station a.only)
-      ∙ alone setting (links setting h) (stations setting h) came (links_long setting h) a.station link a.at is_up_now
+  to_it h least came is_up_now a = grind (arith, towards, links_long, ordinary, one_known, alone)
 
   pub found_heard : (came : ℕ) (source : Node) → is_known setting node link base ≡ true → seconds last.later < station_lasts → same_node source node ≡ false
       → takes setting (Heard came source node ∷ history) ≡ true → receivers setting (Heard came source node ∷ history) ≡ (if link == came then [] else link ∷ [])
@@ -92,10 +80,7 @@ module _ (setting : Setting) (node : Node) (link : ℕ) (history : History) (las
   -- ---- where it was heard
 
   its_way : (h : History) → Nowhere link (own setting node h) → is_towards (station_of node (stations setting h)) link ≡ true
-  its_way h where_ = elim where_ [
-    | inl none ↦ ap (λ (o : Option Station). is_towards o link) (none_known node (stations setting h) none)
-    | inr a ↦ ap (λ (o : Option Station). is_towards o link) (one_known node (stations setting h) a.station a.only) ∙ eq-eqb a.station.link link a.at
-  ]
+  its_way h where_ = grind (arith, none_known, one_known, eq-eqb)
 
   there : (h : History) (came : Option ℕ) → is_up (link_after setting link h) ≡ true → is_back came link ≡ false → Nowhere link (own setting node h)
       → copies link (links_for setting (links setting h) (stations setting h) came node) ≡ 1

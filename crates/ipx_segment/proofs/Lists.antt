@@ -1,5 +1,5 @@
 -- Lists whose elements are changed in place, and what passes a test.
-use Rattle.std.proofs.Common.{◌≡◌, ◌∙◌, refl, sym, ap, ap₂, arith, ℕ, ◌+◌, ◌<◌, ◌≤◌, Bool, true, false, cond, inl, inr, Option, None, Some, filter, List, [], ◌∷◌, ◌++◌, length, map, take, drop, get_or, set, length-set}
+use Rattle.std.proofs.Common.{◌≡◌, ◌∙◌, refl, sym, ap, ap₂, arith, ℕ, ◌+◌, ◌<◌, ◌≤◌, Bool, true, false, inl, inr, Option, None, Some, filter, List, [], ◌∷◌, ◌++◌, length, map, take, drop, get_or, set, length-set}
 use Rattle.std.specs.List.{refill, find, AllByRecursion}
 use Rattle.std.proofs.lemmas.Bool.{cases_Bool}
 use Rattle.std.proofs.lemmas.List.{map_more, length-map, take_at, take_more_set, drop-set-lt, drop_more}
@@ -25,9 +25,7 @@ mapped_more {f = f} {xs = xs} {ys = ys} {i = i} m within d y is =
 
 -- the elements of a vector after that
 pub refilled : {X : Type 0} (f : X → X) (xs lent written : List X) → lent ≡ xs → written ≡ map f lent → refill (length xs) xs written ≡ map f xs
-refilled f xs lent written is done =
-    let same : written ≡ map f xs = done ∙ ap (map f) is in
-    take_at written (drop (length written) xs) (length xs) (ap length same ∙ length-map xs f) ∙ same
+refilled f xs lent written is done = grind (arith, take_at, length-map)
 
 -- ---- what passes a test
 
@@ -41,28 +39,16 @@ find_first p (x ∷ xs) = elim (cases_Bool (p x)) [ inl e ↦ rw e refl | inr e 
 
 pub filter-swap : {X : Type 0} (p q : X → Bool) (xs : List X) → filter p (filter q xs) ≡ filter q (filter p xs)
 filter-swap p q [] = refl
-filter-swap p q (x ∷ xs) =
-    let rest = filter-swap p q xs in
-    elim (cases_Bool (q x)) [
-      | inl qx ↦ elim (cases_Bool (p x)) [ inl px ↦ rw (qx, px, qx) (ap (λ l. x ∷ l) rest) | inr px ↦ rw (qx, px) rest ]
-      | inr qx ↦ elim (cases_Bool (p x)) [ inl px ↦ rw (qx, px, qx) rest | inr px ↦ rw (qx, px) rest ]
-    ]
-
-filter-map_by : {X Y : Type 0} (f : X → Y) (x : X) (xs : List X) (b : Bool) → cond b (f x ∷ map f xs) (map f xs) ≡ map f (cond b (x ∷ xs) xs)
-filter-map_by f x xs true = refl
-filter-map_by f x xs false = refl
+filter-swap p q (x ∷ xs) = grind (arith, filter-swap p q xs)
 
 -- a function that changes nothing of what is asked
 pub filter-map : {X : Type 0} (p : X → Bool) (f : X → X) → ((x : X) → p (f x) ≡ p x) → (xs : List X) → filter p (map f xs) ≡ map f (filter p xs)
 filter-map p f same [] = refl
-filter-map p f same (x ∷ xs) =
-    ap₂ (λ b l. cond b (f x ∷ l) l) (same x) (filter-map p f same xs) ∙ filter-map_by f x (filter p xs) (p x)
+filter-map p f same (x ∷ xs) = grind (arith, filter-map p f same xs)
 
 pub filter_few : {X : Type 0} (p : X → Bool) (xs : List X) → length (filter p xs) ≤ length xs
 filter_few p [] = omega arith
-filter_few p (x ∷ xs) =
-    let fewer = filter_few p xs in
-    elim (cases_Bool (p x)) [ inl px ↦ rw px (omega (arith, fewer)) | inr px ↦ rw px (omega (arith, fewer)) ]
+filter_few p (x ∷ xs) = grind (arith, filter_few p xs)
 
 pub each-filter : {X : Type 0} (p : X → Bool) (xs : List X) → AllByRecursion (λ x. p x ≡ true) (filter p xs)
 each-filter p [] = tt

@@ -1,5 +1,5 @@
 -- Nodes and numbers that are the same.
-use Rattle.std.proofs.Common.{◌≡◌, ◌∙◌, sym, ap, true, false, Bool, ◌==◌, ◌&&◌, not, refl, ℕ, List}
+use Rattle.std.proofs.Common.{◌≡◌, ◌∙◌, sym, ap, true, false, Bool, ◌==◌, ◌&&◌, not, ℕ, List, arith}
 use Rattle.std.specs.Cmp.Lexicographic.{same_text}
 use Rattle.std.proofs.lemmas.Bool.{eq-eqb, ne_eqb, false≢true}
 use Rattle.std.proofs.lemmas.Cmp.{nat_list_eq_equiv}
@@ -17,9 +17,7 @@ pub turned : (a b : ℕ) → (a == b) ≡ false → (b == a) ≡ false
 turned a b is = ne_eqb b a (λ e. absurd (false≢true (sym is ∙ eq-eqb a b (sym e))))
 
 both_not : (a b : Bool) → (not a && not b) ≡ true → (a ≡ false) × (b ≡ false)
-both_not false false is = (refl, refl)
-both_not false true is = absurd (false≢true is)
-both_not true b is = absurd (false≢true is)
+both_not a b is = grind arith
 
 -- an ordinary node is neither the one that stands for all nor the router's
 pub ordinary_parts : (setting : Setting) (node : Node) → is_ordinary setting node ≡ true

@@ -1,16 +1,15 @@
 -- The stations of one node, after events.
-use Rattle.std.proofs.Common.{◌≡◌, ◌∙◌, refl, sym, ap, ap₂, Bool, true, false, ◌-◌, if◌then◌else◌, inl, inr, ℕ, List, [], ◌∷◌, ◌++◌, map, None, Some}
-use Rattle.std.proofs.lemmas.Bool.{cases_Bool, false≢true}
+use Rattle.std.proofs.Common.{◌≡◌, ◌∙◌, refl, ap, Bool, true, false, ◌-◌, if◌then◌else◌, ℕ, List, [], ◌∷◌, map, None, Some, arith, rules}
+use Rattle.std.proofs.lemmas.Bool.{false≢true}
 use Rattle.std.proofs.lemmas.List.{append-nil}
 use Rattle.std.proofs.lemmas.List.Elements.{filter-append}
 use Rattle.ipx_wire.specs.declared.node.Node.{Node}
 use Rattle.ipx_segment.specs.declared.link.Link.{Link}
-use Rattle.ipx_segment.specs.declared.link.Link.TheVariants.{Down, Cable, Sure}
 use Rattle.ipx_segment.specs.declared.setting.Setting.{Setting}
 use Rattle.ipx_segment.specs.declared.station.Station.{Station}
-use Rattle.ipx_segment.specs.Nodes.{same_node, is_ordinary}
+use Rattle.ipx_segment.specs.Nodes.{same_node}
 use Rattle.ipx_segment.specs.Links.{link_at}
-use Rattle.ipx_segment.specs.Stations.{station_of, is_at, has_room, without, placed, refreshed, learned, heard, counts, came, later, heard_at, sure_at}
+use Rattle.ipx_segment.specs.Stations.{station_of, has_room, without, placed, refreshed, learned, heard, counts, came, later, heard_at, sure_at}
 use Rattle.ipx_segment.specs.Laws.{of_node}
 use Rattle.ipx_segment.proofs.Lists.{first, find_first, filter-map}
 use Rattle.ipx_segment.proofs.Nodes.{same_is, same_itself}
@@ -29,10 +28,7 @@ one_known node xs s one = station_first node xs ∙ ap first one
 -- ---- what keeps nodes
 
 pub refreshed_node : (link : ℕ) (node : Node) (s : Station) → ◌≡◌ {A = Node} (let t : Station = refreshed link node s in t.node) s.node
-refreshed_node link node s = elim (cases_Bool (same_node s.node node)) [
-  | inl same ↦ ap (λ (b : Bool). let t : Station = if b then heard_at link node else s in t.node) same ∙ sym (same_is s.node node same)
-  | inr other ↦ ap (λ (b : Bool). let t : Station = if b then heard_at link node else s in t.node) other
-]
+refreshed_node link node s = search (rules, same_is)
 
 later_by : (b : Bool) (s : Station) → ◌≡◌ {A = Node} (let t : Station = if b then s else record s { seconds_left = s.seconds_left - 1 } in t.node) s.node
 later_by true s = refl
@@ -40,12 +36,10 @@ later_by false s = refl
 
 pub of_refreshed : (link : ℕ) (node other : Node) (xs : List Station)
     → of_node node (map (refreshed link other) xs) ≡ map (refreshed link other) (of_node node xs)
-of_refreshed link node other xs =
-    filter-map (λ (s : Station). same_node s.node node) (refreshed link other) (λ s. ap (λ (n : Node). same_node n node) (refreshed_node link other s)) xs
+of_refreshed link node other xs = grind (arith, filter-map, refreshed_node)
 
 pub of_later : (node : Node) (xs : List Station) → of_node node (map later xs) ≡ map later (of_node node xs)
-of_later node xs =
-    filter-map (λ (s : Station). same_node s.node node) later (λ s. ap (λ (n : Node). same_node n node) (later_by s.is_sure s)) xs
+of_later node xs = grind (arith, filter-map, later_by)
 
 -- stations of one node aren't those of another
 other_than : (a b node : Node) → same_node a b ≡ true → same_node b node ≡ false → same_node a node ≡ false
@@ -54,60 +48,32 @@ other_than a b node same other = ap (λ (n : Node). same_node n node) (same_is a
 refreshed_other : (link : ℕ) (node other : Node) (xs : List Station) → same_node other node ≡ false
     → map (refreshed link other) (of_node node xs) ≡ of_node node xs
 refreshed_other link node other [] different = refl
-refreshed_other link node other (x ∷ xs) different =
-    let rest = refreshed_other link node other xs different in
-    elim (cases_Bool (same_node x.node node)) [
-      | inl own ↦ elim (cases_Bool (same_node x.node other)) [
-        | inl same ↦ absurd (false≢true (sym (other_than x.node other node same different) ∙ own))
-        | inr apart ↦ rw (own, apart) (ap (λ (l : List Station). x ∷ l) rest)
-      ]
-      | inr away ↦ rw away rest
-    ]
+refreshed_other link node other (x ∷ xs) different = grind (arith, refreshed_other link node other xs different, false≢true, other_than)
 
 -- ---- a station that comes to a link
 
 pub of_without : (node : Node) (xs : List Station) → of_node node (without node xs) ≡ []
 of_without node [] = refl
-of_without node (x ∷ xs) =
-    elim (cases_Bool (same_node x.node node)) [ inl e ↦ rw e (of_without node xs) | inr e ↦ rw (e, e) (of_without node xs) ]
+of_without node (x ∷ xs) = grind (arith, of_without node xs)
 
 of_without_other : (node other : Node) (xs : List Station) → same_node other node ≡ false → of_node node (without other xs) ≡ of_node node xs
 of_without_other node other [] different = refl
-of_without_other node other (x ∷ xs) different =
-    let rest = of_without_other node other xs different in
-    elim (cases_Bool (same_node x.node other)) [
-      | inl same ↦
-          let none : same_node x.node node ≡ false = other_than x.node other node same different in
-          rw (same, none) rest
-      | inr apart ↦ elim (cases_Bool (same_node x.node node)) [
-        | inl own ↦ rw (apart, own) (ap (λ (l : List Station). x ∷ l) rest)
-        | inr away ↦ rw (apart, away) rest
-      ]
-    ]
+of_without_other node other (x ∷ xs) different = grind (arith, of_without_other node other xs different, other_than)
 
 one_by : (node : Node) (new : Station) (b : Bool) → same_node new.node node ≡ true → of_node node (if b then new ∷ [] else []) ≡ (if b then new ∷ [] else [])
-one_by node new true same = rw same refl
-one_by node new false same = refl
+one_by node new b same = grind arith
 
 none_by : (node : Node) (new : Station) (b : Bool) → same_node new.node node ≡ false → of_node node (if b then new ∷ [] else []) ≡ []
-none_by node new true other = rw other refl
-none_by node new false other = refl
+none_by node new b other = grind arith
 
 module _ (setting : Setting) where
   pub of_placed : (share : ℕ) (new : Station) (xs : List Station)
       → of_node new.node (placed setting share new xs) ≡ (if has_room setting share new.link (without new.node xs) then new ∷ [] else [])
-  of_placed share new xs =
-      let room = has_room setting share new.link (without new.node xs) in
-      filter-append (λ (s : Station). same_node s.node new.node) (without new.node xs) (if room then new ∷ [] else [])
-      ∙ ap₂ (λ (l k : List Station). l ++ k) (of_without new.node xs) (one_by new.node new room (same_itself new.node))
+  of_placed share new xs = grind (arith, filter-append, of_without, one_by, same_itself)
 
   pub of_placed_other : (share : ℕ) (new : Station) (node : Node) (xs : List Station) → same_node new.node node ≡ false
       → of_node node (placed setting share new xs) ≡ of_node node xs
-  of_placed_other share new node xs other =
-      let room = has_room setting share new.link (without new.node xs) in
-      filter-append (λ (s : Station). same_node s.node node) (without new.node xs) (if room then new ∷ [] else [])
-      ∙ ap₂ (λ (l k : List Station). l ++ k) (of_without_other node new.node xs other) (none_by node new room other)
-      ∙ append-nil (of_node node xs)
+  of_placed_other share new node xs other = grind (arith, filter-append, of_without_other, none_by, append-nil)
 
   -- ---- what others do
 
@@ -118,13 +84,10 @@ module _ (setting : Setting) where
     learned_at share link false = of_placed_other share (heard_at link other) node xs different
 
     learned_other : (kind : Link) (link : ℕ) → of_node node (learned setting kind link other xs) ≡ of_node node xs
-    learned_other Down link = refl
-    learned_other (Cable share) link = learned_at share link (is_at link (station_of other xs))
-    learned_other (Sure share) link = refl
+    learned_other kind link = grind (arith, learned_at)
 
     heard_by : (kind : Link) (link : ℕ) (taken : Bool) → of_node node (if taken then learned setting kind link other xs else xs) ≡ of_node node xs
-    heard_by kind link true = learned_other kind link
-    heard_by kind link false = refl
+    heard_by kind link taken = grind (arith, learned_other)
 
     pub heard_other : (ls : List Link) (link : ℕ) → of_node node (heard setting ls link other xs) ≡ of_node node xs
     heard_other ls link = heard_by (link_at link ls) link (counts setting ls xs link other)
@@ -134,6 +97,4 @@ module _ (setting : Setting) where
     came_by share link false = refl
 
     pub came_other : (kind : Link) (link : ℕ) → of_node node (came setting kind link other xs) ≡ of_node node xs
-    came_other Down link = refl
-    came_other (Cable share) link = refl
-    came_other (Sure share) link = came_by share link (is_ordinary setting other)
+    came_other kind link = grind (arith, came_by)

@@ -1,14 +1,12 @@
 -- Where the shares of all links fit into the capacity, each link has its own.
-use Rattle.std.proofs.Common.{◌≡◌, ◌≢◌, refl, ap, ap₂, subst, arith, ℕ, zero, suc, ◌+◌, ◌<◌, ◌≤◌, Bool, true, ◌&&◌, not, nat_lt, inl, inr, List, [], ◌∷◌, length}
+use Rattle.std.proofs.Common.{◌≡◌, ◌≢◌, refl, ap₂, subst, arith, ℕ, zero, suc, ◌+◌, ◌<◌, ◌≤◌, true, inl, inr, List, [], ◌∷◌, length}
 use Rattle.std.specs.List.{AllByRecursion}
-use Rattle.std.proofs.lemmas.Bool.{cases_Bool, cases_eq, eq-eqb, ne_eqb, ltb-true, ltb-false, lt-ltb}
+use Rattle.std.proofs.lemmas.Bool.{cases_eq, eq-eqb, ne_eqb, ltb-true, ltb-false, lt-ltb}
 use Rattle.std.proofs.lemmas.List.{get_or_past}
 use Rattle.ipx_wire.specs.declared.node.Node.{Node}
 use Rattle.ipx_segment.specs.declared.link.Link.{Link}
-use Rattle.ipx_segment.specs.declared.link.Link.TheVariants.{Down}
 use Rattle.ipx_segment.specs.declared.setting.Setting.{Setting}
 use Rattle.ipx_segment.specs.declared.station.Station.{Station}
-use Rattle.ipx_segment.specs.Nodes.{same_node}
 use Rattle.ipx_segment.specs.Events.{History}
 use Rattle.ipx_segment.specs.Links.{link_at, links}
 use Rattle.ipx_segment.specs.Stations.{at_link, has_room, without, stations}
@@ -61,12 +59,7 @@ all_counted (x ∷ xs) n all = omega (arith, all_counted xs n all.1, sum_one x x
 -- ---- links that have a share
 
 shared_within : (ls : List Link) (l : ℕ) → 0 < share_of (link_at l ls) → l < length ls
-shared_within ls l some = elim (cases_Bool (nat_lt l (length ls))) [
-  | inl within ↦ ltb-true l (length ls) within
-  | inr past ↦
-      let none : share_of (link_at l ls) ≡ 0 = ap share_of (get_or_past ls l Down (ltb-false l (length ls) past)) in
-      absurd (omega (arith, none, some))
-]
+shared_within ls l some = grind (arith, ltb-true, get_or_past, ltb-false)
 
 at_fewer : (l : ℕ) (x : Station) (xs : List Station) → length (at_link l xs) ≤ length (at_link l (x ∷ xs))
 at_fewer l x xs = elim (cases_eq x.link l) [ inl same ↦ omega (arith, at_one l x xs same) | inr other ↦ omega (arith, at_other l x xs other) ]
@@ -98,9 +91,4 @@ module _ (setting : Setting) (history : History) where
   pub own_share : (node : Node) (link : ℕ) → shares setting history ≤ setting.capacity
       → length (at_link link (stations setting history)) < share_of (link_after setting link history)
       → has_room setting (share_of (link_after setting link history)) link (without node (stations setting history)) ≡ true
-  own_share node link fit less =
-      let xs = stations setting history in
-      let others = λ (s : Station). not (same_node s.node node) in
-      ap₂ (λ (a b : Bool). a && b)
-      (lt-ltb (length (without node xs)) setting.capacity (omega (arith, filter_few others xs, less_than_all link fit less)))
-      (lt-ltb (length (at_link link (without node xs))) (share_of (link_after setting link history)) (omega (arith, fewer_kept setting link others xs, less)))
+  own_share node link fit less = grind (arith, lt-ltb, filter_few, less_than_all, fewer_kept)

@@ -1,16 +1,16 @@
 -- What holds of the links and stations of every history.
-use Rattle.std.proofs.Common.{◌≡◌, ◌∙◌, refl, sym, ap, subst, arith, ℕ, ◌≤◌, Bool, true, false, ◌==◌, ◌&&◌, not, if◌then◌else◌, inl, inr, List, [], ◌∷◌, length, filter, map, length-set}
+use Rattle.std.proofs.Common.{◌≡◌, ◌∙◌, ap, subst, arith, ℕ, ◌≤◌, Bool, true, false, ◌==◌, ◌&&◌, not, if◌then◌else◌, inl, inr, List, [], ◌∷◌, length, filter, map, length-set}
 use Rattle.std.proofs.lemmas.Bool.{cases_Bool, false≢true, eq-eqb}
 use Rattle.std.proofs.lemmas.List.{length-map, length-replicate, get_or-set_other}
 use Rattle.ipx_wire.specs.declared.node.Node.{Node}
 use Rattle.ipx_segment.specs.declared.link.Link.{Link}
-use Rattle.ipx_segment.specs.declared.link.Link.TheVariants.{Down, Cable, Sure}
+use Rattle.ipx_segment.specs.declared.link.Link.TheVariants.{Down}
 use Rattle.ipx_segment.specs.declared.setting.Setting.{Setting}
 use Rattle.ipx_segment.specs.declared.station.Station.{Station}
-use Rattle.ipx_segment.specs.Nodes.{same_node, is_ordinary}
+use Rattle.ipx_segment.specs.Nodes.{same_node}
 use Rattle.ipx_segment.specs.Events.{Event, Changes, Heard, Comes, Leaves, Second, Sends, History}
 use Rattle.ipx_segment.specs.Links.{link_at, links}
-use Rattle.ipx_segment.specs.Stations.{station_of, is_at, has_room, without, placed, refreshed, learned, heard, counts, came, later, stays, heard_at, sure_at, stations}
+use Rattle.ipx_segment.specs.Stations.{placed, refreshed, learned, heard, counts, came, later, stays, heard_at, sure_at, stations}
 use Rattle.ipx_segment.specs.Laws.{of_node, turns, concerns, link_after}
 use Rattle.ipx_segment.proofs.Lists.{filter-swap, filter_few}
 use Rattle.ipx_segment.proofs.Nodes.{same_is}
@@ -31,22 +31,11 @@ module _ (setting : Setting) where
   -- a link is as it was, but for its own changes
   pub link_kept : (node : Node) (link : ℕ) (event : Event) (earlier : History) → turns node link event ≡ false
       → link_after setting link (event ∷ earlier) ≡ link_after setting link earlier
-  link_kept node link (Changes changed to) earlier other =
-      get_or-set_other (links setting earlier) changed link to Down (λ e. absurd (false≢true (sym other ∙ eq-eqb changed link (sym e))))
-  link_kept node link (Heard at source destination) earlier other = refl
-  link_kept node link (Comes at comer) earlier other = refl
-  link_kept node link (Leaves at leaver) earlier other = refl
-  link_kept node link Second earlier other = refl
-  link_kept node link (Sends destination) earlier other = refl
+  link_kept node link event earlier other = grind (arith, get_or-set_other, false≢true, eq-eqb)
 
   -- what concerns it not at all doesn't turn it
   pub turns_not : (node : Node) (link : ℕ) (event : Event) → concerns node link event ≡ false → turns node link event ≡ false
-  turns_not node link (Changes changed to) other = other
-  turns_not node link (Heard at source destination) other = refl
-  turns_not node link (Comes at comer) other = other
-  turns_not node link (Leaves at leaver) other = other
-  turns_not node link Second other = refl
-  turns_not node link (Sends destination) other = refl
+  turns_not node link event other = grind arith
 
   -- ---- the stations of a node
 
@@ -59,24 +48,18 @@ module _ (setting : Setting) where
 
   pub own_leaves : (node leaver : Node) (link : ℕ) (earlier : History)
       → own node (Leaves link leaver ∷ earlier) ≡ filter (λ s. not (same_node s.node leaver && (s.link == link))) (own node earlier)
-  own_leaves node leaver link earlier =
-      filter-swap (λ (s : Station). same_node s.node node) (λ (s : Station). not (same_node s.node leaver && (s.link == link))) (stations setting earlier)
+  own_leaves node leaver link earlier = grind (arith, filter-swap)
 
   pub own_second : (node : Node) (earlier : History) → own node (Second ∷ earlier) ≡ filter stays (map later (own node earlier))
-  own_second node earlier =
-      filter-swap (λ (s : Station). same_node s.node node) stays (map later (stations setting earlier))
-      ∙ ap (filter stays) (of_later node (stations setting earlier))
+  own_second node earlier = grind (arith, filter-swap, of_later)
 
   -- ---- none twice
 
   few_placed : (node : Node) (room : Bool) (new : Station) → length (if room then new ∷ [] else []) ≤ 1
-  few_placed node true new = omega arith
-  few_placed node false new = omega arith
+  few_placed node room new = grind arith
 
   once_placed : (share : ℕ) (new : Station) (xs : List Station) → length (of_node new.node (placed setting share new xs)) ≤ 1
-  once_placed share new xs =
-      subst (λ (l : List Station). length l ≤ 1) (sym (of_placed setting share new xs))
-      (few_placed new.node (has_room setting share new.link (without new.node xs)) new)
+  once_placed share new xs = grind (arith, of_placed, few_placed)
 
   module _ (node : Node) (xs : List Station) (once : length (of_node node xs) ≤ 1) where
     once_at : (share link : ℕ) (here : Bool)
@@ -85,22 +68,17 @@ module _ (setting : Setting) where
     once_at share link false = once_placed share (heard_at link node) xs
 
     once_learned : (kind : Link) (link : ℕ) → length (of_node node (learned setting kind link node xs)) ≤ 1
-    once_learned Down link = once
-    once_learned (Cable share) link = once_at share link (is_at link (station_of node xs))
-    once_learned (Sure share) link = once
+    once_learned kind link = grind (arith, once_at)
 
     once_taken : (kind : Link) (link : ℕ) (taken : Bool) → length (of_node node (if taken then learned setting kind link node xs else xs)) ≤ 1
-    once_taken kind link true = once_learned kind link
-    once_taken kind link false = once
+    once_taken kind link taken = grind (arith, once_learned)
 
     once_sure : (share link : ℕ) (ordinary : Bool) → length (of_node node (if ordinary then placed setting share (sure_at link node) xs else xs)) ≤ 1
     once_sure share link true = once_placed share (sure_at link node) xs
     once_sure share link false = once
 
     once_came : (kind : Link) (link : ℕ) → length (of_node node (came setting kind link node xs)) ≤ 1
-    once_came Down link = once
-    once_came (Cable share) link = once
-    once_came (Sure share) link = once_sure share link (is_ordinary setting node)
+    once_came kind link = grind (arith, once_sure)
 
   pub once : (history : History) (node : Node) → length (of_node node (stations setting history)) ≤ 1
   once [] node = omega arith

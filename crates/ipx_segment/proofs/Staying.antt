@@ -1,7 +1,7 @@
 -- A station stays where it was heard, or where it came to.
-use Rattle.std.proofs.Common.{◌≡◌, ◌≢◌, ◌∙◌, refl, sym, ap, ap₂, subst, arith, ℕ, ◌+◌, ◌-◌, ◌<◌, ◌≤◌, Bool, true, false, ◌==◌, ◌&&◌, ◌||◌, not, nat_lt, if◌then◌else◌, ◌⊎◌, inl, inr, List, [], ◌∷◌, ◌++◌, length, filter, map}
+use Rattle.std.proofs.Common.{◌≡◌, ◌≢◌, ◌∙◌, refl, sym, ap, ap₂, subst, arith, ℕ, ◌+◌, ◌-◌, ◌<◌, ◌≤◌, Bool, true, false, ◌==◌, ◌&&◌, ◌||◌, not, nat_lt, if◌then◌else◌, ◌⊎◌, inl, inr, List, [], ◌∷◌, ◌++◌, length, filter, map, rules}
 use Rattle.std.specs.List.{AllByRecursion}
-use Rattle.std.proofs.lemmas.Bool.{cases_Bool, false≢true, lt-ltb, ltb-true, ltb-false, eq-eqb, eqb-true}
+use Rattle.std.proofs.lemmas.Bool.{cases_Bool, false≢true, ltb-true, ltb-false, eq-eqb, eqb-true}
 use Rattle.ipx_wire.specs.declared.node.Node.{Node}
 use Rattle.ipx_segment.specs.declared.link.Link.{Link}
 use Rattle.ipx_segment.specs.declared.link.Link.TheVariants.{Cable}
@@ -39,27 +39,16 @@ other_link link changed s at other =
 -- another node leaves
 other_leaves : (node leaver : Node) (link : ℕ) (s : Station) → same_node s.node node ≡ true → same_node leaver node ≡ false
     → filter (λ t. not (same_node t.node leaver && (t.link == link))) (s ∷ []) ≡ s ∷ []
-other_leaves node leaver link s own other =
-    let apart : same_node s.node leaver ≡ false = elim (cases_Bool (same_node s.node leaver)) [
-      | inl same ↦ absurd (false≢true (sym other ∙ ap (λ (n : Node). same_node n node) (sym (same_is s.node leaver same)) ∙ own))
-      | inr e ↦ e
-    ] in
-    filter_one (λ (t : Station). not (same_node t.node leaver && (t.link == link))) s (ap (λ (b : Bool). not (b && (s.link == link))) apart)
+other_leaves node leaver link s own other = search (rules, false≢true, same_is, own, filter_one)
 
 -- the station of a node has this node
 own_node : (node : Node) (xs : List Station) (s : Station) → of_node node xs ≡ s ∷ [] → same_node s.node node ≡ true
-own_node node xs s only =
-    let all : AllByRecursion (λ t. same_node t.node node ≡ true) (s ∷ []) =
-    subst (AllByRecursion (λ (t : Station). same_node t.node node ≡ true)) only (each-filter (λ (t : Station). same_node t.node node) xs) in
-    all.0
+own_node node xs s only = grind (arith, each-filter)
 
 -- ---- a second
 
 later_sure : (s : Station) → s.is_sure ≡ true → later s ≡ s
 later_sure s sure = ap (λ (b : Bool). if b then s else record s { seconds_left = s.seconds_left - 1 }) sure
-
-later_other : (s : Station) → s.is_sure ≡ false → later s ≡ record s { seconds_left = s.seconds_left - 1 }
-later_other s other = ap (λ (b : Bool). if b then s else record s { seconds_left = s.seconds_left - 1 }) other
 
 stays_sure : (s : Station) → s.is_sure ≡ true → stays s ≡ true
 stays_sure s sure = ap (λ (b : Bool). b || nat_lt 0 s.seconds_left) sure
@@ -69,31 +58,13 @@ sure_later s sure =
     ap (λ (t : Station). filter stays (t ∷ [])) (later_sure s sure) ∙ filter_one stays s (stays_sure s sure)
 
 other_later : (s : Station) → s.is_sure ≡ false → 1 < s.seconds_left → filter stays (map later (s ∷ [])) ≡ record s { seconds_left = s.seconds_left - 1 } ∷ []
-other_later s other some =
-    let t : Station = record s { seconds_left = s.seconds_left - 1 } in
-    ap (λ (x : Station). filter stays (x ∷ [])) (later_other s other)
-    ∙ filter_one stays t (ap (λ (b : Bool). b || nat_lt 0 (s.seconds_left - 1)) other ∙ lt-ltb 0 (s.seconds_left - 1) (omega (arith, some)))
+other_later s other some = grind arith
 
 gone_later : (s : Station) → s.is_sure ≡ false → s.seconds_left ≤ 1 → filter stays (map later (s ∷ [])) ≡ []
-gone_later s other last =
-    let t : Station = record s { seconds_left = s.seconds_left - 1 } in
-    let none : s.seconds_left - 1 ≡ 0 = omega (arith, last) in
-    ap (λ (x : Station). filter stays (x ∷ [])) (later_other s other)
-    ∙ filter_none stays t (ap₂ (λ (b : Bool) (n : ℕ). b || nat_lt 0 n) other none)
+gone_later s other last = grind arith
 
 at_second : (link least : ℕ) (xs : List Station) → 0 < least → At link (least + 1) xs → At link least (filter stays (map later xs))
-at_second link least xs some a =
-    let s = a.station in
-    let step = ap (λ (l : List Station). filter stays (map later l)) a.only in
-    elim (cases_Bool s.is_sure) [
-      | inl sure ↦ record { station = s; only = step ∙ sure_later s sure; at = a.at; left = omega (arith, a.left) }
-      | inr other ↦ record {
-        station = record s { seconds_left = s.seconds_left - 1 };
-        only = step ∙ other_later s other (omega (arith, a.left, some));
-        at = a.at;
-        left = omega (arith, a.left);
-      }
-    ]
+at_second link least xs some a = grind arith
 
 -- nowhere, or at that link
 abbrev pub Nowhere : ℕ → List Station → Type 0
@@ -104,10 +75,7 @@ none_or_one s link true at = inr (record { station = s; only = refl; at = at; le
 none_or_one s link false at = inl refl
 
 pub later_link : (s : Station) → ◌≡◌ {A = ℕ} (let t : Station = later s in t.link) s.link
-later_link s = elim (cases_Bool s.is_sure) [
-  | inl sure ↦ ap (λ (t : Station). t.link) (later_sure s sure)
-  | inr other ↦ ap (λ (t : Station). t.link) (later_other s other)
-]
+later_link s = grind arith
 
 filter_by : (s : Station) → filter stays (s ∷ []) ≡ (if stays s then s ∷ [] else [])
 filter_by s = elim (cases_Bool (stays s)) [ inl e ↦ filter_one stays s e ∙ sym (ap (λ (b : Bool). if b then s ∷ [] else []) e) | inr e ↦ filter_none stays s e ∙ sym (ap (λ (b : Bool). if b then s ∷ [] else []) e) ]
@@ -138,12 +106,7 @@ module _ (setting : Setting) (node : Node) (link : ℕ) where
 
   pub at_step : (least : ℕ) (event : Event) (earlier : History) → event ≢ Second → concerns node link event ≡ false
       → At link least (own setting node earlier) → At link least (own setting node (event ∷ earlier))
-  at_step least event earlier still other a = record {
-    station = a.station;
-    only = same_step a.station event earlier still other a.at a.only;
-    at = a.at;
-    left = a.left;
-  }
+  at_step least event earlier still other a = grind (arith, same_step)
 
   -- as long as seconds don't take all
   pub found_through : (later base : History) → AllByRecursion (λ e. concerns node link e ≡ false) later → seconds later < station_lasts
@@ -183,20 +146,10 @@ module _ (setting : Setting) (node : Node) (link : ℕ) where
 
   some_step : (event : Event) (earlier : History) → event ≢ Second → concerns node link event ≡ false
       → Nowhere link (own setting node earlier) → Nowhere link (own setting node (event ∷ earlier))
-  some_step event earlier still other before = elim before [
-    | inl none ↦ inl (none_step event earlier other none)
-    | inr a ↦ inr (at_step 0 event earlier still other a)
-  ]
+  some_step event earlier still other before = grind (arith, none_step, at_step)
 
   second_step : (earlier : History) → Nowhere link (own setting node earlier) → Nowhere link (own setting node (Second ∷ earlier))
-  second_step earlier before = elim before [
-    | inl none ↦ inl (none_step Second earlier refl none)
-    | inr a ↦
-        let t = later a.station in
-        let after : own setting node (Second ∷ earlier) ≡ (if stays t then t ∷ [] else []) =
-        own_second setting node earlier ∙ ap (λ (l : List Station). filter stays (map later l)) a.only ∙ filter_by t in
-        subst (Nowhere link) (sym after) (none_or_one t link (stays t) (later_link a.station ∙ a.at))
-  ]
+  second_step earlier before = grind (arith, none_step, own, own_second, filter_by, none_or_one, later_link)
 
   pub reaches_through : (later base : History) → AllByRecursion (λ e. concerns node link e ≡ false) later
       → Nowhere link (own setting node base) → Nowhere link (own setting node (later ++ base))
@@ -233,11 +186,7 @@ module _ (setting : Setting) (node : Node) (link : ℕ) where
     after here = if here then map (refreshed link node) xs else placed setting share (heard_at link node) xs
 
     here_again : is_at link (station_of node xs) ≡ true → of_node node (after true) ≡ heard_at link node ∷ []
-    here_again here =
-        let known = known_by link (of_node node xs) few (ap (is_at link) (sym (station_first node xs)) ∙ here) in
-        let s = known.0 in
-        of_refreshed link node node xs ∙ ap (map (refreshed link node)) known.1
-        ∙ ap (λ (b : Bool). (if b then heard_at link node else s) ∷ []) (own_node node xs s known.1)
+    here_again here = grind (arith, known_by, station_first, of_refreshed, own_node)
 
     new_there : (room : Bool) → has_room setting share link (without node xs) ≡ room → of_node node (after false) ≡ (if room then heard_at link node ∷ [] else [])
     new_there room is = of_placed setting share (heard_at link node) xs ∙ ap (λ (b : Bool). if b then heard_at link node ∷ [] else []) is
@@ -249,11 +198,7 @@ module _ (setting : Setting) (node : Node) (link : ℕ) where
 
     heard_any : (here : Bool) → is_at link (station_of node xs) ≡ here
         → (of_node node (after here) ≡ []) ⊎ (of_node node (after here) ≡ heard_at link node ∷ [])
-    heard_any true is = inr (here_again is)
-    heard_any false is = elim (cases_Bool (has_room setting share link (without node xs))) [
-      | inl room ↦ inr (new_there true room)
-      | inr full ↦ inl (new_there false full)
-    ]
+    heard_any here is = grind (arith, here_again, new_there)
 
   -- the stations after a packet of the node, from a cable
   heard_after : (destination : Node) (earlier : History) (share : ℕ) → link_after setting link earlier ≡ Cable share
@@ -273,9 +218,7 @@ module _ (setting : Setting) (node : Node) (link : ℕ) where
   pub heard_in_room : (destination : Node) (earlier : History) (share : ℕ) → link_after setting link earlier ≡ Cable share
       → takes setting (Heard link node destination ∷ earlier) ≡ true → has_room setting share link (without node (stations setting earlier)) ≡ true
       → own setting node (Heard link node destination ∷ earlier) ≡ heard_at link node ∷ []
-  heard_in_room destination earlier share cable counted room =
-      heard_after destination earlier share cable counted
-      ∙ heard_room share (stations setting earlier) (once setting earlier node) (is_at link (station_of node (stations setting earlier))) refl room
+  heard_in_room destination earlier share cable counted room = grind (arith, heard_after, heard_room, once)
 
   pub at_heard : (xs : List Station) → xs ≡ heard_at link node ∷ [] → At link station_lasts xs
   at_heard xs is = record { station = heard_at link node; only = is; at = refl; left = omega arith }
@@ -291,10 +234,7 @@ module _ (setting : Setting) (node : Node) (link : ℕ) where
   pub known_nowhere : (other : ℕ) (history : History) → (link == other) ≡ false
       → (own setting node history ≡ []) ⊎ (own setting node history ≡ heard_at link node ∷ [])
       → is_known setting node other history ≡ false
-  known_nowhere other history apart before = elim before [
-    | inl none ↦ ap (is_at other) (none_known node (stations setting history) none)
-    | inr one ↦ ap (is_at other) (one_known node (stations setting history) (heard_at link node) one) ∙ apart
-  ]
+  known_nowhere other history apart before = grind (arith, none_known, one_known)
 
   -- ---- fading
 
@@ -310,17 +250,7 @@ module _ (setting : Setting) (node : Node) (link : ℕ) where
   fade_step : (passed : ℕ) (event : Event) (earlier : History) → event ≢ Second → concerns node link event ≡ false
       → (own setting node earlier ≡ []) ⊎ Fading passed (own setting node earlier)
       → (own setting node (event ∷ earlier) ≡ []) ⊎ Fading passed (own setting node (event ∷ earlier))
-  fade_step passed event earlier still other before = elim before [
-    | inl none ↦ inl (none_step event earlier other none)
-    | inr f ↦ inr (record {
-      station = f.station;
-      only = same_step f.station event earlier still other f.at f.only;
-      at = f.at;
-      unsure = f.unsure;
-      some = f.some;
-      most = f.most;
-    })
-  ]
+  fade_step passed event earlier still other before = grind (arith, none_step, same_step)
 
   fade_second : (passed : ℕ) (earlier : History) → (own setting node earlier ≡ []) ⊎ Fading passed (own setting node earlier)
       → (own setting node (Second ∷ earlier) ≡ []) ⊎ Fading (passed + 1) (own setting node (Second ∷ earlier))

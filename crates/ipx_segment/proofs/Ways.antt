@@ -1,11 +1,10 @@
 -- Which links a packet goes to.
-use Rattle.std.proofs.Common.{◌≡◌, ◌≢◌, ◌∙◌, refl, sym, ap, ap₂, arith, ℕ, zero, suc, ◌+◌, ◌<◌, ◌≤◌, ◌==◌, Bool, true, false, ◌&&◌, not, nat_lt, if◌then◌else◌, inl, inr, List, [], ◌∷◌, ◌++◌, length, filter, length-append, Option, None, Some}
-use Rattle.std.proofs.lemmas.Bool.{cases_Bool, cases_eq, eq-eqb, ne_eqb, ltb-true, ltb-false, false≢true}
+use Rattle.std.proofs.Common.{◌≡◌, ◌≢◌, ◌∙◌, refl, sym, ap, ap₂, arith, ℕ, zero, suc, ◌+◌, ◌<◌, ◌≤◌, ◌==◌, Bool, true, false, ◌&&◌, not, if◌then◌else◌, inl, inr, List, [], ◌∷◌, ◌++◌, length, filter, length-append, Option, Some}
+use Rattle.std.proofs.lemmas.Bool.{cases_Bool, cases_eq, eq-eqb, ne_eqb}
 use Rattle.std.proofs.lemmas.List.{get_or_past, append-nil}
 use Rattle.std.proofs.lemmas.List.Elements.{filter-append}
 use Rattle.ipx_wire.specs.declared.node.Node.{Node}
 use Rattle.ipx_segment.specs.declared.link.Link.{Link}
-use Rattle.ipx_segment.specs.declared.link.Link.TheVariants.{Down}
 use Rattle.ipx_segment.specs.declared.setting.Setting.{Setting}
 use Rattle.ipx_segment.specs.declared.station.Station.{Station}
 use Rattle.ipx_segment.specs.Nodes.{same_node, is_ordinary}
@@ -14,7 +13,6 @@ use Rattle.ipx_segment.specs.Stations.{station_of}
 use Rattle.ipx_segment.specs.Receivers.{numbers, sought, is_towards, is_back, gets, is_meant, links_for}
 use Rattle.ipx_segment.specs.Laws.{copies}
 use Rattle.ipx_segment.proofs.Lists.{filter_few, filter_none}
-use Rattle.ipx_segment.proofs.Nodes.{ordinary_parts}
 
 -- ---- numbers that pass a test
 
@@ -23,8 +21,7 @@ length_numbers zero = refl
 length_numbers (suc n) = omega (arith, length-append (numbers n) (n ∷ []), length_numbers n)
 
 copies-append : (k : ℕ) (xs ys : List ℕ) → copies k (xs ++ ys) ≡ copies k xs + copies k ys
-copies-append k xs ys =
-    ap length (filter-append (λ (l : ℕ). l == k) xs ys) ∙ length-append (filter (λ (l : ℕ). l == k) xs) (filter (λ (l : ℕ). l == k) ys)
+copies-append k xs ys = grind (arith, filter-append, length-append)
 
 filter_more : (f : ℕ → Bool) (n : ℕ) → filter f (numbers (suc n)) ≡ filter f (numbers n) ++ filter f (n ∷ [])
 filter_more f n = filter-append f (numbers n) (n ∷ [])
@@ -95,41 +92,29 @@ only_one f k (suc n) within others =
 -- ---- links
 
 up_or_not : (link n : ℕ) (ls : List Link) → length ls ≡ n → (n ≤ link → is_up (link_at link ls) ≡ false) → is_up (link_at link ls) ≡ true → link < n
-up_or_not link n ls long down up = elim (cases_Bool (nat_lt link n)) [
-  | inl less ↦ ltb-true link n less
-  | inr past ↦ absurd (false≢true (sym (down (ltb-false link n past)) ∙ up))
-]
+up_or_not link n ls long down up = grind arith
 
 -- a link that is up is one of the segment's
 pub up_within : (link : ℕ) (ls : List Link) (n : ℕ) → length ls ≡ n → is_up (link_at link ls) ≡ true → link < n
-up_within link ls n long up =
-    up_or_not link n ls long (λ past. ap is_up (get_or_past ls link Down (omega (arith, long, past)))) up
+up_within link ls n long up = grind (arith, up_or_not, get_or_past)
 
 up_of : (own up back towards : Bool) → (not own && (up && not back && towards)) ≡ true → up ≡ true
-up_of false true back towards is = refl
-up_of false false back towards is = absurd (false≢true is)
-up_of true up back towards is = absurd (false≢true is)
+up_of own up back towards is = grind arith
 
 pub none_of : (a b : Bool) → (a && b && false) ≡ false
-none_of true true = refl
-none_of true false = refl
-none_of false b = refl
+none_of a b = grind arith
 
 all_three : (up back there : Bool) → up ≡ true → back ≡ false → there ≡ true → (up && not back && there) ≡ true
-all_three true false there up forth is = is
-all_three true true there up forth is = absurd (false≢true (sym forth))
-all_three false back there up forth is = absurd (false≢true up)
+all_three up back there given forth is = grind arith
 
 few_by : (n : ℕ) (is_own : Bool) (f : ℕ → Bool) → length (if is_own then [] else filter f (numbers n)) ≤ n
-few_by n true f = omega arith
-few_by n false f = omega (arith, filter_few f (numbers n), length_numbers n)
+few_by n is_own f = grind (arith, filter_few, length_numbers)
 
 -- ---- a packet
 
 module _ (setting : Setting) (ls : List Link) (xs : List Station) (came : Option ℕ) (long : length ls ≡ setting.links) where
   in_parts : (is_own : Bool) (f : ℕ → Bool) → (if is_own then [] else filter f (numbers setting.links)) ≡ filter (λ l. not is_own && f l) (numbers setting.links)
-  in_parts true f = sym (nothing_passes (λ l. false) setting.links (λ l within. refl))
-  in_parts false f = refl
+  in_parts is_own f = grind (arith, nothing_passes)
 
   pub meant : (destination : Node) (link : ℕ)
       → copies link (links_for setting ls xs came destination) ≡ (if is_meant setting ls xs came destination link then 1 else 0)
@@ -146,17 +131,12 @@ module _ (setting : Setting) (ls : List Link) (xs : List Station) (came : Option
 
   pub towards : (node : Node) → is_ordinary setting node ≡ true
       → links_for setting ls xs came node ≡ filter (gets ls (station_of node xs) came) (numbers setting.links)
-  towards node ordinary =
-      let parts = ordinary_parts setting node ordinary in
-      ap₂ (λ (own all : Bool). if own then [] else filter (gets ls (if all then None else station_of node xs) came) (numbers setting.links)) parts.1 parts.0
+  towards node ordinary = grind arith
 
   -- ---- the link of the destination
 
   back_or_there : (up back there : Bool) (link : ℕ) → up ≡ true → there ≡ true → (if up && not back && there then link ∷ [] else []) ≡ (if back then [] else link ∷ [])
-  back_or_there true true true link is at = refl
-  back_or_there true false true link is at = refl
-  back_or_there true back false link is at = absurd (false≢true at)
-  back_or_there false back there link is at = absurd (false≢true is)
+  back_or_there up back there link is given = grind arith
 
   -- where it is known, a packet goes there alone
   pub alone : (s : Station) (link : ℕ) → s.link ≡ link → is_up (link_at link ls) ≡ true
@@ -171,6 +151,4 @@ module _ (setting : Setting) (ls : List Link) (xs : List Station) (came : Option
   -- where it is known or not, it goes there once
   pub comes_there : (known : Option Station) (link : ℕ) → is_towards known link ≡ true → is_up (link_at link ls) ≡ true → is_back came link ≡ false
       → copies link (filter (gets ls known came) (numbers setting.links)) ≡ 1
-  comes_there known link there up forth =
-      copies_one (gets ls known came) link setting.links (up_within link ls setting.links long up)
-      (all_three (is_up (link_at link ls)) (is_back came link) (is_towards known link) up forth there)
+  comes_there known link there up forth = grind (arith, copies_one, up_within, all_three)
