@@ -7,7 +7,7 @@ use Rattle.ipx_wire.specs.Piece.{piece}
 use Rattle.ipx_capture.specs.Header.{header_of, order_of, checked}
 use Rattle.ipx_capture.specs.Calls.{Calls, IsOfFile, ending}
 use Rattle.ipx_capture.specs.Place.{Place, Opened, Takes}
-use Rattle.ipx_capture.specs.Records.{Record, records, records_from, from_front, behind_header, first_record, behind, before}
+use Rattle.ipx_capture.specs.Records.{Record, records, records_from, behind_header, first_record, behind}
 use Rattle.ipx_capture.specs.declared.capture_fault.CaptureFault.{CaptureFault}
 use Rattle.ipx_capture.specs.declared.capture_fault.CaptureFault.TheVariants.{CutHeader, Magic, Version, Link, RecordLong, CutRecord, Read, Memory}
 use Rattle.ipx_capture.proofs.First.{piece_append, first_none, first_append, behind_append, long_append, first_size}
@@ -19,14 +19,11 @@ pub record Left (xs more : List ℕ) (left : Option (List ℕ)) : Type 0 where
   pub all : xs ≡ more ++ rest
 
 left_of : (left : Option (List ℕ)) (xs more : List ℕ) → Consumes (Some xs) left more → Left xs more left
-left_of None xs more h = absurd h
-left_of (Some ys) xs more h = record { rest = ys; is = refl; all = h }
+left_of left xs more h = grind arith
 
 -- a reader that is at its end has nothing left
 none_left : (xs more : List ℕ) (left : Option (List ℕ)) → Left xs more left → IsAtEnd left → xs ≡ more
-none_left xs more left l end =
-    let none : l.rest ≡ [] = subst IsAtEnd l.is end in
-    l.all ∙ ap (λ r. more ++ r) none ∙ append-nil more
+none_left xs more left l end = grind (arith, append-nil)
 
 known : (p q : Place) (xs : List ℕ) (answer : Result (Option Record) CaptureFault) → p.input.left ≡ Some xs → (t : Takes p q answer) → Left xs t.more q.input.left
 known p q xs answer e t = left_of q.input.left xs t.more (subst (λ (l : Option (List ℕ)). Consumes l q.input.left t.more) e t.read)
@@ -47,8 +44,7 @@ taken_first p q xs r e t =
     let l = known p q xs (Ok (Some r)) e t in ap (λ b. first_record p.order (p.taken + 1) (p.ahead ++ b)) l.all ∙ told_first p q l.rest r t
 
 taken_rest : (p q : Place) (xs : List ℕ) (r : Record) → (e : p.input.left ≡ Some xs) → (t : Takes p q (Ok (Some r))) → q.ahead ++ (known p q xs (Ok (Some r)) e t).rest ≡ behind r (p.ahead ++ xs)
-taken_rest p q xs r e t =
-    let l = known p q xs (Ok (Some r)) e t in told_rest p q l.rest r t ∙ ap (λ b. behind r (p.ahead ++ b)) (sym l.all)
+taken_rest p q xs r e t = grind (arith, known, told_rest)
 
 -- so does the end, or a fault of the file
 ended_first : (p q : Place) (xs : List ℕ) (fault : Option CaptureFault) → p.input.left ≡ Some xs → Takes p q (ending fault) → IsOfFile fault
@@ -71,27 +67,15 @@ ended_first p q xs (Some Magic) e t of = absurd t.gives
 ended_first p q xs (Some Version) e t of = absurd t.gives
 ended_first p q xs (Some Link) e t of = absurd t.gives
 
--- the records of bytes that begin with one, or with none
-from_first : (most : ℕ) (p : Place) (n : ℕ) (b : List ℕ) (r : Record) → first_record p.order n b ≡ Ok (Some r)
-    → records_from (suc most) p.order n b ≡ before r (records_from most p.order (n + 1) (behind r b))
-from_first most p n b r e = ap (λ x. from_front x (λ s. records_from most p.order (n + 1) (behind s b))) e
-
 pub from_end : (most : ℕ) (p : Place) (n : ℕ) (b : List ℕ) (fault : Option CaptureFault) → first_record p.order n b ≡ ending fault
     → records_from (suc most) p.order n b ≡ record { records = []; fault = fault }
-from_end most p n b None e = ap (λ x. from_front x (λ s. records_from most p.order (n + 1) (behind s b))) e
-from_end most p n b (Some fault) e = ap (λ x. from_front x (λ s. records_from most p.order (n + 1) (behind s b))) e
+from_end most p n b fault e = grind arith
 
 -- a record, and those that follow it
 pub step_on : (most : ℕ) (p m : Place) (all left : List ℕ) (r : Record) (rs : List Record) (fault : Option CaptureFault) → first_record p.order (p.taken + 1) all ≡ Ok (Some r)
     → left ≡ behind r all → Takes p m (Ok (Some r)) → records_from most m.order (m.taken + 1) left ≡ record { records = rs; fault = fault }
     → records_from (suc most) p.order (p.taken + 1) all ≡ record { records = r ∷ rs; fault = fault }
-step_on most p m all left r rs fault first rest t later =
-    from_first most p (p.taken + 1) all r first
-    ∙ ap (before r) (
-    ap (records_from most p.order (p.taken + 1 + 1)) (sym rest)
-    ∙ ap (λ o. records_from most o (p.taken + 1 + 1) left) (sym t.order)
-    ∙ ap (λ n. records_from most m.order (n + 1) left) (sym t.taken)
-    ∙ later)
+step_on most p m all left r rs fault first rest t later = grind arith
 
 pub calls_are : (told : List Record) (most : ℕ) (p q ended : Place) (xs : List ℕ) (fault : Option CaptureFault) → p.input.left ≡ Some xs → length (p.ahead ++ xs) < most
     → Calls p told q → Takes q ended (ending fault) → IsOfFile fault → records_from most p.order (p.taken + 1) (p.ahead ++ xs) ≡ record { records = told; fault = fault }

@@ -1,5 +1,5 @@
 -- What calls to a source come to, one behind the other.
-use Rattle.std.proofs.Common.{◌≡◌, ◌⊎◌, Bool, true, false, ◌&&◌, ℕ, ◌+◌, ◌<◌, ◌≤◌, List, [], ◌∷◌, ◌++◌, length, refl, sym, ap, ◌∙◌, subst, arith, inl, inr, length-append, append_assoc, append-nil, Result, Err}
+use Rattle.std.proofs.Common.{◌≡◌, ◌⊎◌, Bool, false, ◌&&◌, ℕ, ◌+◌, ◌<◌, ◌≤◌, List, [], ◌∷◌, ◌++◌, length, refl, sym, ap, ◌∙◌, subst, arith, inl, inr, length-append, append_assoc, append-nil, Result, Err}
 use Rattle.std.proofs.lemmas.Bool.{le-ltb, lt-leb, cases_eq}
 use Rattle.ipx_wire.specs.declared.failed.Failed.{Failed}
 use Rattle.ipx_capture.specs.Asks.{Ask, Asks, Fetched, MeetsEnd, Lacks, TellsNothing, came, all_came}
@@ -19,8 +19,7 @@ all_gave-append (a ∷ one) two p q = (p.0, all_gave-append one two p.1 q)
 
 pub all_came-append : (one two : List Ask) → all_came (one ++ two) ≡ all_came one ++ all_came two
 all_came-append [] two = refl
-all_came-append (a ∷ one) two =
-    ap (λ l. came a.buffer a.answer ++ l) (all_came-append one two) ∙ sym (append_assoc (came a.buffer a.answer) (all_came one) (all_came two))
+all_came-append (a ∷ one) two = grind (arith, all_came-append one two, append_assoc)
 
 -- the end that later calls met
 pub meets_later : (one two : List Ask) → MeetsEnd two → MeetsEnd (one ++ two)
@@ -38,8 +37,7 @@ module _ (asked : ℕ → List ℕ → Result ℕ Failed → ℕ → Type 0) (La
 
   pub calls_append : (one two : List Ask) (bytes : List ℕ) (before mid after : ℕ) → AllGave one → Asks asked Lack one bytes before mid
       → Asks asked Lack two (bytes ++ all_came one) mid after → Asks asked Lack (one ++ two) bytes before after
-  calls_append [] two bytes before mid after all is later =
-      subst (λ b. Asks asked Lack two b before after) (append-nil bytes) (subst (λ s. Asks asked Lack two (bytes ++ []) s after) is later)
+  calls_append [] two bytes before mid after all is later = grind (arith, append-nil)
   calls_append (a ∷ one) two bytes before mid after all (lack, room, did, last, rest) later = (
     lack,
     room,
@@ -105,8 +103,7 @@ all_gave asked need (a ∷ later) old before after (lack, room, did, last, rest)
     ]
 
 pub and_false : (test : Bool) → (test && false) ≡ false
-and_false true = refl
-and_false false = refl
+and_false test = grind arith
 
 -- a header that isn't whole tells nothing
 pub no_header : (order : Order) (bytes : List ℕ) → Lacks 16 bytes → TellsNothing order bytes
@@ -115,10 +112,7 @@ no_header order bytes few = rw (lt-leb 16 (length bytes) few) refl
 -- a record of which a part is there tells nothing
 pub no_record : (order : Order) (front : List ℕ) (kept : ℕ) → 16 ≤ length front → kept ≡ kept_count order front → kept ≤ 262144
     → (more : List ℕ) → Lacks (16 + kept) (front ++ more) → TellsNothing order (front ++ more)
-no_record order front kept enough is short more few =
-    let same : kept_count order (front ++ more) ≡ kept = kept_count-append order front more enough ∙ sym is in
-    let bytes = front ++ more in
-    rw (same, le-ltb 262144 kept short, lt-leb (16 + kept) (length bytes) few) (and_false _)
+no_record order front kept enough is short more few = grind (arith, kept_count-append, le-ltb, lt-leb, and_false)
 
 module _ (asked : ℕ → List ℕ → Result ℕ Failed → ℕ → Type 0) (order : Order) where
   -- asked until a header is there

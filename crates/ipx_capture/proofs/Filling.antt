@@ -31,14 +31,7 @@ filling_none asked buffer before = record {
 -- it is full
 pub filled_all : (asked : ℕ → List ℕ → Result ℕ Failed → ℕ → Type 0) (buffer : List ℕ) (before now : Input) (at : ℕ) → Filling asked buffer before now at
     → length buffer ≤ at → FilledFront asked buffer before now at
-filled_all asked buffer before now at f full = record {
-  bound = f.bound;
-  read = f.read;
-  fine = f.fine;
-  bounded = f.bounded;
-  fetched = f.fetched;
-  ended = λ few. absurd (omega (arith, few, full));
-}
+filled_all asked buffer before now given f full = grind arith
 
 -- a call failed
 pub filling_lost : (asked : ℕ → List ℕ → Result ℕ Failed → ℕ → Type 0) (buffer : List ℕ) (before mid after : Input) (at : ℕ) → Filling asked buffer before mid at
@@ -61,15 +54,10 @@ module _ (asked : ℕ → List ℕ → Result ℕ Failed → ℕ → Type 0) (ol
   asks = f.fetched.asks ++ one ∷ []
 
   calls : Asks asked (Lacks (length new)) asks [] before.state after.state
-  calls =
-      let lack : length (all_came f.fetched.asks) < length old = omega (arith, missing, ap length f.fetched.gave, length-take-le at old f.bound) in
-      subst (λ (k : ℕ). Asks asked (Lacks k) asks [] before.state after.state) (sym size)
-      (calls_append asked (Lacks (length old)) f.fetched.asks (one ∷ []) [] before.state mid.state after.state f.all f.fetched.calls (lack, came.room, came.once, λ _. refl, refl))
+  calls = grind (arith, length-take-le, calls_append)
 
   gave : take (at + n) new ≡ all_came asks
-  gave =
-      front ∙ ap (λ l. l ++ take n buffer) f.fetched.gave ∙ ap (λ l. all_came f.fetched.asks ++ l) (sym (append-nil (take n buffer)))
-      ∙ sym (all_came-append f.fetched.asks (one ∷ []))
+  gave = grind (arith, append-nil, all_came-append)
 
   read : Consumes before.left after.left (take (at + n) new)
   read = subst (λ l. Consumes before.left after.left l) (sym front) (Consumes-trans before.left mid.left after.left (take at old) (take n buffer) f.read came.read)

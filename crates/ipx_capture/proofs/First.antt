@@ -1,7 +1,8 @@
 -- The record at the front of bytes, by how many of them there are.
-use Rattle.std.proofs.Common.{◌≡◌, ◌≢◌, ◌==◌, true, false, ℕ, ◌+◌, ◌<◌, ◌≤◌, List, [], ◌∷◌, ◌++◌, length, take, drop, refl, inl, inr, sym, ap, ◌∙◌, arith, Ok, Err, Some, None, length-drop, length-append}
+use Rattle.std.proofs.lemmas.Grind.{common_steps}
+use Rattle.std.proofs.Common.{◌≡◌, ◌==◌, true, false, ℕ, ◌+◌, ◌<◌, ◌≤◌, List, [], ◌++◌, length, refl, inl, inr, sym, ap, ◌∙◌, arith, Ok, Err, Some, None, length-drop, length-append, rules}
 use Rattle.std.proofs.lemmas.List.{take-append-le, drop-append-le}
-use Rattle.std.proofs.lemmas.Bool.{lt-ltb, le-ltb, ne_eqb, cases_lt, cases_eq, eqb-true, eqb-false}
+use Rattle.std.proofs.lemmas.Bool.{lt-ltb, le-ltb, ne_eqb, cases_lt, cases_eq, eqb-true}
 use Rattle.ipx_wire.specs.Piece.{piece}
 use Rattle.ipx_capture.specs.Records.{Record, first_record, kept_count, wire_count, behind}
 use Rattle.ipx_capture.specs.Order.{u32_in}
@@ -12,28 +13,24 @@ use Rattle.ipx_capture.proofs.Pieces.{length_piece}
 -- the bytes end inside the header of a record
 pub first_cut_header : (order : Order) (n : ℕ) (b : List ℕ) → 0 < length b → length b < 16 → first_record order n b ≡ Err CutRecord
 unfolding first_record
-first_cut_header order n b some few =
-    rw (ne_eqb (length b) 0 (λ e. omega arith), lt-ltb (length b) 16 few) refl
+first_cut_header order n b some few = grind (arith, ne_eqb, lt-ltb)
 
 -- the header of a record says that it is too long
 pub first_long : (order : Order) (n : ℕ) (b : List ℕ) → 16 ≤ length b → 262144 < kept_count order b → first_record order n b ≡ Err RecordLong
 unfolding first_record
-first_long order n b enough long =
-    rw (ne_eqb (length b) 0 (λ e. omega arith), le-ltb (length b) 16 enough, lt-ltb 262144 (kept_count order b) long) refl
+first_long order n b enough long = grind arith
 
 -- the bytes end inside what a record keeps
 pub first_cut : (order : Order) (n : ℕ) (b : List ℕ) → 16 ≤ length b → kept_count order b ≤ 262144 → length b < 16 + kept_count order b
     → first_record order n b ≡ Err CutRecord
 unfolding first_record
-first_cut order n b enough short cut =
-    rw (ne_eqb (length b) 0 (λ e. omega arith), le-ltb (length b) 16 enough, le-ltb 262144 (kept_count order b) short, lt-ltb (length b) (16 + kept_count order b) cut) refl
+first_cut order n b enough short cut = grind arith
 
 -- the record is there whole
 pub first_whole : (order : Order) (n : ℕ) (b : List ℕ) → 16 ≤ length b → kept_count order b ≤ 262144 → 16 + kept_count order b ≤ length b
     → first_record order n b ≡ Ok (Some (record { number = n; wire = wire_count order b; bytes = piece b 16 (kept_count order b) }))
 unfolding first_record
-first_whole order n b enough short whole =
-    rw (ne_eqb (length b) 0 (λ e. omega arith), le-ltb (length b) 16 enough, le-ltb 262144 (kept_count order b) short, le-ltb (length b) (16 + kept_count order b) whole) refl
+first_whole order n b enough short whole = grind (arith, ne_eqb, le-ltb)
 
 -- nothing stands at the front of no bytes
 pub first_none : (order : Order) (n : ℕ) (b : List ℕ) → length b ≡ 0 → first_record order n b ≡ Ok None
@@ -42,13 +39,10 @@ first_none order n b none = rw none refl
 
 -- bytes that aren't none
 pub some_bytes : (l m : List ℕ) → l ≡ m → false ≡ (length l == 0) → 0 < length m
-some_bytes l m same h =
-    let some : length l ≢ 0 = eqb-false (length l) 0 (sym h) in
-    omega (arith, ap length same)
+some_bytes l m same h = grind arith
 
 pub no_bytes : (l : List ℕ) → length l ≡ 0 → l ≡ []
-no_bytes [] e = refl
-no_bytes (b ∷ l) e = absurd (omega arith)
+no_bytes l e = grind (arith, common_steps)
 
 -- bytes that are none
 pub none_ahead : (l m : List ℕ) → l ≡ m → true ≡ (length l == 0) → m ≡ []
@@ -97,8 +91,7 @@ long_first order n b told =
 
 -- further bytes change no piece that is there
 pub piece_append : (a b : List ℕ) (at n : ℕ) → at + n ≤ length a → piece (a ++ b) at n ≡ piece a at n
-piece_append a b at n h =
-    ap (take n) (drop-append-le at a b (omega arith)) ∙ take-append-le n (drop at a) b (omega (arith, length-drop at a))
+piece_append a b given n h = grind (arith, drop-append-le, take-append-le, length-drop)
 
 -- nor what the header of a record says
 pub kept_count-append : (order : Order) (a b : List ℕ) → 16 ≤ length a → kept_count order (a ++ b) ≡ kept_count order a
@@ -109,10 +102,7 @@ wire_count-append order a b h = ap (u32_in order) (piece_append a b 12 4 (omega 
 
 -- a record is there with its header
 pub first_size : (order : Order) (n : ℕ) (b : List ℕ) (r : Record) → first_record order n b ≡ Ok (Some r) → 16 + length r.bytes ≤ length b
-first_size order n b r told =
-    let w = whole_first order n b r told in
-    let same : r.bytes ≡ piece b 16 (kept_count order b) = ap (λ (s : Record). s.bytes) w.is in
-    omega (arith, length_piece b 16 (kept_count order b) w.whole, ap length same, w.whole)
+first_size order n b r told = search (rules, whole_first, length_piece)
 
 -- further bytes change no record that is there
 pub first_append : (order : Order) (n : ℕ) (a b : List ℕ) (r : Record) → first_record order n a ≡ Ok (Some r) → first_record order n (a ++ b) ≡ Ok (Some r)
@@ -132,6 +122,4 @@ behind_append order n a b r told = drop-append-le (16 + length r.bytes) a b (fir
 
 -- nor a record that is too long
 pub long_append : (order : Order) (n : ℕ) (a b : List ℕ) → first_record order n a ≡ Err RecordLong → first_record order n (a ++ b) ≡ Err RecordLong
-long_append order n a b told =
-    let l = long_first order n a told in
-    first_long order n (a ++ b) (omega (arith, length-append a b, l.0)) (omega (arith, kept_count-append order a b l.0, l.1))
+long_append order n a b told = grind (arith, long_first, first_long, length-append, kept_count-append)

@@ -1,17 +1,16 @@
 -- Frames as a relation and as a function of the bytes: each answers for the other.
-use Rattle.std.proofs.Common.{◌≡◌, ℕ, ◌<◌, ◌≤◌, true, List, [], ◌∷◌, ◌++◌, length, take, drop, refl, sym, ap, ◌∙◌, arith, inl, inr, Some, IfSome, take-append-drop, take_at, drop_at, length-take-le, length-append, append_assoc, take-add}
+use Rattle.std.proofs.lemmas.Grind.{common_steps}
+use Rattle.std.proofs.Common.{◌≡◌, ℕ, ◌<◌, ◌≤◌, true, List, [], ◌∷◌, ◌++◌, length, take, drop, refl, sym, ap, ◌∙◌, arith, inl, inr, Some, IfSome, take-append-drop, take_at, drop_at, length-take-le, length-append, append_assoc, rules}
 use Rattle.std.proofs.lemmas.Bool.{lt-ltb, le-ltb, ne_eqb, eq-eqb, cases_lt, cases_eq, cases_Bool}
 use Rattle.std.proofs.lemmas.Nat.{be_bytes_2}
-use Rattle.std.specs.Cmp.Lexicographic.{same_text}
 use Rattle.std.specs.Int.{from_be_bytes, w16}
 use Rattle.ipx_wire.specs.Piece.{piece, IsBytes}
-use Rattle.ipx_capture.specs.Frame.{Kind, EthernetII, Raw, Llc, Snap, IsCounted, IsFrame, llc_front, snap_front, begins, by_front, by_field, frame_of}
+use Rattle.ipx_capture.specs.Frame.{Kind, EthernetII, IsCounted, IsFrame, llc_front, snap_front, begins, by_front, by_field, frame_of}
 use Rattle.ipx_capture.proofs.Pieces.{length_piece, are_bytes}
 
 -- addresses, field and rest of bytes that are enough
 parts : (b : List ℕ) → b ≡ take 12 b ++ piece b 12 2 ++ drop 14 b
-parts b =
-    sym (take-append-drop 14 b) ∙ ap (λ l. l ++ drop 14 b) (take-add 12 2 b)
+parts b = grind arith
 
 twelve : (b : List ℕ) → 14 ≤ length b → length (take 12 b) ≡ 12
 twelve b h = length-take-le 12 b (omega arith)
@@ -21,16 +20,11 @@ type_bytes : (b : List ℕ) → IsBytes b → 14 ≤ length b → from_be_bytes 
 type_bytes b are h is = sym (be_bytes_2 (piece b 12 2) 0x8137 (length_piece b 12 2 (omega arith)) (are_bytes b 12 2 are) (sym is))
 
 typed : (b : List ℕ) → IsBytes b → 14 ≤ length b → from_be_bytes w16 (piece b 12 2) ≡ 0x8137 → IsFrame b EthernetII (drop 14 b)
-typed b are h is = record {
-  addresses = take 12 b;
-  twelve = twelve b h;
-  layout = parts b ∙ ap (λ f. take 12 b ++ f ++ drop 14 b) (type_bytes b are h is);
-}
+typed b are h is = grind (arith, common_steps, twelve, parts, type_bytes)
 
 -- bytes that begin so are that and the rest
 pub beginning : (front rest : List ℕ) → begins front rest ≡ true → rest ≡ front ++ drop (length front) rest
-beginning front rest h =
-    sym (take-append-drop (length front) rest) ∙ ap (λ l. l ++ drop (length front) rest) (sym (same_text front (take (length front) rest) (sym h)))
+beginning front rest h = search (rules, take-append-drop)
 
 counted : (b front packet : List ℕ) → 14 ≤ length b → from_be_bytes w16 (piece b 12 2) < 0x600 → drop 14 b ≡ front ++ packet → IsCounted front b packet
 counted b front packet h small rest = record {
@@ -58,23 +52,11 @@ front_found b h small =
 
 -- what is answered is a frame by the relation
 pub frame_found : (b : List ℕ) → IsBytes b → IfSome (frame_of b) (λ f. IsFrame b f.0 f.1)
-frame_found b are =
-    let field = from_be_bytes w16 (piece b 12 2) in
-    elim (cases_lt (length b) 14) [
-      | inl few ↦ rw (lt-ltb (length b) 14 few) tt
-      | inr enough ↦ elim (cases_eq field 0x8137) [
-        | inl is ↦ rw (le-ltb (length b) 14 enough, eq-eqb field 0x8137 is) (typed b are enough is)
-        | inr other ↦ elim (cases_lt field 0x600) [
-          | inl small ↦ rw (le-ltb (length b) 14 enough, ne_eqb field 0x8137 other, lt-ltb field 0x600 small) (front_found b enough small)
-          | inr large ↦ rw (le-ltb (length b) 14 enough, ne_eqb field 0x8137 other, le-ltb field 0x600 large) tt
-        ]
-      ]
-    ]
+frame_found b are = grind (arith, common_steps, cases_lt, lt-ltb, cases_eq, le-ltb, eq-eqb, typed, ne_eqb, front_found)
 
 -- the field and the rest of a frame
 field_of : (a f rest : List ℕ) → length a ≡ 12 → length f ≡ 2 → piece (a ++ f ++ rest) 12 2 ≡ f
-field_of a f rest twelve two =
-    ap (λ l. piece l 12 2) (append_assoc a f rest) ∙ ap (take 2) (drop_at a (f ++ rest) 12 twelve) ∙ take_at f rest 2 two
+field_of a f rest twelve two = search (rules, append_assoc, drop_at, twelve, take_at)
 
 rest_of : (a f rest : List ℕ) → length a ≡ 12 → length f ≡ 2 → drop 14 (a ++ f ++ rest) ≡ rest
 rest_of a f rest twelve two = drop_at (a ++ f) rest 14 (length-append a f ∙ omega arith)
@@ -83,20 +65,11 @@ enough_of : (a f rest : List ℕ) → length a ≡ 12 → length f ≡ 2 → 14 
 enough_of a f rest twelve two = omega (arith, length-append (a ++ f) rest, length-append a f)
 
 by_parts : (a f rest : List ℕ) → length a ≡ 12 → length f ≡ 2 → frame_of (a ++ f ++ rest) ≡ by_field (from_be_bytes w16 f) rest
-by_parts a f rest twelve two =
-    rw (le-ltb (length (a ++ f ++ rest)) 14 (enough_of a f rest twelve two), field_of a f rest twelve two, rest_of a f rest twelve two) refl
+by_parts a f rest twelve two = search (rules, le-ltb, enough_of, twelve, field_of, rest_of)
 
 by_length : (a f rest : List ℕ) → length a ≡ 12 → length f ≡ 2 → from_be_bytes w16 f < 0x600 → frame_of (a ++ f ++ rest) ≡ by_front rest
-by_length a f rest twelve two small =
-    by_parts a f rest twelve two ∙ rw (ne_eqb (from_be_bytes w16 f) 0x8137 (λ e. omega arith), lt-ltb (from_be_bytes w16 f) 0x600 small) refl
+by_length a f rest twelve two small = grind (arith, by_parts, twelve, ne_eqb, lt-ltb)
 
 -- each frame by the relation is answered
 pub frame_only : (b : List ℕ) (kind : Kind) (packet : List ℕ) → IsFrame b kind packet → frame_of b ≡ Some (kind, packet)
-frame_only b EthernetII packet is = ap frame_of is.layout ∙ by_parts is.addresses (0x81 ∷ 0x37 ∷ []) packet is.twelve refl
-frame_only b Raw packet is =
-    ap frame_of (is.0.layout ∙ append_assoc (is.0.addresses ++ is.0.field) [] packet) ∙ ap (λ l. frame_of (is.0.addresses ++ is.0.field ++ l)) is.1.1
-    ∙ by_length is.0.addresses is.0.field (0xFF ∷ 0xFF ∷ is.1.0) is.0.twelve is.0.two is.0.small ∙ ap (λ (l : List ℕ). Some (Raw, l)) (sym is.1.1)
-frame_only b Llc packet is =
-    ap frame_of (is.layout ∙ append_assoc (is.addresses ++ is.field) llc_front packet) ∙ by_length is.addresses is.field (llc_front ++ packet) is.twelve is.two is.small
-frame_only b Snap packet is =
-    ap frame_of (is.layout ∙ append_assoc (is.addresses ++ is.field) snap_front packet) ∙ by_length is.addresses is.field (snap_front ++ packet) is.twelve is.two is.small
+frame_only b kind packet is = grind (arith, by_parts, append_assoc, by_length)

@@ -1,5 +1,5 @@
 -- Calls of `next`, and the records of the bytes that the source's calls gave, whatever the source is.
-use Rattle.std.proofs.Common.{◌≡◌, ℕ, zero, suc, ◌+◌, ◌<◌, List, [], ◌∷◌, ◌++◌, length, drop, refl, sym, ap, ◌∙◌, arith, Option, Some, None, Result, Ok, append_assoc, length-drop, drop_at}
+use Rattle.std.proofs.Common.{◌≡◌, ℕ, zero, suc, ◌+◌, ◌<◌, List, [], ◌∷◌, ◌++◌, length, drop, refl, sym, ap, ◌∙◌, arith, Option, Result, Ok, append_assoc, length-drop, drop_at}
 use Rattle.ipx_wire.specs.Ends.{Input}
 use Rattle.ipx_wire.specs.declared.failed.Failed.{Failed}
 use Rattle.ipx_capture.specs.Asks.{Ask, all_came}
@@ -9,22 +9,13 @@ use Rattle.ipx_capture.specs.Header.{header_of}
 use Rattle.ipx_capture.specs.Place.{Place, Opened, Takes}
 use Rattle.ipx_capture.specs.Records.{Record, records, records_from, behind_header, first_record}
 use Rattle.ipx_capture.specs.declared.capture_fault.CaptureFault.{CaptureFault}
-use Rattle.ipx_capture.specs.declared.capture_fault.CaptureFault.TheVariants.{CutHeader, Magic, Version, Link, RecordLong, CutRecord, Read, Memory}
 use Rattle.ipx_capture.proofs.Calling.{from_end, header_append, step_on, told_first, told_rest}
 use Rattle.ipx_capture.proofs.Fetching.{all_came-append}
 use Rattle.ipx_capture.proofs.First.{first_none, first_size}
 
 -- the end, or a fault of the file, is that of the bytes ahead and those that were given
 given_end : (p q : Place) (fault : Option CaptureFault) → (t : Takes p q (ending fault)) → IsOfFile fault → first_record p.order (p.taken + 1) (p.ahead ++ t.more) ≡ ending fault
-given_end p q None t of = ap (first_record p.order (p.taken + 1)) t.gives.0 ∙ first_none p.order (p.taken + 1) [] refl
-given_end p q (Some CutRecord) t of = t.gives.0
-given_end p q (Some RecordLong) t of = t.gives.0
-given_end p q (Some Read) t of = absurd (of.0 refl)
-given_end p q (Some Memory) t of = absurd (of.1 refl)
-given_end p q (Some CutHeader) t of = absurd t.gives
-given_end p q (Some Magic) t of = absurd t.gives
-given_end p q (Some Version) t of = absurd t.gives
-given_end p q (Some Link) t of = absurd t.gives
+given_end p q fault t of = grind (arith, first_none)
 
 module _ (asked : ℕ → List ℕ → Result ℕ Failed → ℕ → Type 0) where
   given_are : (told : List Record) (most : ℕ) (p q ended : Place) (asks : List Ask) (fault : Option CaptureFault) (more : List ℕ)

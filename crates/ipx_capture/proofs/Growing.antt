@@ -1,22 +1,13 @@
 -- How far the buffer of a capture grows.
-use Rattle.std.proofs.Common.{◌≡◌, Bool, true, false, if◌then◌else◌, ℕ, ◌+◌, ◌≤◌, List, length, refl, arith, inl, inr}
-use Rattle.std.proofs.lemmas.Bool.{lt-leb, le-leb, cases_lt}
-use Rattle.std.specs.Prelude.{nat_le}
+use Rattle.std.proofs.Common.{◌≡◌, ℕ, ◌+◌, ◌≤◌, List, length, refl, arith}
+use Rattle.std.proofs.lemmas.Bool.{le-leb}
 use Rattle.ipx_capture.specs.Records.{kept_count, size_of_first}
 use Rattle.ipx_capture.specs.Window.{Grows}
 use Rattle.ipx_capture.specs.declared.order.Order.{Order}
-use Rattle.ipx_capture.proofs.Fetching.{and_false}
-
-chosen : (test : Bool) (k : ℕ) → k ≤ 262144 → 16 + (if test then k else 0) ≤ 262160
-chosen true k few = omega arith
-chosen false k few = omega arith
 
 -- a record that is read takes no more than the largest buffer
 pub size_most : (order : Order) (b : List ℕ) → size_of_first order b ≤ 262160
-size_most order b = elim (cases_lt 262144 (kept_count order b)) [
-  | inl long ↦ rw (lt-leb (kept_count order b) 262144 long, and_false (nat_le 16 (length b))) (omega arith)
-  | inr short ↦ chosen _ (kept_count order b) short
-]
+size_most order b = grind arith
 
 -- how much it takes, where its header is there
 pub size_whole : (order : Order) (b : List ℕ) → 16 ≤ length b → kept_count order b ≤ 262144 → size_of_first order b ≡ 16 + kept_count order b

@@ -1,13 +1,13 @@
 -- What reading the header of a file comes to.
-use Rattle.std.proofs.Common.{◌≡◌, ℕ, ◌<◌, ◌≤◌, false, List, [], length, take, refl, sym, subst, ◌∙◌, arith, inl, inr, Option, Some, None, Result, Ok, Err, IsOk, IfOk, IfErr, length-take-le}
-use Rattle.std.proofs.lemmas.Bool.{lt-ltb, le-ltb, cases_lt, cases_Bool}
+use Rattle.std.proofs.Common.{◌≡◌, ℕ, ◌<◌, ◌≤◌, false, List, [], length, take, refl, sym, subst, ◌∙◌, arith, inl, inr, Option, Result, Ok, Err, IsOk, IfOk, IfErr, length-take-le}
+use Rattle.std.proofs.lemmas.Bool.{lt-ltb, le-ltb, cases_lt}
 use Rattle.std.specs.Io.KnownBytes.{Consumes}
 use Rattle.ipx_wire.specs.Ends.{Input}
 use Rattle.ipx_wire.specs.Piece.{piece}
 use Rattle.ipx_wire.specs.declared.failed.Failed.{Failed}
 use Rattle.ipx_capture.specs.Asks.{Fetched, Lacks}
 use Rattle.ipx_capture.specs.Given.{BegunBy, UnopenedBy}
-use Rattle.ipx_capture.specs.Header.{header_of, order_of, checked, is_version, is_ethernet}
+use Rattle.ipx_capture.specs.Header.{header_of, order_of, checked}
 use Rattle.ipx_capture.specs.Reads.{FilledFront, LostFront}
 use Rattle.ipx_capture.specs.declared.capture_fault.CaptureFault.{CaptureFault}
 use Rattle.ipx_capture.specs.declared.capture_fault.CaptureFault.TheVariants.{CutHeader, Magic, Version, Link, RecordLong, CutRecord, Read, Memory}
@@ -27,15 +27,7 @@ IsChecked (Err Read) = ⊥
 IsChecked (Err Memory) = ⊥
 
 are_checked : (o : Option Order) (major minor link : List ℕ) → IsChecked (checked o major minor link)
-are_checked None major minor link = tt
-are_checked (Some order) major minor link =
-    elim (cases_Bool (is_version order major minor)) [
-      | inl is ↦ elim (cases_Bool (is_ethernet order link)) [
-        | inl ethernet ↦ rw (is, ethernet) tt
-        | inr other ↦ rw (is, other) tt
-      ]
-      | inr other ↦ rw other tt
-    ]
+are_checked o major minor link = grind arith
 
 cut : (b : List ℕ) → length b < 24 → header_of b ≡ Err CutHeader
 unfolding header_of

@@ -1,5 +1,6 @@
 -- Pieces of pieces.
-use Rattle.std.proofs.Common.{◌≡◌, ℕ, zero, suc, ◌∷◌, [], ◌<◌, get_or, ◌+◌, ◌-◌, ◌≤◌, List, ◌++◌, length, take, drop, sym, ap, ◌∙◌, arith, drop-drop, take-take, length-take-le, length-drop, length-append}
+use Rattle.std.proofs.lemmas.Grind.{common_steps}
+use Rattle.std.proofs.Common.{◌≡◌, ℕ, ◌<◌, get_or, ◌+◌, ◌-◌, ◌≤◌, List, ◌++◌, length, take, drop, sym, ap, ◌∙◌, arith, drop-drop, take-take, length-take-le, length-drop, length-append}
 use Rattle.std.proofs.Math.Seq.{take-add, take-append-add}
 use Rattle.std.proofs.lemmas.List.{get_or-drop, drop-take, take-append-le}
 use Rattle.ipx_wire.specs.Piece.{piece, IsBytes}
@@ -12,8 +13,7 @@ piece_behind b from count at h =
 
 -- a piece of a piece
 pub piece_within : (b : List ℕ) (from count at n : ℕ) → at + n ≤ count → piece (piece b from count) at n ≡ piece b (from + at) n
-piece_within b from count at n h =
-    ap (take n) (piece_behind b from count at (omega arith)) ∙ take-take n (count - at) (drop (from + at) b) (omega arith)
+piece_within b from count given n h = grind (arith, piece_behind, take-take)
 
 -- lists with the same front have the same pieces there
 pub piece_front : (a b : List ℕ) (at n : ℕ) → take (at + n) a ≡ take (at + n) b → piece a at n ≡ piece b at n
@@ -28,20 +28,14 @@ piece_grown b at m n = take-add m n (drop at b) ∙ ap (λ l. take m (drop at b)
 
 -- the front of a buffer after a write of its rest
 pub front_written : (bytes rest behind : List ℕ) (at n : ℕ) → at ≤ length bytes → n ≤ length rest → take (at + n) (take at bytes ++ (rest ++ behind)) ≡ take at bytes ++ take n rest
-front_written bytes rest behind at n within some =
-    let size : length (take at bytes) ≡ at = length-take-le at bytes within in
-    ap (λ k. take (k + n) (take at bytes ++ (rest ++ behind))) (sym size) ∙ take-append-add (take at bytes) (rest ++ behind) n ∙ ap (λ l. take at bytes ++ l) (take-append-le n rest behind some)
+front_written bytes rest behind given n within some = grind (arith, length-take-le, take-append-add, take-append-le)
 
 pub length_written : (bytes rest behind : List ℕ) (at n : ℕ) → at ≤ length bytes → n ≤ length rest → at + n ≤ length (take at bytes ++ (rest ++ behind))
-length_written bytes rest behind at n within some =
-    omega (arith, length-append (take at bytes) (rest ++ behind), length-append rest behind, length-take-le at bytes within)
+length_written bytes rest behind given n within some = grind (arith, length-append, length-take-le)
 
 -- a byte of the front
 in_front : (n i : ℕ) (bytes : List ℕ) → IsBytes bytes → get_or (take n bytes) i 0 < 256
-in_front zero i bytes are = omega arith
-in_front (suc n) i [] are = omega arith
-in_front (suc n) zero (b ∷ bytes) are = are 0
-in_front (suc n) (suc i) (b ∷ bytes) are = in_front n i bytes (λ k. are (suc k))
+in_front n i bytes are = grind (arith, common_steps)
 
 -- the bytes of a piece are bytes
 pub are_bytes : (bytes : List ℕ) (at n : ℕ) → IsBytes bytes → IsBytes (piece bytes at n)

@@ -1,5 +1,5 @@
 -- A frame that was written is read again: its kind, and the packet with its padding.
-use Rattle.std.proofs.Common.{◌≡◌, ℕ, ◌<◌, ◌≤◌, true, List, [], ◌∷◌, ◌++◌, length, drop, refl, ap, subst, sym, ◌∙◌, arith, Some, length-append, append_assoc, append-nil}
+use Rattle.std.proofs.Common.{◌≡◌, ℕ, ◌<◌, ◌≤◌, true, List, [], ◌∷◌, ◌++◌, length, drop, ap, subst, sym, ◌∙◌, arith, Some, length-append, append_assoc, append-nil, rules}
 use Rattle.std.proofs.lemmas.Nat.{from_be_bytes-to_be_bytes_2}
 use Rattle.std.specs.Int.{from_be_bytes, to_be_bytes, w16}
 use Rattle.ipx_capture.specs.Frame.{Kind, EthernetII, Raw, Llc, Snap, IsCounted, IsFrame, frame_of}
@@ -15,14 +15,7 @@ small_field n few = subst (λ (k : ℕ). k < 0x600) (sym (from_be_bytes-to_be_by
 
 counted : (front to from packet pad : List ℕ) (n : ℕ) → length to ≡ 6 → length from ≡ 6 → n ≤ 1500
     → IsCounted front (to ++ from ++ to_be_bytes w16 n ++ front ++ packet ++ pad) (packet ++ pad)
-counted front to from packet pad n six six2 few = record {
-  addresses = to ++ from;
-  field = to_be_bytes w16 n;
-  twelve = twelve_of to from six six2;
-  two = refl;
-  small = small_field n few;
-  layout = append_assoc (to ++ from ++ to_be_bytes w16 n ++ front) packet pad;
-}
+counted front to from packet pad n six six2 few = search (rules, twelve_of, small_field, append_assoc)
 
 is_frame : (kind : Kind) (to from packet : List ℕ) → length to ≡ 6 → length from ≡ 6 → may_carry kind packet ≡ true
     → carried kind packet ≤ most_carried → IsFrame (written kind to from packet) kind (packet ++ padding kind packet)
@@ -44,5 +37,4 @@ is_frame Snap to from packet six six2 may few =
 
 pub read_again : (kind : Kind) (to from packet : List ℕ) → length to ≡ 6 → length from ≡ 6 → may_carry kind packet ≡ true
     → carried kind packet ≤ most_carried → frame_of (written kind to from packet) ≡ Some (kind, packet ++ padding kind packet)
-read_again kind to from packet six six2 may few =
-    frame_only (written kind to from packet) kind (packet ++ padding kind packet) (is_frame kind to from packet six six2 may few)
+read_again kind to from packet six six2 may few = search (rules, frame_only, is_frame)

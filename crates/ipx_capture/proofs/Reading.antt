@@ -42,11 +42,7 @@ module _ (asked : ℕ → List ℕ → Result ℕ Failed → ℕ → Type 0) whe
   }
 
   pub gained_both : (before mid after : Input) (one two : List ℕ) → Gained before mid one → Gained mid after two → Gained before after (one ++ two)
-  gained_both before mid after one two g h = record {
-    read = Consumes-trans before.left mid.left after.left one two g.read h.read;
-    few = omega (arith, length-append one two, g.few, h.few);
-    bounded = λ n. h.bounded (g.bounded n);
-  }
+  gained_both before mid after one two g h = grind (arith, Consumes-trans, length-append)
 
   pub gathering_more : (old now new : List ℕ) (before mid after : Input) (need n : ℕ) → Gathering old now before mid need → length now < need
       → Filled asked now new mid after n → 0 < n → Gathering old new before after need
@@ -75,15 +71,7 @@ module _ (asked : ℕ → List ℕ → Result ℕ Failed → ℕ → Type 0) whe
   -- a loop of reads that has what it needs
   pub gathered_all : (old now : List ℕ) (before after : Input) (need : ℕ) → Gathering old now before after need → need ≤ length now
       → Gathered asked old now before after need true
-  gathered_all old now before after need g enough = record {
-    more = g.more;
-    gained = g.gained;
-    grown = g.grown;
-    fine = g.fine;
-    fetched = g.fetched;
-    whole = λ _. enough;
-    ended = λ e. absurd (false≢true (sym e));
-  }
+  gathered_all old now before after need g enough = grind arith
 
   -- a loop of reads that met the source's end
   pub gathered_end : (old now new : List ℕ) (before mid after : Input) (need n : ℕ) → Gathering old now before mid need → length now < need

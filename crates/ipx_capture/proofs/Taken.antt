@@ -1,4 +1,5 @@
 -- What taking a record comes to, at each of its ends.
+use Rattle.std.proofs.lemmas.Grind.{common_steps}
 use Rattle.std.proofs.Common.{◌≡◌, Bool, ℕ, ◌+◌, ◌<◌, ◌≤◌, true, false, List, [], ◌++◌, length, drop, refl, sym, ap, ◌∙◌, arith, subst, append_assoc, length-append, length-drop, ◌*◌, Option, Some, None, Result, Ok, Err, OnOk}
 use Rattle.std.proofs.KnownBytes.{Consumes-trans}
 use Rattle.ipx_wire.specs.Ends.{Input}
@@ -13,7 +14,7 @@ use Rattle.ipx_capture.specs.Records.{Record, first_record, kept_count, wire_cou
 use Rattle.ipx_capture.specs.inside.Taking.{Took}
 use Rattle.ipx_capture.specs.Window.{Held, Grows}
 use Rattle.ipx_capture.specs.declared.capture_fault.CaptureFault.{CaptureFault}
-use Rattle.ipx_capture.specs.declared.capture_fault.CaptureFault.TheVariants.{CutHeader, Magic, Version, Link, RecordLong, CutRecord, Read, Memory}
+use Rattle.ipx_capture.specs.declared.capture_fault.CaptureFault.TheVariants.{RecordLong, CutRecord, Memory}
 use Rattle.ipx_capture.specs.declared.order.Order.{Order}
 use Rattle.ipx_capture.specs.declared.standing.Standing.{Standing}
 use Rattle.ipx_capture.specs.declared.standing.Standing.TheVariants.{Open}
@@ -24,14 +25,7 @@ use Rattle.ipx_capture.proofs.Pieces.{length_piece}
 use Rattle.ipx_capture.proofs.Reading.{gained_both}
 
 gives_lost : (order : Order) (n : ℕ) (bytes rest : List ℕ) (after : Input) (fault : CaptureFault) → GaveUp after.failed fault → Gives order n bytes rest after (Err fault)
-gives_lost order n bytes rest after Read h = h
-gives_lost order n bytes rest after Memory h = h
-gives_lost order n bytes rest after CutHeader h = absurd h
-gives_lost order n bytes rest after Magic h = absurd h
-gives_lost order n bytes rest after Version h = absurd h
-gives_lost order n bytes rest after Link h = absurd h
-gives_lost order n bytes rest after RecordLong h = absurd h
-gives_lost order n bytes rest after CutRecord h = absurd h
+gives_lost order n bytes rest after fault h = grind arith
 
 -- nothing that was given up is told as a fault of the file
 lost_cut : (failed : Bool) (fault : CaptureFault) → GaveUp failed fault → fault ≡ CutRecord → ⊥
@@ -45,26 +39,13 @@ kept_stays order old one more g grown enough =
 -- how much the record takes then
 size_stays : (order : Order) (old one more : List ℕ) (g : List ℕ) (kept : ℕ) → one ≡ old ++ g → 16 ≤ length one → kept ≡ kept_count order one → kept ≤ 262144
     → size_of_first order (old ++ (g ++ more)) ≡ 16 + kept
-size_stays order old one more g kept grown enough is short =
-    let stays = kept_stays order old one more g grown enough in
-    size_whole order (old ++ (g ++ more)) (omega (arith, enough, ap length grown, length-append old g, length-append old (g ++ more), length-append g more))
-    (omega (arith, stays, is, short)) ∙ ap (λ k. 16 + k) (stays ∙ sym is)
+size_stays order old one more g kept grown enough is short = grind (arith, common_steps, kept_stays, size_whole, length-append)
 
 module _ (asked : ℕ → List ℕ → Result ℕ Failed → ℕ → Type 0) (order : Order) where
   -- reading was given up before a header was there
   pub took_lost_header : (old new : Held) (before after : Input) (fault : CaptureFault) → Lost asked old.ahead before after 16 fault → Grows 16 old.memory new.memory
       → 8192 ≤ old.memory → (fault ≡ Memory → old.memory < 16) → Took asked order old new before after (Err fault)
-  took_lost_header old new before after fault l grows least refused = record {
-    more = l.more;
-    read = l.read;
-    gives = λ n. gives_lost order n (old.ahead ++ l.more) new.ahead after fault l.told;
-    gained = tt;
-    fetched = header_fetched asked order old.ahead l.more before.state after.state l.fetched;
-    ended = λ e. absurd cc;
-    cut = λ e. absurd (lost_cut after.failed fault l.told cc);
-    room = grows_header order (old.ahead ++ l.more) old.memory new.memory grows;
-    refused = λ e. absurd (omega (arith, least, refused cc));
-  }
+  took_lost_header old new before after fault l grows least refused = grind (arith, gives_lost, header_fetched, lost_cut, grows_header)
 
   -- nothing is left
   pub took_end : (old new : Held) (before after : Input) → Gathered asked old.ahead new.ahead before after 16 false → before.failed ≡ false
@@ -99,17 +80,7 @@ module _ (asked : ℕ → List ℕ → Result ℕ Failed → ℕ → Type 0) (or
   -- the header of a record says that it is too long
   pub took_long : (old new : Held) (before after : Input) → Gathered asked old.ahead new.ahead before after 16 true → before.failed ≡ false
       → Grows 16 old.memory new.memory → 262144 < kept_count order new.ahead → Took asked order old new before after (Err RecordLong)
-  took_long old new before after g fine grows long = record {
-    more = g.more;
-    read = g.gained.read;
-    gives = λ n. (ap (first_record order n) (sym g.grown) ∙ first_long order n new.ahead (g.whole refl) long, g.fine ∙ fine);
-    gained = tt;
-    fetched = header_fetched asked order old.ahead g.more before.state after.state g.fetched;
-    ended = λ e. absurd cc;
-    cut = λ e. absurd cc;
-    room = grows_header order (old.ahead ++ g.more) old.memory new.memory grows;
-    refused = λ e. absurd cc;
-  }
+  took_long old new before after g fine grows long = grind (arith, first_long, header_fetched, grows_header)
 
   -- reading was given up behind the header of a record
   pub took_lost : (old one new : Held) (before mid after : Input) (kept : ℕ) (fault : CaptureFault) → Gathered asked old.ahead one.ahead before mid 16 true
@@ -194,20 +165,14 @@ module _ (asked : ℕ → List ℕ → Result ℕ Failed → ℕ → Type 0) (or
       }
 
 gained_ok : (before after : Input) (more : List ℕ) (n : ℕ) (bytes : List ℕ) (answer : Result (Option ℕ) CaptureFault) → OnOk answer (Gained before after more) → OnOk (numbered n bytes answer) (Gained before after more)
-gained_ok before after more n bytes (Ok None) h = h
-gained_ok before after more n bytes (Ok (Some wire)) h = h
-gained_ok before after more n bytes (Err fault) h = tt
+gained_ok before after more n bytes answer h = grind arith
 
 -- what was told is the same in numbers
 told_end : (n : ℕ) (bytes : List ℕ) (answer : Result (Option ℕ) CaptureFault) → numbered n bytes answer ≡ Ok None → answer ≡ Ok None
-told_end n bytes (Ok None) e = refl
-told_end n bytes (Ok (Some wire)) e = absurd cc
-told_end n bytes (Err fault) e = absurd cc
+told_end n bytes answer e = grind arith
 
 told_fault : (n : ℕ) (bytes : List ℕ) (answer : Result (Option ℕ) CaptureFault) (fault : CaptureFault) → numbered n bytes answer ≡ Err fault → answer ≡ Err fault
-told_fault n bytes (Ok None) fault e = absurd cc
-told_fault n bytes (Ok (Some wire)) fault e = absurd cc
-told_fault n bytes (Err other) fault e = cc
+told_fault n bytes answer fault e = grind arith
 
 -- what taking a record comes to for the capture
 pub takes : (asked : ℕ → List ℕ → Result ℕ Failed → ℕ → Type 0) (old new : Place) (h w : Held) (n : ℕ) (answer : Result (Option ℕ) CaptureFault)
@@ -250,8 +215,7 @@ few_taken asked order old new before after wire n t few =
 -- a buffer that grew for a record has room for the longest at most
 pub room_taken : (asked : ℕ → List ℕ → Result ℕ Failed → ℕ → Type 0) (order : Order) (old new : Held) (before after : Input) (answer : Result (Option ℕ) CaptureFault)
     → Took asked order old new before after answer → (8192 ≤ old.memory) × (old.memory ≤ 262160) → (8192 ≤ new.memory) × (new.memory ≤ 262160)
-room_taken asked order old new before after answer t room =
-    (omega (arith, room.0, t.room.kept), omega (arith, room.1, t.room.needed, size_most order (old.ahead ++ t.more)))
+room_taken asked order old new before after answer t room = omega (arith, size_most)
 
 -- a capture that goes on
 pub nexts_open : (old new : Place) (answer : Result (Option Record) CaptureFault) → old.standing ≡ Open → Takes old new answer → Nexts old new answer
