@@ -95,7 +95,7 @@ static void deliver_all(const internet *it, deliveries *to, size_t router, size_
 static void hand_on(internet *it, deliveries *of, size_t number)
 {
     delivery next = of->list[number];
-    plain_packet(it->routers + next.router, next.port, of->bytes + next.start, next.length);
+    of->list[number].outcome = plain_packet(it->routers + next.router, next.port, of->bytes + next.start, next.length);
     deliver_all(it, of, next.router, number);
 }
 

@@ -12,9 +12,10 @@ typedef struct internet_port {
     uint8_t port;
 } internet_port;
 
-/* A packet that comes to a router: where its bytes are, and which one before it caused it. */
+/* A packet that comes to a router: where its bytes are, which one before it caused it, and what became of it. */
 typedef struct delivery {
     size_t router, cause, start, length;
+    plain_outcome outcome;
     uint8_t port;
 } delivery;
 

@@ -99,9 +99,17 @@ typedef struct plain_router {
 void plain_make(plain_router *router, const plain_port *ports, size_t count, size_t routes, size_t services);
 void plain_free(plain_router *router);
 
+/* What became of a packet: from PLAIN_NOT_RUNNING on it was dropped. */
+typedef enum plain_outcome {
+    PLAIN_LEARNED, PLAIN_ANSWERED, PLAIN_FORWARDED, PLAIN_PROPAGATED, PLAIN_NOT_RUNNING, PLAIN_MALFORMED, PLAIN_OWN_ECHO,
+    PLAIN_BAD_SOURCE, PLAIN_CROSSED_SHORT, PLAIN_CROSSED_FULL, PLAIN_CROSSED_SEEN, PLAIN_ELSEWHERE, PLAIN_OTHER_SOCKET,
+    PLAIN_NOT_NEIGHBOUR, PLAIN_BAD_RIP, PLAIN_BAD_SAP, PLAIN_NEAREST_REPLY, PLAIN_TOO_MANY_ROUTERS, PLAIN_FAR_SIDE, PLAIN_NO_ROUTE,
+    PLAIN_TOO_LONG
+} plain_outcome;
+
 /* Events. Each empties the outbox first. */
 void plain_start(plain_router *router);
 void plain_second(plain_router *router);
-void plain_packet(plain_router *router, uint8_t port, const uint8_t *bytes, size_t length);
+plain_outcome plain_packet(plain_router *router, uint8_t port, const uint8_t *bytes, size_t length);
 
 #endif

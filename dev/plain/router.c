@@ -85,16 +85,18 @@ static void learn_routes(plain_router *router, uint8_t port, uint64_t node, cons
     send_changes(router);
 }
 
-static void hear_rip(plain_router *router, uint8_t port, const packet *it, const uint8_t *data, size_t length)
+static plain_outcome hear_rip(plain_router *router, uint8_t port, const packet *it, const uint8_t *data, size_t length)
 {
-    uint16_t operation = get16(data);
-    size_t count = (length - 2) / ROUTE;
-    if (count == 0 || count > MOST_ROUTES)
-        return;
-    if (operation == REQUEST)
-        answer_routes(router, port, asker(router->ports + port, it), data + 2, count);
-    else if (operation == RESPONSE)
+    uint16_t operation = length < 2 ? 0 : get16(data);
+    size_t count = length < 2 ? 0 : (length - 2) / ROUTE;
+    if ((operation != REQUEST && operation != RESPONSE) || count == 0 || count > MOST_ROUTES)
+        return PLAIN_BAD_RIP;
+    if (operation == RESPONSE) {
         learn_routes(router, port, it->from.node, data + 2, count);
+        return PLAIN_LEARNED;
+    }
+    answer_routes(router, port, asker(router->ports + port, it), data + 2, count);
+    return PLAIN_ANSWERED;
 }
 
 static void learn_services(plain_router *router, uint8_t port, uint64_t node, const uint8_t *entries, size_t count)
@@ -111,16 +113,31 @@ static void learn_services(plain_router *router, uint8_t port, uint64_t node, co
     send_changes(router);
 }
 
-static void hear_sap(plain_router *router, uint8_t port, const packet *it, const uint8_t *data, size_t length)
+static bool is_sap(uint16_t operation, size_t length)
 {
-    uint16_t operation = get16(data);
-    size_t count = (length - 2) / PLAIN_ENTRY;
-    if (operation == RESPONSE && count > 0 && count <= MOST_SERVICES)
-        learn_services(router, port, it->from.node, data + 2, count);
-    else if (operation == REQUEST && length >= 4)
-        answer_services(router, port, asker(router->ports + port, it), get16(data + 2));
-    else if (operation == NEAREST_QUERY && length >= 4)
-        answer_nearest(router, port, asker(router->ports + port, it), get16(data + 2));
+    size_t count = length < 2 ? 0 : (length - 2) / PLAIN_ENTRY;
+    if (operation == REQUEST || operation == NEAREST_QUERY)
+        return length >= 4;
+    return (operation == RESPONSE || operation == NEAREST_RESPONSE) && count > 0 && count <= MOST_SERVICES;
+}
+
+static plain_outcome hear_sap(plain_router *router, uint8_t port, const packet *it, const uint8_t *data, size_t length)
+{
+    uint16_t operation = length < 2 ? 0 : get16(data);
+    address to = asker(router->ports + port, it);
+    if (!is_sap(operation, length))
+        return PLAIN_BAD_SAP;
+    if (operation == NEAREST_RESPONSE)
+        return PLAIN_NEAREST_REPLY;
+    if (operation == RESPONSE) {
+        learn_services(router, port, it->from.node, data + 2, (length - 2) / PLAIN_ENTRY);
+        return PLAIN_LEARNED;
+    }
+    if (operation == REQUEST)
+        answer_services(router, port, to, get16(data + 2));
+    else
+        answer_nearest(router, port, to, get16(data + 2));
+    return PLAIN_ANSWERED;
 }
 
 static bool is_near(const plain_port *port, uint32_t network)
@@ -128,46 +145,44 @@ static bool is_near(const plain_port *port, uint32_t network)
     return network == LOCAL || network == port->network;
 }
 
-static void hear(plain_router *router, uint8_t port, const packet *it)
+static plain_outcome hear(plain_router *router, uint8_t port, const packet *it)
 {
     const plain_port *on = router->ports + port;
-    bool is_for_us = it->to.node == on->node || it->to.node == PLAIN_BROADCAST;
-    if (!is_for_us || it->type == NETBIOS_TYPE || !is_near(on, it->from.network) || it->length < HEAD)
-        return;
+    if (it->to.node != on->node && it->to.node != PLAIN_BROADCAST)
+        return PLAIN_ELSEWHERE;
+    if (it->type == NETBIOS_TYPE || (it->to.socket != RIP_SOCKET && it->to.socket != SAP_SOCKET))
+        return PLAIN_OTHER_SOCKET;
+    if (!is_near(on, it->from.network))
+        return PLAIN_NOT_NEIGHBOUR;
     if (it->to.socket == RIP_SOCKET)
-        hear_rip(router, port, it, it->bytes + HEADER, it->length - HEADER);
-    else if (it->to.socket == SAP_SOCKET)
-        hear_sap(router, port, it, it->bytes + HEADER, it->length - HEADER);
+        return hear_rip(router, port, it, it->bytes + HEADER, it->length - HEADER);
+    return hear_sap(router, port, it, it->bytes + HEADER, it->length - HEADER);
 }
 
 /* ---- Packets for others ---- */
 
-static void send_on(plain_router *router, uint8_t port, uint64_t link, const packet *it)
+static plain_outcome send_on(plain_router *router, uint8_t port, uint64_t link, const packet *it)
 {
     if (it->length > router->ports[port].longest)
-        return;
+        return PLAIN_TOO_LONG;
     uint8_t *copy = outbox_room(&router->out, it->length);
     memcpy(copy, it->bytes, it->length);
     copy[4]++;
     outbox_end(&router->out, port, link, it->length);
+    return PLAIN_FORWARDED;
 }
 
-static void forward(plain_router *router, const packet *it)
+static plain_outcome forward(plain_router *router, const packet *it)
 {
     if (it->control >= MOST_ROUTERS)
-        return;
-    for (size_t k = 0; k < router->port_count; k++) {
-        if (router->ports[k].network == it->to.network) {
-            if (router->ports[k].node != it->to.node)
-                send_on(router, (uint8_t)k, it->to.node, it);
-            return;
-        }
-    }
+        return PLAIN_TOO_MANY_ROUTERS;
+    for (size_t k = 0; k < router->port_count; k++)
+        if (router->ports[k].network == it->to.network)
+            return router->ports[k].node == it->to.node ? PLAIN_FAR_SIDE : send_on(router, (uint8_t)k, it->to.node, it);
     const plain_route *route = routes_find(&router->routes, it->to.network);
     if (!route && it->to.network != ALL_ROUTES)
         route = routes_find(&router->routes, DEFAULT_ROUTE);
-    if (route)
-        send_on(router, route->port, route->node, it);
+    return route ? send_on(router, route->port, route->node, it) : PLAIN_NO_ROUTE;
 }
 
 static bool has_crossed(const packet *it, uint32_t network)
@@ -192,14 +207,19 @@ static void propagate_on(plain_router *router, uint8_t port, uint32_t arrived, c
     outbox_end(&router->out, port, PLAIN_BROADCAST, it->length);
 }
 
-static void propagate(plain_router *router, uint8_t port, const packet *it)
+static plain_outcome propagate(plain_router *router, uint8_t port, const packet *it)
 {
     uint32_t arrived = router->ports[port].network;
-    if (it->length < HEADER + CROSSED || it->control >= MOST_CROSSED || has_crossed(it, arrived))
-        return;
+    if (it->length < HEADER + CROSSED)
+        return PLAIN_CROSSED_SHORT;
+    if (it->control >= MOST_CROSSED)
+        return PLAIN_CROSSED_FULL;
+    if (has_crossed(it, arrived))
+        return PLAIN_CROSSED_SEEN;
     for (size_t k = 0; k < router->port_count; k++)
         if (k != port)
             propagate_on(router, (uint8_t)k, arrived, it);
+    return PLAIN_PROPAGATED;
 }
 
 /* ---- Events ---- */
@@ -245,20 +265,21 @@ static address address_at(const uint8_t *at)
     return (address){.network = get32(at), .node = get48(at + 4), .socket = get16(at + 10)};
 }
 
-void plain_packet(plain_router *router, uint8_t port, const uint8_t *bytes, size_t length)
+plain_outcome plain_packet(plain_router *router, uint8_t port, const uint8_t *bytes, size_t length)
 {
     const plain_port *on = router->ports + port;
     begin_event(router);
-    if (!router->is_running || length < HEADER || get16(bytes + 2) < HEADER || get16(bytes + 2) > length)
-        return;
+    if (!router->is_running)
+        return PLAIN_NOT_RUNNING;
+    if (length < HEADER || get16(bytes + 2) < HEADER || get16(bytes + 2) > length)
+        return PLAIN_MALFORMED;
     packet it = {.bytes = bytes, .length = get16(bytes + 2), .to = address_at(bytes + 6), .from = address_at(bytes + 18),
                  .control = bytes[4], .type = bytes[5]};
-    if ((it.from.node == on->node && is_near(on, it.from.network)) || it.from.node == PLAIN_BROADCAST)
-        return;
+    if (it.from.node == on->node && is_near(on, it.from.network))
+        return PLAIN_OWN_ECHO;
+    if (it.from.node == PLAIN_BROADCAST)
+        return PLAIN_BAD_SOURCE;
     if (it.type == NETBIOS_TYPE && it.to.node == PLAIN_BROADCAST)
-        propagate(router, port, &it);
-    else if (is_near(on, it.to.network))
-        hear(router, port, &it);
-    else
-        forward(router, &it);
+        return propagate(router, port, &it);
+    return is_near(on, it.to.network) ? hear(router, port, &it) : forward(router, &it);
 }
