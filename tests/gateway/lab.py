@@ -405,7 +405,7 @@ def played_anew(test):
         for left in reversed(range(PLAYS)):
             try:
                 return test(*words, **how)
-            except (AssertionError, ConnectionError):
+            except (AssertionError, ConnectionError, TimeoutError):
                 if left == 0:
                     raise
     return plays

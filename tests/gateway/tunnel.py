@@ -7,8 +7,8 @@ import struct
 import subprocess
 import time
 
-from lab import (AGAIN, COOKIE, EVERYONE, GAME, GATEWAY, LIMIT, RIP, ROOM, SAP, TUNNEL, Client, Gateway, address, comes_next,
-                 free_ports, is_ping, is_routers, packet, reaches, reaches_again, registration, rip_response, sap_response, socket_of,
+from lab import (AGAIN, COOKIE, EVERYONE, GAME, GATEWAY, LIMIT, RIP, ROOM, SAP, TUNNEL, Client, Gateway, address, comes_next, free_ports,
+                 is_ping, is_routers, packet, played_anew, reaches, reaches_again, registration, rip_response, sap_response, socket_of,
                  tunnels, until, until_wine_lets_go)
 from systems import SYSTEM, TOP
 from trying import begin, tried
@@ -114,11 +114,6 @@ class House:
             self.send(k, packet(address(0, bytes_[22:28], TUNNEL), address(0, self.node(k), TUNNEL), kind=0))
         return k, bytes_
 
-    def catch_up(self):
-        """Hears all that has come while others came in, so that there is room for what comes now."""
-        while select.select([self.udp], [], [], 0)[0]:
-            self.receive()
-
     def enter(self):
         """All come in, some at once."""
         for first in range(0, self.SIZE, self.AT_ONCE):
@@ -175,18 +170,27 @@ def many_pings_are_lost():
         until(lambda: sum(it.pings for it in crowd) >= 20 + 2 * 16, "who is kept is pinged three times")
 
 
+def catch_up(houses):
+    """They hear all that has come while others came in: who doesn't answer pings leaves, and what comes next needs room."""
+    while ready := select.select([it.udp for it in houses], [], [], 0)[0]:
+        for house in houses:
+            if house.udp in ready:
+                house.receive()
+
+
+@played_anew
 def four_thousand_clients():
     """As many clients as there may be, of an address each, are there, and one broadcast comes to all."""
     with Gateway(tunnels(1, extra="clients 4096\nrate none\nstrangers none\n")) as gate:
         houses = [House(gate.ports[0x10], number) for number in range(16)]
         for house in houses:
             house.enter()
+            catch_up(houses)
         assert gate.counted(0x10, "clients") == 16 * House.SIZE == 4096
         late = Client(gate.ports[0x10], registers=False)
         late.send(registration())
         gate.until_counted(0x10, "no room for a client", 1)
-        for house in houses:
-            house.catch_up()
+        catch_up(houses)
         houses[0].say(address(0, EVERYONE, GAME), b"all")
         for house in houses:
             heard = house.hear(lambda it: it[30:] == b"all", House.SIZE - (house is houses[0]))
