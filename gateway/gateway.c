@@ -253,7 +253,6 @@ static void let_seconds_pass(gateway *it)
     let_tunnels_pass(it, passed);
     let_router_pass(it, passed);
     status_second(it);
-    capture_flush();
 }
 
 /* Milliseconds to the next second, or until a client is to be pinged; none where something is there already. */

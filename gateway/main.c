@@ -149,10 +149,8 @@ static int route(const options *it, const settings *set)
         gateway_turn(&gate, !was_asked);
         if (is_told_to_read())
             reload(&gate);
-        if (was_asked) {
-            capture_flush();
+        if (was_asked)
             gateway_report(&gate);
-        }
     }
     gateway_report(&gate);
     gateway_stop(&gate);

@@ -1,5 +1,6 @@
 #include "monitoring/capture.h"
 
+#include <errno.h>
 #include <inttypes.h>
 #include <stdio.h>
 #include <string.h>
@@ -8,50 +9,38 @@
 #include "ipxr.h"
 #include "monitoring/output.h"
 #include "systems/clock.h"
+#include "systems/fault.h"
 #include "systems/system.h"
 
 enum { RECORD = 16 /* bytes before each frame */ };
 
 static bool is_open;
-static FILE *file;       /* NULL of a pipe with a name, which is opened elsewhere */
-static bool is_pipe;     /* somebody reads it as it is written: nobody waits for him */
-static uint64_t dropped; /* frames that he didn't read in time */
+static uint64_t dropped; /* frames that weren't written in time */
 
 /* Ends the capture where the file takes no more: it is told once. */
-static void end(const char *why)
+static void end(void)
 {
-    complain("ipxr-gateway: the capture ends: %s", why);
+    errno = output_capture_fault();
+    complain("ipxr-gateway: the capture ends: %s", is_of_reader(errno) ? "nobody reads it any more" : fault_words());
     capture_close();
 }
 
 /* Takes some bytes, all or none. */
 static void write_all(const void *bytes, size_t length)
 {
-    outcome became = WILL_BE_WRITTEN;
-    if (!is_open)
-        return;
-    if (is_pipe)
-        became = output_capture(bytes, length);
-    else if (fwrite(bytes, 1, length, file) != length)
-        end(fault_words());
-    if (became == READER_IS_GONE)
-        end("nobody reads it any more");
+    outcome became = is_open ? output_capture(bytes, length) : WILL_BE_WRITTEN;
+    if (became == TAKES_NO_MORE)
+        end();
     dropped += became == NO_ROOM_FOR_IT;
 }
 
-static bool open_fifo(const char *name)
+/* (it stays open until the program ends: a thread writes there) */
+static bool begin(const char *name)
 {
-    is_pipe = true;
-    return output_begin_capture_fifo(name);
-}
-
-static bool open_file(const char *name)
-{
-    file = file_open(name, "wb");
-    if (file == NULL)
-        return false;
-    is_pipe = file_waits(file);
-    return !is_pipe || output_begin_capture(file);
+    if (file_is_fifo(name))
+        return output_begin_capture_fifo(name);
+    FILE *file = file_open(name, "wb");
+    return file != NULL && output_begin_capture(file);
 }
 
 bool capture_open(const char *name)
@@ -62,12 +51,9 @@ bool capture_open(const char *name)
         uint16_t version[2];
         uint32_t rest[4];
     } header = {0xA1B2C3D4, {2, 4}, {0, 0, 65535, 1}};
-    is_open = file_is_fifo(name) ? open_fifo(name) : open_file(name);
-    if (!is_open)
-        return false;
+    is_open = begin(name);
     write_all(&header, sizeof header);
-    capture_flush();
-    return true;
+    return is_open;
 }
 
 void capture_frame(const uint8_t *frame, size_t length)
@@ -94,23 +80,13 @@ void capture_packet(const uint8_t *packet, size_t length, const uint8_t from[6])
     capture_frame(frame, whole);
 }
 
-void capture_flush(void)
-{
-    if (is_open && !is_pipe && fflush(file) != 0)
-        end(fault_words());
-}
-
 void capture_show(void)
 {
     if (dropped > 0)
         say("capture: %" PRIu64 " frames are missing: they weren't read in time", dropped);
 }
 
-/* (the thread of a pipe has it until the program ends: it may wait there for a reader) */
 void capture_close(void)
 {
-    bool was_open = is_open;
     is_open = false;
-    if (was_open && !is_pipe && fclose(file) != 0)
-        complain("ipxr-gateway: the capture can't be closed: %s", fault_words());
 }

@@ -7,18 +7,17 @@
 #include <stddef.h>
 #include <stdint.h>
 
-/* Opens a file; from now on everything is captured. Where it is a pipe nothing waits for who reads it: frames for which there is no room
+/* Opens a file; from now on everything is captured. Nothing waits for a disk, nor for who reads a pipe: frames for which there is no room
  * are dropped, whole, and counted. Returns whether it could be opened. */
 bool capture_open(const char *name);
 
 void capture_frame(const uint8_t *frame, size_t length);
 void capture_packet(const uint8_t *packet, size_t length, const uint8_t from[6]);
 
-/* What was captured is in the file from now on. */
-void capture_flush(void);
+/* Nothing more is captured. */
 void capture_close(void);
 
-/* Says how many frames a reader of the capture was too late for, if any. */
+/* Says how many frames the capture's reader or disk was too late for, if any. */
 void capture_show(void);
 
 #endif

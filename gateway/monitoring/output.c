@@ -1,5 +1,6 @@
 #include "monitoring/output.h"
 
+#include <errno.h>
 #include <inttypes.h>
 #include <stdarg.h>
 #include <stdint.h>
@@ -25,7 +26,8 @@ typedef struct outlet {
     size_t under_way; /* bytes of the other that aren't written yet */
     uint64_t dropped; /* lines, since the last one that had room */
     bool is_refused;  /* the system refused what was written last */
-    bool is_closed;   /* nobody will read anything any more */
+    bool is_closed;   /* nothing will be taken any more, */
+    int fault;        /* by what errno said */
     bool is_captured; /* it is a capture's, which has begun */
 } outlet;
 
@@ -91,12 +93,20 @@ outcome output_capture(const void *bytes, size_t length)
 {
     outlet *it = &outlets[CAPTURE];
     writer_lock(CAPTURE);
-    outcome became = it->is_closed ? READER_IS_GONE : it->count + length > ROOM ? NO_ROOM_FOR_IT : WILL_BE_WRITTEN;
+    outcome became = it->is_closed ? TAKES_NO_MORE : it->count + length > ROOM ? NO_ROOM_FOR_IT : WILL_BE_WRITTEN;
     if (became == WILL_BE_WRITTEN)
         append(it, bytes, length);
     writer_wake(CAPTURE);
     writer_unlock(CAPTURE);
     return became;
+}
+
+int output_capture_fault(void)
+{
+    writer_lock(CAPTURE);
+    int fault = outlets[CAPTURE].fault;
+    writer_unlock(CAPTURE);
+    return fault;
 }
 
 /* ---- The thread ---- */
@@ -116,10 +126,11 @@ static const char *next_lines(writer which)
     return lines;
 }
 
-/* What became of some bytes. */
-static void note_written(writer which, ssize_t written)
+/* What became of some bytes, and why. */
+static void note_written(writer which, ssize_t written, int fault)
 {
     outlet *it = &outlets[which];
+    it->fault = fault;
     it->is_refused = written == 0;
     it->is_closed = written < 0;
     if (it->is_closed)
@@ -139,9 +150,10 @@ static void write_on(writer which)
         size_t piece = it->under_way < PIECE ? it->under_way : PIECE;
         writer_unlock(which);
         ssize_t written = writer_write(which, next, piece);
+        int fault = errno;
         writer_lock(which);
         next += written > 0 ? written : 0;
-        note_written(which, written);
+        note_written(which, written, fault);
     }
 }
 

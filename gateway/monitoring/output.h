@@ -15,18 +15,20 @@ bool output_begin(void);
 void say(const char *format, ...);
 void complain(const char *format, ...);
 
-/* The same for a capture that somebody reads as it is written: from now on its bytes go to a file. Returns false where the system has no
- * thread for it. */
+/* The same for a capture: from now on its bytes go to a file. Returns false where the system has no thread for it. */
 bool output_begin_capture(FILE *file);
 
 /* The same for a pipe with a name: nobody waits until somebody reads there. */
 bool output_begin_capture_fifo(const char *name);
 
-/* What became of the bytes of a capture: they are written some time, or there was no room for them, or nobody will read any more. */
-typedef enum { WILL_BE_WRITTEN, NO_ROOM_FOR_IT, READER_IS_GONE } outcome;
+/* What became of the bytes of a capture: they are written some time, or there was no room for them, or the file takes no more. */
+typedef enum { WILL_BE_WRITTEN, NO_ROOM_FOR_IT, TAKES_NO_MORE } outcome;
 
 /* Takes the bytes of a capture, all or none. */
 outcome output_capture(const void *bytes, size_t length);
+
+/* Why it takes no more, as errno has it. */
+int output_capture_fault(void);
 
 /* Waits until all lines, and the bytes of a capture, are written, as long as somebody reads them. */
 void output_end(void);

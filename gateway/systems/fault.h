@@ -24,4 +24,10 @@ static inline bool may_pass(int fault)
     return fault == EAGAIN || fault == EINTR || is_for_want_of_room(fault);
 }
 
+/* Whether whoever read what is written has gone. */
+static inline bool is_of_reader(int fault)
+{
+    return fault == EPIPE || fault == EBADF;
+}
+
 #endif

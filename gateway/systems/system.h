@@ -21,9 +21,6 @@ FILE *file_open_at_once(const char *name);
 /* Whether a file is a pipe with a name, which can't be opened to be written before somebody reads there. */
 bool file_is_fifo(const char *name);
 
-/* Whether a file is one that somebody else reads while it is written, such as a pipe: to write there may have to wait for him. */
-bool file_waits(FILE *file);
-
 /* A file whose text lies in memory once it is closed; then it is the caller's to free. NULL where there is none. */
 FILE *text_open(char **text, size_t *length);
 

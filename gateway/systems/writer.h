@@ -1,4 +1,4 @@
-/* Threads that write to standard output, to standard error, and to a capture that somebody reads as it is written. Each has a lock; what is
+/* Threads that write to standard output, to standard error, and to a capture. Each has a lock; what is
  * gathered for it is changed between writer_lock and writer_unlock alone. */
 #ifndef WRITER_H
 #define WRITER_H
@@ -27,7 +27,7 @@ void writer_wake(writer which);
 void writer_rest(int milliseconds);
 
 /* Without the lock: writes some bytes, and waits as long as that takes. Returns how many; 0 where it can't be now, after a second; -1 where
- * nobody reads them any more. */
+ * nobody reads them any more, or a capture's file can't have them, and then errno says why. */
 ssize_t writer_write(writer which, const char *bytes, size_t count);
 
 #endif

@@ -178,6 +178,7 @@ def its_files_are_closed():
         server.settimeout(LIMIT)
         with server.accept()[0] as pc:
             run.send_signal(signal.SIGUSR1)
+            select.select([pc], [], [], LIMIT)
             said = read_all(pc.fileno())
             run.terminate()
             assert run.wait(timeout=LIMIT) == 0 and said and b"network" not in said + read_all(pc.fileno()), said

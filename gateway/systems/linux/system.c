@@ -29,12 +29,6 @@ bool file_is_fifo(const char *name)
     return stat(name, &about) == 0 && S_ISFIFO(about.st_mode) && access(name, W_OK) == 0;
 }
 
-bool file_waits(FILE *file)
-{
-    struct stat about;
-    return fstat(fileno(file), &about) == 0 && (S_ISFIFO(about.st_mode) || S_ISSOCK(about.st_mode) || isatty(fileno(file)));
-}
-
 FILE *text_open(char **text, size_t *length)
 {
     return open_memstream(text, length);

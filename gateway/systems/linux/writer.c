@@ -8,6 +8,8 @@
 #include <signal.h>
 #include <unistd.h>
 
+#include "systems/fault.h"
+
 enum { SECOND = 1000 /* milliseconds */ };
 
 static struct {
@@ -100,7 +102,7 @@ ssize_t writer_write(writer which, const char *bytes, size_t count)
     while (written < 0 && (errno == EINTR || (errno == EAGAIN && poll(&room, 1, SECOND) > 0)));
     if (written > 0)
         return written;
-    if (errno == EPIPE || errno == EBADF)
+    if (is_of_reader(errno) || (which == CAPTURE && errno != EAGAIN))
         return -1;
     if (errno != EAGAIN)
         (void)poll(NULL, 0, SECOND);

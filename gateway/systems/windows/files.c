@@ -35,11 +35,6 @@ bool file_is_fifo(const char *name)
     return false;
 }
 
-bool file_waits(FILE *file)
-{
-    return GetFileType((HANDLE)_get_osfhandle(_fileno(file))) != FILE_TYPE_DISK;
-}
-
 /* (nobody asks for one: there is no order to read a configuration anew) */
 FILE *text_open(char **text, size_t *length)
 {

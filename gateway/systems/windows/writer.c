@@ -104,7 +104,9 @@ ssize_t writer_write(writer which, const char *bytes, size_t count)
     if (taken == length)
         return (ssize_t)piece;
     DWORD why = GetLastError();
-    if (why == ERROR_BROKEN_PIPE || why == ERROR_NO_DATA || why == ERROR_INVALID_HANDLE)
+    bool is_read = why != ERROR_BROKEN_PIPE && why != ERROR_NO_DATA && why != ERROR_INVALID_HANDLE;
+    errno = is_read ? ENOSPC : EPIPE;
+    if (!is_read || which == CAPTURE)
         return -1;
     Sleep(SECOND);
     return taken > 0 ? (ssize_t)piece : 0;

@@ -57,18 +57,6 @@ void own_close(FILE *file)
         __real_fclose(file);
 }
 
-/* Takes what is captured, or says that the disk is full. */
-static ssize_t take(void *with, const char *bytes, size_t count)
-{
-    (void)with;
-    (void)bytes;
-    if (the_weather.calls > 0 && one_in(the_weather.calls)) {
-        errno = ENOSPC;
-        return 0;
-    }
-    return (ssize_t)count;
-}
-
 /* Gives nothing, and says why. */
 static ssize_t give_nothing(void *with, char *bytes, size_t count)
 {
@@ -89,13 +77,10 @@ static FILE *configuration(const char *text, const char *how)
 
 FILE *file_open(const char *name, const char *how)
 {
-    static const cookie_io_functions_t DISK = {.write = take};
     if (fails(OF_OPENING))
         return NULL;
-    if (how[0] == 'w' && file_waits(NULL))
-        return fopencookie(NULL, how, DISK); /* (the writer keeps it) */
     if (how[0] == 'w')
-        return noted(fopencookie(NULL, how, DISK));
+        return fopen("/dev/null", how); /* (the writer keeps it) */
     const char *text = outside_configuration();
     errno = ENOENT;
     if (strcmp(name, "made-up.conf") != 0)
@@ -108,13 +93,7 @@ FILE *file_open_at_once(const char *name)
     return file_open(name, "rb");
 }
 
-/* (each time the same of a seed: a pipe's thread has it until the program ends) */
-bool file_waits(FILE *file)
-{
-    (void)file;
-    return the_play.seed % 4 == 0;
-}
-
+/* (each time the same of a seed: a thread has it until the program ends) */
 bool file_is_fifo(const char *name)
 {
     (void)name;

@@ -5,9 +5,11 @@
 #include <pthread.h>
 #include <string.h>
 
+#include "chance.h"
 #include "files.h"
 #include "play.h"
 #include "systems/writer.h"
+#include "weather.h"
 
 static pthread_mutex_t lock = PTHREAD_MUTEX_INITIALIZER;
 static pthread_cond_t turned = PTHREAD_COND_INITIALIZER;
@@ -144,6 +146,11 @@ void writer_rest(int milliseconds)
     writers_write();
 }
 
+static bool is_disk_full(void)
+{
+    return the_weather.calls > 0 && one_in(the_weather.calls);
+}
+
 ssize_t writer_write(writer which, const char *bytes, size_t count)
 {
     threads[which].is_stuck = !are_read;
@@ -151,8 +158,10 @@ ssize_t writer_write(writer which, const char *bytes, size_t count)
         rest(&threads[which]);
         return 0;
     }
-    if (which == CAPTURE && is_capture_gone)
+    if (which == CAPTURE && (is_capture_gone || is_disk_full())) {
+        errno = is_capture_gone ? EPIPE : ENOSPC;
         return -1;
+    }
     if (the_play.tells && which != CAPTURE)
         told("%.*s", (int)count - 1, bytes);
     return (ssize_t)count;
