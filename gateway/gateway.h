@@ -21,6 +21,16 @@
 #include "tunnel/pings.h"
 #include "tunnel/roster.h"
 
+/* A line that told why a network is down. */
+typedef struct down_line {
+    const char *lacks;
+    int fault;
+    uint64_t when; /* milliseconds of the clock */
+} down_line;
+
+/* Of a name as many addresses are tried, which may all fail in another way. */
+enum { DOWN_LINES = 8 };
+
 /* A network on a link. A network of several links is one of these for each, which share a port of the router. */
 typedef struct network {
     const network_setting *set;
@@ -29,6 +39,8 @@ typedef struct network {
     bool is_up;
     const char *lacks; /* what it was told to lack, while it is down; */
     int fault;         /* and the system's number for it, or 0 */
+    down_line told[DOWN_LINES]; /* the last of these lines, since it was up */
+    size_t told_next;
     counts counts;
     ipxr_tunnel tunnel; /* of DOSBox', where it is one */
     roster roster;       /* and its clients, */

@@ -8,7 +8,11 @@
 #include "links/segment.h"
 #include "monitoring/events.h"
 #include "monitoring/note.h"
+#include "systems/clock.h"
 #include "systems/system.h"
+
+/* Milliseconds. */
+enum { MINUTE = 60000 };
 
 const char *link_lacks(const network *on, int *fault)
 {
@@ -28,6 +32,16 @@ static void tell_up(network *on)
     event("%snetwork %08" PRIX32 " is up: %s, node %s%s%s", part_of(on), on->set->network, cable_words(on->cable, on->set, link),
           node_words(on->node, node), with != NULL ? ", with " : "", with != NULL ? address_words(with, pc) : "");
     on->lacks = NULL;
+    memset(on->told, 0, sizeof on->told);
+}
+
+/* Whether a reason was told within a minute: the addresses of a name may fail by turns, each in its own way. */
+static bool was_told_lately(const network *on, const char *lacks, int fault)
+{
+    for (size_t k = 0; k < DOWN_LINES; k++)
+        if (on->told[k].lacks == lacks && on->told[k].fault == fault && clock_now() - on->told[k].when < MINUTE)
+            return true;
+    return false;
 }
 
 /* Tells what a network lacks. Returns false where that was told. */
@@ -36,8 +50,9 @@ static bool tell_down(network *on)
     char link[LINK_ROOM];
     int fault;
     const char *lacks = link_lacks(on, &fault);
-    if (lacks == NULL || (on->lacks != NULL && strcmp(on->lacks, lacks) == 0 && on->fault == fault))
+    if (lacks == NULL || (on->lacks != NULL && strcmp(on->lacks, lacks) == 0 && on->fault == fault) || was_told_lately(on, lacks, fault))
         return false;
+    on->told[on->told_next++ % DOWN_LINES] = (down_line){lacks, fault, clock_now()};
     on->lacks = lacks;
     on->fault = errno = fault;
     event("%snetwork %08" PRIX32 " is down: %s: %s%s%s", part_of(on), on->set->network, cable_words(on->cable, on->set, link), lacks,

@@ -28,6 +28,7 @@ NAME = "house.test"
 A, AAAA = 1, 28  # the kinds of addresses of IPv4 and of IPv6 in a question
 MINUTE, SILENT = 61, 91  # seconds after which a name is asked for again: where nobody is, and where nobody says anything
 TWENTY = 20
+CALLS = 5  # that are taken and cut
 LINKS, TURNS = 30, 10  # of links to names, and configurations that name them
 MOST_UNDER_WAY, OTHERS = 128, 8  # questions at once, and threads that a gateway may have beside them
 
@@ -176,6 +177,22 @@ def the_next_address():
                 assert told_with(gate, f"[{host}]:{port}" if ":" in host else f"{host}:{port}")
 
 
+def each_fails_in_its_way():
+    """Where one address of a name refuses each call, and another takes it and goes at once, either is told once in a minute."""
+    clock = Clock()
+    with socket.create_server(("127.0.0.3", 0)) as pc:
+        pc.settimeout(LIMIT)
+        kind = f"qemu-tcp connect {NAME}:{pc.getsockname()[1]}"
+        with routing(kind, program=SYSTEM.fast, environment=clock.environment()) as (names, gate):
+            names.gives("127.0.0.2", "127.0.0.3")
+            for _ in range(CALLS):
+                until(lambda: clock.let_pass(1) or select.select([pc], [], [], AGAIN)[0], "a call")
+                pc.accept()[0].close()
+            gate.report()
+            told = [it.rpartition(" raw: ")[2] for it in gate.lines if "network 00000020 is" in it]
+            assert len(told) == len(set(told)) and {"can't connect: Connection refused", "the connection ended"} <= set(told), told
+
+
 def no_room_for_a_call():
     """Where the system has no room for a call, that is no fault of the address: the same one is called again, not the name's next."""
     clock, trouble = Clock(), Trouble()
@@ -195,7 +212,7 @@ def no_room_for_a_call():
                 gate.told("network 00000020 is down")
                 clock.let_pass(1)
                 assert gate.told("can't connect").endswith(": Too many open files")
-            clock.let_pass(1)
+            until(lambda: clock.let_pass(1) or gate.report() and sum(" is up: qemu-tcp" in it for it in gate.lines) == 2, "one more call")
             assert told_with(gate, f"127.0.0.2:{port}")
 
 
@@ -262,8 +279,8 @@ def inside():
     if mounts.returncode != 0 or not all(os.path.exists(f"/etc/{it}") for it in ("hosts", "resolv.conf", "nsswitch.conf")):
         left_out("names that the test gives out", "its own can't stand in place of the system's")
         return Counts()
-    counts = tried(nobody_waits, an_end_doesnt_wait, reloads_beside_silence, the_next_address, no_room_for_a_call, its_own, asked_again,
-                   another_address)
+    counts = tried(nobody_waits, an_end_doesnt_wait, reloads_beside_silence, the_next_address, each_fails_in_its_way,
+                   no_room_for_a_call, its_own, asked_again, another_address)
     return counts + tried(of_six) if has_six() else counts
 
 
