@@ -165,6 +165,7 @@ static int route_and_say(const options *it, const settings *set)
         return CANNOT_OPEN;
     }
     int status = route(it, set);
+    capture_close();
     output_end();
     return status;
 }

@@ -7,7 +7,6 @@
 #include "links/links.h"
 #include "links/node.h"
 #include "links/segment.h"
-#include "monitoring/capture.h"
 #include "monitoring/note.h"
 #include "monitoring/output.h"
 #include "monitoring/status.h"
@@ -225,5 +224,4 @@ void gateway_stop(gateway *it)
         tunnel_close(&it->networks[k]);
     for (size_t k = 0; k < it->cable_count; k++)
         cable_close(&it->cables[k]);
-    capture_close();
 }

@@ -22,7 +22,7 @@ static void end(void)
 {
     errno = output_capture_fault();
     complain("ipxr-gateway: the capture ends: %s", is_of_reader(errno) ? "nobody reads it any more" : fault_words());
-    capture_close();
+    is_open = false;
 }
 
 /* Takes some bytes, all or none. */
@@ -86,7 +86,11 @@ void capture_show(void)
         say("capture: %" PRIu64 " frames are missing: they weren't read in time", dropped);
 }
 
+/* (that the file takes no more is told also where no frame comes behind) */
 void capture_close(void)
 {
+    if (is_open)
+        output_end_capture();
+    write_all("", 0);
     is_open = false;
 }

@@ -14,7 +14,7 @@ bool capture_open(const char *name);
 void capture_frame(const uint8_t *frame, size_t length);
 void capture_packet(const uint8_t *packet, size_t length, const uint8_t from[6]);
 
-/* Nothing more is captured. */
+/* Nothing more is captured. What was is written first, as long as somebody reads it. */
 void capture_close(void);
 
 /* Says how many frames the capture's reader or disk was too late for, if any. */

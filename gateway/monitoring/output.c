@@ -33,6 +33,9 @@ typedef struct outlet {
 
 static outlet outlets[WRITERS];
 
+/* Milliseconds for which the end may wait still. */
+static int left_for_end = MOST;
+
 /* ---- Lines ---- */
 
 static void append(outlet *it, const char *line, size_t length)
@@ -161,6 +164,7 @@ static void write_on(writer which)
 
 bool output_begin(void)
 {
+    left_for_end = MOST;
     return writer_begin(OUTPUT, stdout, write_on) && writer_begin(COMPLAINTS, stderr, write_on);
 }
 
@@ -195,9 +199,13 @@ static int wait_for(writer which, int most)
     return most;
 }
 
+void output_end_capture(void)
+{
+    if (outlets[CAPTURE].is_captured)
+        left_for_end = wait_for(CAPTURE, left_for_end);
+}
+
 void output_end(void)
 {
-    int most = wait_for(COMPLAINTS, wait_for(OUTPUT, MOST));
-    if (outlets[CAPTURE].is_captured)
-        (void)wait_for(CAPTURE, most);
+    left_for_end = wait_for(COMPLAINTS, wait_for(OUTPUT, left_for_end));
 }

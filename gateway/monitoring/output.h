@@ -30,7 +30,8 @@ outcome output_capture(const void *bytes, size_t length);
 /* Why it takes no more, as errno has it. */
 int output_capture_fault(void);
 
-/* Waits until all lines, and the bytes of a capture, are written, as long as somebody reads them. */
+/* Waits until the bytes of a capture are written, as long as somebody reads them; and the same for all lines. */
+void output_end_capture(void);
 void output_end(void);
 
 #endif

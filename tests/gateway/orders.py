@@ -142,7 +142,7 @@ def nobody_reads_the_capture():
                 assert b.hear()[30:].startswith(b"%d " % k)
             gate.run.order(SYSTEM.end)
             _, complaint = gate.run.communicate(timeout=LIMIT)
-            assert gate.run.returncode == 0 and complaint in (b"", b"ipxr-gateway: the capture ends: nobody reads it any more\n"), complaint
+            assert gate.run.returncode == 0 and complaint == b"ipxr-gateway: the capture ends: nobody reads it any more\n", complaint
 
 
 def nobody_reads_the_fifo_yet():
@@ -193,8 +193,6 @@ def a_capture_may_not_grow():
             for k in range(10):
                 a.say(address(0, EVERYONE, GAME), b"%d " % k + bytes(LONG_WORD))
                 assert b.hear()[30:].startswith(b"%d " % k)
-            gate.report()
-            assert is_routed(a, b, 1)
             gate.run.order(SYSTEM.end)
             _, complaint = gate.run.communicate(timeout=LIMIT)
             assert gate.run.returncode == 0 and complaint == b"ipxr-gateway: the capture ends: File too large\n", complaint
