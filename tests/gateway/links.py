@@ -11,7 +11,7 @@ import threading
 import time
 
 from frames import KINDS, Station, Tcp, Udp, frame
-from lab import (EVERYONE, GAME, LIMIT, Client, Gateway, address, comes_next, free_ports, is_routers, packet, played_anew, reaches, tunnels,
+from lab import (EVERYONE, GAME, LIMIT, Client, Clock, Gateway, address, comes_next, free_ports, is_routers, packet, played_anew, reaches, tunnels,
                  until)
 from systems import SYSTEM, Windows
 from trying import begin, has_linux, left_out, tried
@@ -21,6 +21,7 @@ RESETS = 30
 SOON = 0.05  # seconds in which a connection comes about, where there is room for it
 KNOCKS = 50  # connections a second
 WITHIN = 5  # seconds in which a PC is there, whoever else knocks
+LATE = 6  # seconds, after which a call that hasn't come about is given up
 
 
 def listening(port=0):
@@ -372,6 +373,31 @@ def nobody_answers():
             assert Station(Tcp(connection), "llc", 0x20, STATION, gate.nodes[0x20]).hear(is_routers)
 
 
+def a_late_answer():
+    """A call that comes about while the gateway stands still, for longer than five seconds, is a connection like any other."""
+    clock = Clock()
+    with socket.socket() as slow:
+        slow.bind(("127.0.0.1", 0))
+        slow.listen(0)
+        place = slow.getsockname()
+        others = [socket.socket() for _ in range(2)]
+        for it in others:
+            it.setblocking(False)
+            it.connect_ex(place)
+        with Gateway(f"network 20 1 1490 qemu-tcp connect {place[1]} llc\n", program=SYSTEM.fast, environment=clock.environment()) as gate:
+            gate.report()
+            with gate.run.halted():
+                slow.settimeout(LIMIT)
+                for it in others:
+                    slow.accept()[0].close()
+                    it.close()
+                connection = slow.accept()[0]
+                clock.let_pass(LATE)
+            with connection:
+                until(lambda: clock.let_pass(1) or " is up: " in gate.report() + "".join(gate.lines), "a connection")
+            assert not any("can't connect" in line for line in gate.lines), gate.lines
+
+
 def an_address_comes_later():
     """An address that the machine doesn't have is waited for, which is told; the other networks are routed meanwhile."""
     text = "".join(f"network {n} 1 1424 {it}\n" for n, it in ((40, "dosbox 192.0.2.1:2130"), (50, "qemu-tcp listen 192.0.2.1:5003 raw")))
@@ -435,6 +461,7 @@ def main():
         counts.run(nobody_listens)
     if has_linux("no room for a connection", "it is tried on Linux alone"):
         counts.run(no_room_for_a_connection)
+        counts.run(a_late_answer)
     return counts
 
 

@@ -9,6 +9,7 @@
  *     minutes line KILOBITS      four play by a line of so many kilobits, beside one who says 1,000 of the longest packets a second: for
  *                                ten minutes all five, and for one more the four
  *     minutes router             clients and a link say to the router what it limits: for ten minutes it hears as much as it is to
+ *     minutes accounts           an address says more than the router hears by a network's limits: by another's it is heard
  *     minutes gateway            the same of what the gateway answers to clients and strangers, and of pings for all
  *
  * It prints what it saw, and ends with 1 where that isn't what is due. */
@@ -417,6 +418,60 @@ static void router(void)
     drive_all(LINK_TAP, 0, 2);
 }
 
+/* An address has a client on each of some networks: as usual, with much larger shares, and with a lower rate. */
+enum { USUALLY, MUCH, SLOW, NETWORKS };
+
+static void begin_accounts(teller list[NETWORKS])
+{
+    static const network_setting SETS[NETWORKS] = {
+        [USUALLY] = {.type = LINK_DOSBOX, .rate = RATE, .share = SHARE, .routes = 64, .services = 32},
+        [MUCH] = {.type = LINK_DOSBOX, .rate = RATE, .share = SHARE, .routes = 4000, .services = 500},
+        [SLOW] = {.type = LINK_DOSBOX, .rate = RATE / 8, .share = SHARE, .routes = 64, .services = 32},
+    };
+    for (size_t k = 0; k < NETWORKS; k++) {
+        list[k] = (teller){.count = 1};
+        throttle_set(&list[k].limits, &SETS[k]);
+        list[k].clients[0] = client_at(7);
+    }
+}
+
+/* Says it so many times to the router, so many milliseconds apart. Returns how often it was heard. */
+static uint64_t say_slowly(teller *it, const words *what, uint64_t count, uint64_t apart)
+{
+    uint64_t heard = 0;
+    for (uint64_t k = 0; k < count; k++) {
+        pass(apart * MILLISECOND);
+        heard += say_to_router(it, what, 1);
+    }
+    return heard;
+}
+
+static void accounts(void)
+{
+    enum { RESPONSE = 3, GAME = 6, ANSWER = 7, AT_ONCE = 32, LARGE = 200, APART = 3 };
+    const words *response = &WORDS_TO_ROUTER[RESPONSE], *game = &WORDS_TO_ROUTER[GAME], *answer = &WORDS_TO_ROUTER[ANSWER];
+    teller list[NETWORKS];
+    begin_accounts(list);
+    expect(say_slowly(&list[MUCH], response, LARGE, APART) == LARGE, "what a network has shares for is heard at once");
+    expect(say_slowly(&list[USUALLY], response, AT_ONCE, APART) == AT_ONCE, "and on another as much as by its own shares");
+    pass(SECOND * MILLISECOND);
+    expect(say_to_router(&list[SLOW], game, SECOND) == 2 * AT_ONCE, "an address hands the router so much at once");
+    expect(say_to_router(&list[USUALLY], game, SECOND) == 2 * AT_ONCE, "and as much on a network with a higher rate");
+    expect(say_to_router(&list[MUCH], game, SECOND) == 0, "networks with the same rate have one limit");
+    pass(SECOND * MILLISECOND);
+    expect(say_to_router(&list[USUALLY], answer, SECOND) == AT_ONCE, "answers to pings are half of it");
+    expect(say_to_router(&list[USUALLY], game, SECOND) == AT_ONCE, "and packets of games the rest");
+    (void)say_to_router(&list[SLOW], game, SECOND);
+    (void)say_slowly(&list[USUALLY], response, LARGE, APART);
+    speakers_forget();
+    expect(say_to_router(&list[SLOW], game, SECOND) == 2 * AT_ONCE, "what was handed on before a reload counts no more");
+    expect(say_slowly(&list[USUALLY], response, AT_ONCE, APART) == AT_ONCE, "nor does what was advertised");
+    for (size_t k = 0; k < NETWORKS; k++) {
+        speaker_leave(list[k].clients[0].speaks); /* (the sanitizers see that nothing is left of the address) */
+        free(list[k].clients[0].queues);
+    }
+}
+
 /* ---- What the gateway answers, and carries to all ---- */
 
 static uint64_t pings(void *of, uint64_t count)
@@ -511,7 +566,8 @@ static void of_address(void)
 static const struct {
     const char *word;
     void (*does)(void);
-} WORDS_ALONE[] = {{"once", once}, {"two", two}, {"address", of_address}, {"router", router}, {"gateway", gateway}};
+} WORDS_ALONE[] = {{"once", once}, {"two", two}, {"address", of_address}, {"router", router}, {"accounts", accounts},
+                   {"gateway", gateway}};
 
 int main(int count, char **words)
 {

@@ -193,6 +193,22 @@ def each_fails_in_its_way():
             assert len(told) == len(set(told)) and {"can't connect: Connection refused", "the connection ended"} <= set(told), told
 
 
+def one_who_goes_at_once():
+    """Where somebody at one address takes a connection and closes it at once, the name's next address has its turn."""
+    with socket.socket() as first, socket.socket() as second:
+        first.bind(("127.0.0.2", 0))
+        port = first.getsockname()[1]
+        second.bind(("127.0.0.3", port))
+        for pc in first, second:
+            pc.listen()
+            pc.settimeout(LIMIT)
+        with routing(f"qemu-tcp connect {NAME}:{port}") as (names, gate):
+            names.gives("127.0.0.2", "127.0.0.3")
+            first.accept()[0].close()
+            with second.accept()[0]:
+                assert told_with(gate, f"127.0.0.3:{port}")
+
+
 def no_room_for_a_call():
     """Where the system has no room for a call, that is no fault of the address: the same one is called again, not the name's next."""
     clock, trouble = Clock(), Trouble()
@@ -279,7 +295,7 @@ def inside():
     if mounts.returncode != 0 or not all(os.path.exists(f"/etc/{it}") for it in ("hosts", "resolv.conf", "nsswitch.conf")):
         left_out("names that the test gives out", "its own can't stand in place of the system's")
         return Counts()
-    counts = tried(nobody_waits, an_end_doesnt_wait, reloads_beside_silence, the_next_address, each_fails_in_its_way,
+    counts = tried(nobody_waits, an_end_doesnt_wait, reloads_beside_silence, the_next_address, each_fails_in_its_way, one_who_goes_at_once,
                    no_room_for_a_call, its_own, asked_again, another_address)
     return counts + tried(of_six) if has_six() else counts
 

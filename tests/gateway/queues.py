@@ -37,6 +37,8 @@ TESTS = (
     named("what one receives at once, of one to 40 addresses", plays, "once"),
     named("for ten minutes four play by a line of 1 Mbit/s, beside one who says 1,000 long packets a second", plays, "line", 1000),
     named("for ten minutes clients and a link ask the router, and tell it, more than it hears", plays, "router"),
+    named("what an address says to the router on one network doesn't use up another network's limits, nor does what was said before a reload",
+          plays, "accounts"),
     named("for ten minutes clients and strangers ask the gateway, and ping all, more often than they may", plays, "gateway"),
     named("what a client has room for and its address hasn't counts for the client", plays, "address"),
     named("somebody floods an address' clients on a network that lets them receive little: on another they hear all", plays, "two"),

@@ -14,6 +14,7 @@ from trying import Counts, begin, left_out, tried, tried_inside
 NUMBER = 0x10
 PC, CARD = bytes.fromhex("020000000AA1"), bytes.fromhex("020000000BB2")
 EVEN = "10.77.0.1"
+LOOP_SOCKET = bytes.fromhex("8A5E")  # of the packets by which the gateway finds links that are one cable
 FEW = 4  # tries of half a second
 TWENTY = 20  # packets at once: fewer than a client's limit
 LASTS = 300  # seconds for which a station is known
@@ -216,7 +217,7 @@ def each_client_is_sure():
 
 
 def a_client_at_two_links():
-    """Whoever is a client at two links of a network is reached by the one where they registered last."""
+    """Whoever is a client at two links of a network is reached by the one where they registered, or answered a ping, last."""
     wire = Udp()
     with Cable(["dosbox 127.0.0.1:0", "dosbox 127.0.0.1:0", f"qemu-udp 0 {wire.port} raw"]) as gate:
         wire.to = gate.ports_of[2]
@@ -226,6 +227,9 @@ def a_client_at_two_links():
             one.ask()
             # (at first its answer to a ping may be under way)
             assert any(hears(one, tells(pc, one), AGAIN) and hears(pc, tells(one, pc), AGAIN) for _ in range(FEW)), f"at link {link}"
+        # (there it is still a client, and hasn't answered for a while)
+        one.udp.connect(("127.0.0.1", gate.ports_of[1]))
+        until(lambda: hears(one, tells(pc, one), AGAIN), "what is said to it where it answers")
 
 
 def shares_of_several_links():
@@ -278,6 +282,35 @@ def stations_are_shown():
         assert f"{PC.hex().upper()} at qemu-udp" in gate.report()
         samples = [it.split(" ")[0] for it in gate.asked("show", "counts", "--prometheus").splitlines() if not it.startswith("#")]
         assert len(samples) == len(set(samples)), "two links have one line of counts"
+
+
+def loop_packet(wire):
+    """The next packet by which the gateway looks for links that are one cable."""
+    while LOOP_SOCKET not in (found := wire.receive()[0]):
+        pass
+    return found
+
+
+def links_change_beneath_a_packet():
+    """A packet that comes back on another link shuts it; one that was sent before a reload changed the links, and comes behind it, doesn't."""
+    wires = [Udp(), Udp()]
+    with Cable([f"qemu-udp 0 {it.port} raw" for it in wires]) as gate:
+        for k, wire in enumerate(wires):
+            wire.to = gate.ports_of[k]
+        late = loop_packet(wires[0])
+        with open(gate.configuration, "a", encoding="utf-8") as file:
+            file.write(f"link qemu-udp 0 {Udp().port} raw\n")
+        gate.run.order(signal.SIGHUP)
+        gate.told(" was read again: networks and links: 1 added")
+        wires[1].send(late)
+        gate.until("own frame")
+        assert not any("it is one cable with" in line for line in gate.lines), gate.lines
+
+        def is_shut():
+            wires[1].send(loop_packet(wires[0]))
+            return gate.report() and any("it is one cable with" in line for line in gate.lines)
+
+        until(is_shut, "a packet of now shuts the link")
 
 
 def stations_age():
@@ -375,7 +408,8 @@ def a_bridge_behind_its_back():
 
 TESTS = (a_call_finds_all, an_answer_goes_to_one, a_node_moves, two_with_one_node, nobody_takes_a_clients_name, the_router_is_a_station,
          each_client_is_sure, a_client_at_two_links)
-OF_LINUX = (stations_are_shown, links_change_while_it_runs, clients_are_sure_after_a_reload, shares_of_several_links, stations_age)
+OF_LINUX = (stations_are_shown, links_change_while_it_runs, clients_are_sure_after_a_reload, links_change_beneath_a_packet,
+            shares_of_several_links, stations_age)
 
 
 def inside():
