@@ -1,4 +1,5 @@
 """Who runs the gateway sees what it does, asks it for reports, and tells it to end."""
+import contextlib
 import os
 import pty
 import re
@@ -11,13 +12,15 @@ import sys
 import tempfile
 import time
 
-from lab import AGAIN, EVERYONE, GAME, LIMIT, RIP, Client, Gateway, address, reaches, tunnels, until
+from lab import AGAIN, EVERYONE, GAME, LIMIT, RIP, Client, Gateway, address, played_anew, reaches, tunnels, until
 from systems import SYSTEM
 from trying import begin, has_linux, tried
 
 UNREACHABLE = 16  # hops
 CTRL_C = b"\x03"
 UNREAD, LONG_WORD = 3000, 1000  # packets that are more than the gateway and a pipe keep, and the bytes of each
+MORE_THAN_A_PIPE = 100  # of these that are more than a pipe keeps
+FIRST_FILES = 3  # standard input, output and error
 QUIET = 0.5  # seconds in which what was written has come
 PCAP_HEADER, RECORD = 24, 16  # bytes of a capture's header, and before each frame
 STALLED = 1000  # broadcasts, whose lines are more than the gateway and a pipe keep
@@ -169,19 +172,42 @@ def nobody_reads_the_fifo_yet():
             assert gate.run.returncode == 0 and b": expected a line that begins with network\n" in complaint, complaint
 
 
+@played_anew
+def its_reader_goes_at_the_end():
+    """That nobody reads a capture any more is told also where it happens behind the last frame, while the gateway ends."""
+    with tempfile.TemporaryDirectory() as folder:
+        fifo = os.path.join(folder, "fifo")
+        os.mkfifo(fifo)
+        with Gateway(tunnels(2, extra="rate none\nextend 4003\n"), options=["--pcap", fifo]) as gate:
+            a, b = Client(gate.ports[0x10]), Client(gate.ports[0x20])
+            for k in range(MORE_THAN_A_PIPE):
+                a.say(address(0, EVERYONE, GAME), b"%d " % k + bytes(LONG_WORD))
+                assert b.hear()[30:].startswith(b"%d " % k)
+            gate.run.order(SYSTEM.end)
+            gate.lines_to("end of report")
+            time.sleep(QUIET)
+            os.close(os.open(fifo, os.O_RDONLY | os.O_NONBLOCK))
+            _, complaint = gate.run.communicate(timeout=LIMIT)
+            assert gate.run.returncode == 0 and complaint == b"ipxr-gateway: the capture ends: nobody reads it any more\n", complaint
+
+
 def its_files_are_closed():
-    """Started without standard input, output and error, it gives their numbers to no link: a PC gets frames alone."""
-    with socket.create_server(("127.0.0.1", 0)) as server, tempfile.NamedTemporaryFile("w", encoding="ascii") as configuration:
-        configuration.write(f"network 10 1 1490 qemu-tcp connect {server.getsockname()[1]} raw\n")
+    """Started without standard input, output and error, it gives their numbers to no link: PCs get frames alone."""
+    with contextlib.ExitStack() as all_of_it:
+        servers = [all_of_it.enter_context(socket.create_server(("127.0.0.1", 0))) for _ in range(FIRST_FILES)]
+        configuration = all_of_it.enter_context(tempfile.NamedTemporaryFile("w", encoding="ascii"))
+        for k, server in enumerate(servers):
+            server.settimeout(LIMIT)
+            configuration.write(f"network {k + 1}0 1 1490 qemu-tcp connect {server.getsockname()[1]} raw\n")
         configuration.flush()
         run = subprocess.Popen(["sh", "-c", 'exec "$@" <&- >&- 2>&-', "sh", SYSTEM.program, "--log", configuration.name])
-        server.settimeout(LIMIT)
-        with server.accept()[0] as pc:
-            run.send_signal(signal.SIGUSR1)
-            select.select([pc], [], [], LIMIT)
-            said = read_all(pc.fileno())
-            run.terminate()
-            assert run.wait(timeout=LIMIT) == 0 and said and b"network" not in said + read_all(pc.fileno()), said
+        pcs = [all_of_it.enter_context(it.accept()[0]) for it in servers]
+        run.send_signal(signal.SIGUSR1)
+        select.select(pcs[-1:], [], [], LIMIT)
+        said = [read_all(it.fileno()) for it in pcs]
+        run.terminate()
+        assert run.wait(timeout=LIMIT) == 0
+        assert all(said) and not any(b"network" in it + read_all(pc.fileno()) for it, pc in zip(said, pcs)), said
 
 
 def a_capture_may_not_grow():
@@ -244,7 +270,8 @@ def typed():
 def main():
     counts = tried(reports, lines_come, nobody_reads, somebody_reads_slowly, seconds_pass, told_to_end, typed)
     if has_linux("captures into pipes, closed files and limits of files", "these are others there"):
-        for test in (nobody_reads_the_capture, nobody_reads_the_fifo_yet, its_files_are_closed, a_capture_may_not_grow):
+        for test in (nobody_reads_the_capture, nobody_reads_the_fifo_yet, its_reader_goes_at_the_end, its_files_are_closed,
+                     a_capture_may_not_grow):
             counts.run(test)
     return counts
 
