@@ -128,7 +128,7 @@ static size_t make_frame(network *on, uint8_t frame[MOST_RECEIVED])
     made_packet made;
     uint8_t to[NODE];
     station from = {.network = one_in(4) ? 0 : on->set->network};
-    uint8_t kind = on->set->kind != ANY_KIND && !one_in(8) ? on->set->kind : (uint8_t)between(1, 4);
+    uint8_t kind = on->set->kind != ANY_KIND && !one_in(8) ? on->set->kind : (uint8_t)between(1, IPXR_FRAME_KINDS);
     any_node(from.node);
     if (one_in(16))
         any_place(from.node);
