@@ -12,11 +12,11 @@ enum { BIT = 1000000, BITS = 8, USED = 9, OF = 10 };
 #define MILLISECOND UINT64_C(1000000)
 
 /* How long the line may need for what waits there, so that a copy finds room: where that is beyond all parts; where it is within the part
- * of the address, or the gateway says it to a stranger; where it is within the part that who says it has of that; and where he says little
- * to all together, too. So what is beyond goes out where the line is about to be idle, and what is within finds it short. */
+ * of the address; where it is within the part that who says it has of that; and where he says little to all together, too, or the gateway
+ * says it to a stranger within their part: whoever fills the line locks nobody out. So what is beyond goes out where the line is about to be
+ * idle, and what is within finds it short. */
 #define MOST_BEYOND (20 * MILLISECOND)
 #define MOST_WITHIN (40 * MILLISECOND)
-#define MOST_FOR_STRANGERS (60 * MILLISECOND)
 #define MOST_WITHIN_HIS (125 * MILLISECOND)
 #define MOST_OF_LITTLE (250 * MILLISECOND)
 
@@ -220,7 +220,7 @@ void line_send_own(size_t length)
 
 bool line_lets_strangers(void)
 {
-    return is_within(&the.to_strangers, PART_OF_OWN, MOST_OF_ONE) && limit_ahead(&the.used) <= MOST_FOR_STRANGERS;
+    return is_within(&the.to_strangers, PART_OF_OWN, MOST_OF_ONE) && limit_ahead(&the.used) <= MOST_OF_LITTLE;
 }
 
 void line_send_to_stranger(size_t length)

@@ -470,6 +470,7 @@ static void accounts(void)
         speaker_leave(list[k].clients[0].speaks); /* (the sanitizers see that nothing is left of the address) */
         free(list[k].clients[0].queues);
     }
+    printf("%d advertisements heard on one network, then %d on another\n", LARGE, AT_ONCE);
 }
 
 /* ---- What the gateway answers, and carries to all ---- */

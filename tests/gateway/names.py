@@ -225,7 +225,6 @@ def no_room_for_a_call():
             assert told_with(gate, f"127.0.0.2:{port}")
             with trouble.fails("socket", errno.EMFILE):
                 first.accept()[0].close()
-                gate.told("network 00000020 is down")
                 clock.let_pass(1)
                 assert gate.told("can't connect").endswith(": Too many open files")
             until(lambda: clock.let_pass(1) or gate.report() and sum(" is up: qemu-tcp" in it for it in gate.lines) == 2, "one more call")
