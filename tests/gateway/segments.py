@@ -15,7 +15,7 @@ NUMBER = 0x10
 PC, CARD = bytes.fromhex("020000000AA1"), bytes.fromhex("020000000BB2")
 EVEN = "10.77.0.1"
 LOOP_SOCKET = bytes.fromhex("8A5E")  # of the packets by which the gateway finds links that are one cable
-FEW = 4  # tries of half a second
+FEW, MANY = 4, 30  # tries of half a second: pings come after five seconds, and who answers none leaves after 30
 TWENTY = 20  # packets at once: fewer than a client's limit
 LASTS = 300  # seconds for which a station is known
 SIX_HUNDRED = 600  # clients: more than there are stations
@@ -222,14 +222,22 @@ def a_client_at_two_links():
     with Cable(["dosbox 127.0.0.1:0", "dosbox 127.0.0.1:0", f"qemu-udp 0 {wire.port} raw"]) as gate:
         wire.to = gate.ports_of[2]
         pc, one = Station(wire, "raw", NUMBER, PC, gate.nodes[NUMBER]), gate.client()
-        for link in (1, 0, 1, 0):
+
+        def goes_to(link, registers=True):
             one.udp.connect(("127.0.0.1", gate.ports_of[link]))
-            one.ask()
-            # (at first its answer to a ping may be under way)
-            assert any(hears(one, tells(pc, one), AGAIN) and hears(pc, tells(one, pc), AGAIN) for _ in range(FEW)), f"at link {link}"
-        # (there it is still a client, and hasn't answered for a while)
-        one.udp.connect(("127.0.0.1", gate.ports_of[1]))
-        until(lambda: hears(one, tells(pc, one), AGAIN), "what is said to it where it answers")
+            if registers:
+                one.ask()
+
+        def is_reached(tries=FEW):
+            return any(hears(one, tells(pc, one), AGAIN) and hears(pc, tells(one, pc), AGAIN) for _ in range(tries))
+
+        # (at first its answer to a ping may be under way, later it answers none)
+        for link, one.answers in ((1, True), (0, True), (1, False), (0, False)):
+            goes_to(link)
+            assert is_reached(), f"at link {link}, where it registered last"
+        one.answers = True
+        goes_to(1, registers=False)
+        assert is_reached(MANY), "where it answered last"
 
 
 def shares_of_several_links():
