@@ -367,7 +367,7 @@ static void hear(gateway *it, network *on, const ipxr_sender *sender, const uint
     reason why = why_lost(on, from != NULL, said, has_length(bytes, length));
     if (from != NULL) {
         from->ping.waits = from->ping.waits && !has_replied(from, said);
-        if (said == IPXR_REGISTERS || said == IPXR_SPEAKS)
+        if (said != IPXR_SAID_NOTHING)
             segment_client(on, from->place, true); /* (it may be a client at another link of the network, too) */
         answer_client(on, from);
     } else if (!answer_stranger(on, sender->place, said == IPXR_REGISTERS))
