@@ -1,5 +1,6 @@
 """Networks of several links: DOSBox, emulators' cards, TAPs and Ethernet as one cable."""
 import re
+import select
 import signal
 import time
 
@@ -15,6 +16,7 @@ NUMBER = 0x10
 PC, CARD = bytes.fromhex("020000000AA1"), bytes.fromhex("020000000BB2")
 EVEN = "10.77.0.1"
 LOOP_SOCKET = bytes.fromhex("8A5E")  # of the packets by which the gateway finds links that are one cable
+OLD = 5  # seconds, after which such a packet isn't under way any more
 FEW, MANY = 4, 30  # tries of half a second: pings come after five seconds, and who answers none leaves after 30
 TWENTY = 20  # packets at once: fewer than a client's limit
 LASTS = 300  # seconds for which a station is known
@@ -292,6 +294,10 @@ def stations_are_shown():
         assert len(samples) == len(set(samples)), "two links have one line of counts"
 
 
+def is_anything_in(wire):
+    return bool(select.select([wire], [], [], 0)[0])
+
+
 def loop_packet(wire):
     """The next packet by which the gateway looks for links that are one cable."""
     while LOOP_SOCKET not in (found := wire.receive()[0]):
@@ -300,18 +306,23 @@ def loop_packet(wire):
 
 
 def links_change_beneath_a_packet():
-    """A packet that comes back on another link shuts it; one that was sent before a reload changed the links, and comes behind it, doesn't."""
+    """A packet that comes back on another link shuts it; an old one doesn't, nor one of before a reload that changed the links."""
     wires = [Udp(), Udp()]
     with Cable([f"qemu-udp 0 {it.port} raw" for it in wires]) as gate:
         for k, wire in enumerate(wires):
             wire.to = gate.ports_of[k]
-        late = loop_packet(wires[0])
+        old = loop_packet(wires[0])
+        time.sleep(OLD)
+        wires[1].send(old)
+        gate.until("own frame: 1")
+        while (late := loop_packet(wires[0])) and is_anything_in(wires[0]):
+            pass
         with open(gate.configuration, "a", encoding="utf-8") as file:
             file.write(f"link qemu-udp 0 {Udp().port} raw\n")
         gate.run.order(signal.SIGHUP)
         gate.told(" was read again: networks and links: 1 added")
         wires[1].send(late)
-        gate.until("own frame")
+        gate.until("own frame: 2")
         assert not any("it is one cable with" in line for line in gate.lines), gate.lines
 
         def is_shut():

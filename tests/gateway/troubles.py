@@ -138,6 +138,19 @@ class Trouble:
             os.remove(self.name)
 
 
+def a_fifo_cannot_be_opened():
+    """Where the system has no file left for the FIFO of a capture, that is told, and it routes on."""
+    trouble = Trouble()
+    with tempfile.TemporaryDirectory() as folder, trouble.fails("open", errno.EMFILE):
+        fifo = os.path.join(folder, "fifo")
+        os.mkfifo(fifo)
+        with Gateway(tunnels(2), SYSTEM.troubled, ["--pcap", fifo], trouble.environment()) as gate:
+            assert reaches(Client(gate.ports[0x10]), Client(gate.ports[0x20]))
+            gate.run.order(SYSTEM.end)
+            _, complaint = gate.run.communicate(timeout=LIMIT)
+            assert gate.run.returncode == 0 and complaint == b"ipxr-gateway: the capture ends: Too many open files\n", complaint
+
+
 def knocks(gate):
     """Somebody connects, and goes again."""
     with contextlib.suppress(OSError), socket.create_connection(("127.0.0.1", gate.ports[0x40]), timeout=AGAIN):
@@ -570,9 +583,9 @@ def who_is_refused():
 
 
 def main():
-    return tried(each_fails, each_fails_for_a_while, cannot_wait, nobody_is_taken, no_room_to_receive, no_memory_for_a_second,
-                 one_is_refused, who_is_silent, who_left, stands_still, who_spoke_meanwhile, each_has_its_turn, what_was_heard_lately,
-                 interrupted, few_strangers, late_answers, who_is_refused, an_hour, full_tables, who_stays)
+    return tried(each_fails, each_fails_for_a_while, a_fifo_cannot_be_opened, cannot_wait, nobody_is_taken, no_room_to_receive,
+                 no_memory_for_a_second, one_is_refused, who_is_silent, who_left, stands_still, who_spoke_meanwhile, each_has_its_turn,
+                 what_was_heard_lately, interrupted, few_strangers, late_answers, who_is_refused, an_hour, full_tables, who_stays)
 
 
 if __name__ == "__main__":

@@ -14,7 +14,8 @@ enum { SECOND = 1000 /* milliseconds */ };
 
 static struct {
     int file;
-    const char *fifo; /* to be opened, or NULL */
+    const char *fifo; /* to be opened, or NULL; */
+    int fault;        /* and why it couldn't be, or 0 */
     pthread_mutex_t lock;
     sem_t woken;
     void (*write_on)(writer which);
@@ -24,8 +25,8 @@ static struct {
 static void *run(void *given)
 {
     writer which = *(writer *)given;
-    if (writers[which].fifo != NULL)
-        writers[which].file = open(writers[which].fifo, O_WRONLY | O_CLOEXEC);
+    if (writers[which].fifo != NULL && (writers[which].file = open(writers[which].fifo, O_WRONLY | O_CLOEXEC)) < 0)
+        writers[which].fault = errno;
     writers[which].write_on(which);
     return NULL;
 }
@@ -97,6 +98,8 @@ ssize_t writer_write(writer which, const char *bytes, size_t count)
 {
     ssize_t written;
     struct pollfd room = {writers[which].file, POLLOUT, 0};
+    if ((errno = writers[which].fault) != 0)
+        return -1;
     do
         written = write(writers[which].file, bytes, count);
     while (written < 0 && (errno == EINTR || (errno == EAGAIN && poll(&room, 1, SECOND) > 0)));
