@@ -187,13 +187,17 @@ def nobody_hears_of_it():
 
 
 def no_connection_stays():
-    """Whoever takes a connection and closes it at once, again and again, isn't told to anybody; one that stays is."""
+    """Whoever takes a connection and closes it at once, again and again, with or without a word, isn't told to anybody; one that stays is."""
+    said = frame("raw", EVERYONE, STATION, packet(address(0, EVERYONE, GAME), address(0, STATION, GAME), b"I am here"))
     with socket.create_server(("127.0.0.1", 0)) as server:
         server.settimeout(LIMIT)
         with Gateway(tunnels(1) + f"network 20 1 1490 qemu-tcp connect {server.getsockname()[1]} raw\n") as gate:
             gate.told("network 00000020 is down")
-            for _ in range(3):
-                server.accept()[0].close()
+            for words in (b"", len(said).to_bytes(4, "big") + said, b""):
+                connection = server.accept()[0]
+                with gate.run.halted():
+                    connection.sendall(words)
+                    connection.close()
             with server.accept()[0]:
                 gate.told("network 00000020 is up")
             told = [line for line in gate.lines if "network 00000020 is" in line]
