@@ -108,14 +108,19 @@ def each_in_its_kind():
         assert it.gate.counted(CABLE, "second kind of a station") == 0
 
 
+def is_among(found, kind, data):
+    """Whether one of the frames is of that kind and has the data."""
+    return any((inside := unframed(kind, one)) and inside[30:] == data for one in found)
+
+
 def all_in_what_was_heard():
     """A broadcast goes out in all kinds as long as none was heard, then in those that were; it counts as one packet."""
     with Tried() as it:
         data = fresh()
         it.far.send(packet(address(0x10, EVERYONE, SOCKET), it.far.at(), data))
-        found = [it.wire.receive()[0] for _ in range(4) if ready(it.wire)]
-        while len(found) < 4 or not all(any((inside := unframed(kind, one)) and inside[30:] == data for one in found) for kind in KINDS):
-            found += it.wire.receive() if ready(it.wire) else never("four kinds")
+        found = [it.wire.receive()[0] for _ in KINDS if ready(it.wire)]
+        while len(found) < len(KINDS) or not all(is_among(found, kind, data) for kind in KINDS):
+            found += it.wire.receive() if ready(it.wire) else never("all kinds")
         it.says("raw", node(1))
         assert it.gate.told("hears raw: qemu-udp").startswith(f"{it.gate.lines[-1].split()[0]} network {CABLE:08X} hears raw")
         assert it.comes(EVERYONE) == ["raw"]
@@ -228,7 +233,7 @@ def on_one_network():
                     pass
                 assert found == kind
             called = calls(one)
-            assert sorted(in_kind(wire, called) for _ in range(4)) == sorted(KINDS)
+            assert sorted(in_kind(wire, called) for _ in KINDS) == sorted(KINDS)
         report = gate.report()
         assert all(f"{node(k).hex().upper()} at qemu-udp 127.0.0.1:{wire.to} 127.0.0.1:{wire.port} auto, {kind}\n" in report
                    for k, kind in enumerate(KINDS)), report

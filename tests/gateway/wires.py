@@ -26,7 +26,7 @@ def all_kinds():
     with Gateway(text) as gate:
         node = gate.nodes[0x20]
         far = Client(gate.ports[0x10])
-        for network in range(0x20, 0x24):
+        for network in range(0x20, 0x20 + len(KINDS)):
             gate.until(f"network {network:08X} up")
         hosts = [Station(Packets("v1", kind), kind, 0x20 + k, STATION[:5] + bytes([k]), node) for k, kind in enumerate(KINDS)]
         for host in hosts:
@@ -35,7 +35,7 @@ def all_kinds():
             for other in hosts:
                 assert one is other or reaches(one, other), f"{one.kind} to {other.kind}"
         report = gate.report()
-        assert all(gate.counted(0x20 + k, what, report) == 0 for k in range(4) for what in ("no IPX", "another kind of frame"))
+        assert all(gate.counted(0x20 + k, what, report) == 0 for k in range(len(KINDS)) for what in ("no IPX", "another kind of frame"))
     ip("link", "del", "v0")
 
 
