@@ -37,8 +37,9 @@ CALLS = [
     ("close", errno.EIO, 3),
     ("clock_gettime", errno.EINVAL, 4),
     ("fopen", errno.EACCES, 2),
-    ("fwrite", errno.ENOSPC, 4),
-    ("fflush", errno.ENOSPC, 2),
+    ("open", errno.EMFILE, 2),
+    ("write", errno.ENOSPC, 4),
+    ("write", errno.EINTR, 2),
     ("malloc", errno.ENOMEM, 6),
     ("realloc", errno.ENOMEM, 3),
     ("getrandom", errno.ENOSYS, 1),
@@ -85,7 +86,7 @@ def ends_well(gate, which):
     _, complaint = gate.run.communicate(timeout=LIMIT)
     text = complaint.decode()
     assert gate.run.returncode == 0, f"{which}: it ended with {gate.run.returncode}: {text}"
-    assert not text or re.fullmatch(r"ipxr-gateway: the capture (ends|can't be closed): .*\n", text), f"{which}: {text}"
+    assert not text or re.fullmatch(r"ipxr-gateway: the capture ends: .*\n", text), f"{which}: {text}"
     gate.folder.cleanup()
 
 

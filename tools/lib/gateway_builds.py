@@ -15,7 +15,7 @@ FLAGS_OF_WINDOWS = ["-municode", "-s", "-Wl,--no-insert-timestamp"]
 # The calls of the system that tests/gateway/trouble.c stands in front of, and the one by which somebody wants a reload.
 TROUBLED = """
     socket bind getsockname setsockopt getsockopt connect listen accept recv recvmmsg send sendto sendmmsg poll open close read write
-    ioctl fcntl clock_gettime fopen fdopen fwrite fflush malloc calloc realloc open_memstream getrandom
+    ioctl fcntl clock_gettime fopen fdopen malloc calloc realloc open_memstream getrandom
     reload_for""".split()
 # The calls that tests/gateway/made_up stands in front of: memory, and what each packet passes.
 WATCHED = """
