@@ -137,7 +137,7 @@ bool loop_hears(gateway *it, network *on, const uint8_t *packet, size_t length)
     port *router_port = port_of(it, on);
     network *other = first_of(it, router_port) + packet[HEADER + AT_LINK];
     if (packet[HEADER + AT_LINK] >= router_port->count)
-        return true; /* (there were more links when it was sent) */
+        return true; /* (none does: its seal is of the links as they are now) */
     if (other < on)
         shut(it, on, other);
     else if (other > on && !other->loop.is_shut)
