@@ -392,10 +392,10 @@ def a_late_answer():
             gate.report()
             with gate.run.halted():
                 slow.settimeout(LIMIT)
-                for it in others:
-                    slow.accept()[0].close()
-                    it.close()
-                connection = slow.accept()[0]
+                connection, caller = slow.accept()
+                while caller in [it.getsockname() for it in others]:
+                    connection.close()
+                    connection, caller = slow.accept()
                 clock.let_pass(LATE)
             with connection:
                 until(lambda: clock.let_pass(1) or " is up: " in gate.report() + "".join(gate.lines), "a connection")
