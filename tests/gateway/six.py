@@ -51,7 +51,9 @@ def connections():
         pc.bind((OWN, 0))
         pc.listen()
         with Gateway(link(f"qemu-tcp connect [::1]:{pc.getsockname()[1]}")) as gate:
-            talks(gate, Tcp(pc.accept()[0]))
+            called = Tcp(pc.accept()[0])
+            gate.told("network 00000020 is up")
+            talks(gate, called)
 
 
 def both_kinds():
