@@ -1,8 +1,9 @@
 -- A packet that arrives: it comes through one router after the other, a stated number of them, and leaves on the network that it is for.
-use Rattle.std.specs.Prelude.{◌≡◌, ℕ, zero, suc, ◌+◌, ◌<◌, ◌≤◌, true, false, List, [], ◌∷◌, ◌++◌, length}
+use Rattle.std.specs.Prelude.{◌≡◌, ◌≢◌, ℕ, zero, suc, ◌+◌, ◌<◌, ◌≤◌, true, false, List, [], ◌∷◌, ◌++◌, length, Some}
 use Rattle.std.specs.List.{AllByRecursion}
 use Rattle.ipx_wire.specs.Forward.{forwarded}
 use Rattle.ipx_wire.specs.Packet.{Parts, IsPacket}
+use Rattle.ipx_wire.specs.Piece.{IsBytes}
 use Rattle.ipx_wire.specs.Write.{packet_bytes}
 use Rattle.ipx_wire.specs.declared.address.Address.{Address}
 use Rattle.ipx_wire.specs.declared.network.Network.{Network}
@@ -13,7 +14,7 @@ use Rattle.ipx_router.specs.Relays.{Sent}
 use Rattle.ipx_router.specs.Why.{is_propagated, is_own_echo, is_bad_source}
 use Rattle.ipx_internet.specs.Internet.{Internet, Place, IsPlace, ports_of, port_of, network_of}
 use Rattle.ipx_internet.specs.Tree.{Router, Copy, IsTree, router_at, forwards, children}
-use Rattle.ipx_laws.specs.Least.{is_up_on, most_hops, neighbours, way_by, ways_within, least}
+use Rattle.ipx_laws.specs.Least.{Way, is_up_on, most_hops, neighbours, way_by, ways_within, least}
 
 -- a packet of a host for one network: its source isn't the broadcast node, no port of a router sent it, and it is for no port of a router
 pub record IsOfHost (net : Internet) (p : Parts) : Type 0 where
@@ -36,6 +37,14 @@ module _ (net : Internet) (up : ℕ → List ℕ) (size : ℕ) where
   IsShort network (suc hops) router =
       AllByRecursion (λ from. way_by net (ways_within net up most_hops network) from ≡ least net up router network
       → IsAllowed router (network_of net from) × IsShort network hops from.router) (neighbours net up router)
+
+-- where those ports of each router are up, bytes of a host's packet come to one of them, not on the network that it is for; that way is
+-- the router's least, no port on it finds the packet too long, and fewer than 16 routers are behind it and before it
+abbrev pub CanArrive : Internet → (ℕ → List ℕ) → Place → List ℕ → Parts → Way → Type 0
+CanArrive net up place bytes p way =
+    IsPlace net place × (is_up (up place.router) place.port ≡ true) × IsBytes bytes × IsPacket bytes p × IsOfHost net p
+    × (network_of net place ≢ p.header.destination.network) × (least net up place.router p.header.destination.network ≡ Some way)
+    × IsShort net up p.header.length p.header.destination.network way.hops place.router × (p.header.control + way.hops < most_routers)
 
 -- bytes of a packet that came through that many routers, as its transport control says, and these are fewer than 16; and what is sent on of
 -- it: the same packet but for its transport control, which is one more

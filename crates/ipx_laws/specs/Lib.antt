@@ -16,6 +16,8 @@ pub mod Nearest
 pub mod Real
 -- Least
 pub mod Least
+-- Setting
+pub mod Setting
 -- Tables, Losses, Gains
 pub mod Tables
 pub mod Losses

@@ -12,6 +12,7 @@ use Rattle.ipx_router.specs.Heard.{Heard, HeardRip, HeardSap, heard_in}
 use Rattle.ipx_router.specs.History.{Event, Packet, Second}
 use Rattle.ipx_router.specs.Numbers.{rip_socket, sap_socket, unreachable}
 use Rattle.ipx_router.specs.Why.{is_propagated, is_for_rip, is_for_sap}
+use Rattle.ipx_internet.specs.BusyTick.{IsBusyTick}
 use Rattle.ipx_internet.specs.Internet.{Internet}
 use Rattle.ipx_internet.specs.Run.{Step, Happens, Settles, Run, stepped, run_of}
 use Rattle.ipx_laws.specs.Gone.{IsGone}
@@ -78,6 +79,10 @@ SaysOnly Says Settles = Unit
 
 -- ---- ticks
 
+-- each step of each tick is such
+abbrev pub EachStep : (Step → Type 0) → List (List Step) → Type 0
+EachStep Is ticks = AllByRecursion (AllByRecursion Is) ticks
+
 module _ (net : Internet) (most_routes most_services : ℕ) where
   -- before the first step and after each, no router has a port up on that network
   abbrev pub StaysGone : Network → Run → List Step → Type 0
@@ -88,3 +93,11 @@ module _ (net : Internet) (most_routes most_services : ℕ) where
   abbrev pub EachTick : (Run → List Step → Type 0) → Run → List (List Step) → Type 0
   EachTick Is run [] = Unit
   EachTick Is run (steps ∷ ticks) = Is run steps × EachTick Is (run_of net most_routes most_services run steps) ticks
+
+  -- in each of them anything may happen
+  abbrev pub AreBusyTicks : Run → List (List Step) → Type 0
+  AreBusyTicks run ticks = EachTick (IsBusyTick net most_routes most_services) run ticks
+
+  -- in each of them hosts may speak, but ports stay as they are and routers run on
+  abbrev pub AreTicksOfHosts : Run → List (List Step) → Type 0
+  AreTicksOfHosts run ticks = AreBusyTicks run ticks × EachStep LeavesPorts ticks

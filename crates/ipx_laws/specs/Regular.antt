@@ -13,7 +13,8 @@ use Rattle.ipx_internet.specs.Queue.{history_of}
 use Rattle.ipx_internet.specs.Run.{Step, Happens, Settles, Run, stepped}
 use Rattle.ipx_internet.specs.Ticks.{ticked}
 use Rattle.ipx_laws.specs.Gone.{most_ticks_gone}
-use Rattle.ipx_laws.specs.Servers.{Announcer, Server, at_hops}
+use Rattle.ipx_laws.specs.Meanwhile.{SaysOnly, EachStep}
+use Rattle.ipx_laws.specs.Servers.{Announcer, Server, at_hops, SaysNoFalse, NamesOnly}
 
 -- a response of that host names the service, with its address and this host's hops
 abbrev pub Announces : Server → Announcer → Heard → Type 0
@@ -63,6 +64,16 @@ IsListedName names name = (which : ℕ) × (slice_get names which ≡ Some name)
 pub record HasRoomFor (net : Internet) (most_services : ℕ) (names : List (ℕ × List ℕ)) : Type 0 where
   pub table : length names ≤ most_services
   pub shares : AllByRecursion (λ ports. AllByRecursion (λ p. length names ≤ p.service_share) ports) net
+
+-- each host says one number of hops, and of the listed names, of which this server's is one, each table has room for all
+abbrev pub IsListed : Internet → ℕ → List (ℕ × List ℕ) → Server → Type 0
+IsListed net most_services names server = HaveOneVoice server × HasRoomFor net most_services names × IsListedName names (server.kind, server.name)
+
+-- in those ticks hosts say nothing false of the service, name listed ones alone, and are heard in time
+abbrev pub AreRegular : Internet → ℕ → ℕ → Server → List (ℕ × List ℕ) → (ℕ → List ℕ) → Run → List (List Step) → Type 0
+AreRegular net most_routes most_services server names up run ticks =
+    EachStep (SaysNoFalse net server) ticks × EachStep (SaysOnly (NamesOnly (IsListedName names))) ticks
+    × AreInTime net most_routes most_services server up run ticks
 
 -- the ticks after which a router has a service whose fewest hops there are so many, where each host says that many hops at least: those after which
 -- what is false of it is gone, and a period for each router on the way

@@ -6,31 +6,28 @@ pub mod services;
 
 ghost use Rattle.std.specs.Prelude.{◌≡◌, ◌≢◌, ℕ, ◌+◌, ◌<◌, ◌≤◌, true, false, List, [], ◌∷◌, ◌++◌, length, map, flat_map, Some};
 ghost use Rattle.std.specs.List.{AllByRecursion};
-ghost use Rattle.std.specs.Option.{option_map};
-ghost use Rattle.ipx_wire.specs.Packet.{Parts, IsPacket};
-ghost use Rattle.ipx_wire.specs.Piece.{IsBytes};
+ghost use Rattle.ipx_wire.specs.Packet.{Parts};
 ghost use Rattle.ipx_wire.specs.declared.address.Address.{Address};
 ghost use Rattle.ipx_wire.specs.declared.network.Network.{Network};
-ghost use Rattle.ipx_router.specs.Facts.{routes_held, services_held, offers};
+ghost use Rattle.ipx_router.specs.Facts.{services_held};
 ghost use Rattle.ipx_router.specs.History.{History};
 ghost use Rattle.ipx_router.specs.Numbers.{most_routers};
-ghost use Rattle.ipx_router.specs.Outgoing.{route_to};
 ghost use Rattle.ipx_router.specs.Port.{broadcast, is_up};
-ghost use Rattle.ipx_internet.specs.BusyTick.{IsBusyTick};
-ghost use Rattle.ipx_internet.specs.Internet.{Internet, Place, IsInternet, NodesDiffer, IsPlace, network_of, ports_of};
+ghost use Rattle.ipx_internet.specs.Internet.{Internet, Place, IsInternet, ports_of};
 ghost use Rattle.ipx_internet.specs.Queue.{history_of};
-ghost use Rattle.ipx_internet.specs.Rounds.{IsDelivery};
 ghost use Rattle.ipx_internet.specs.Run.{Step, IsStep, AreHistories, Run, begun, run_of};
 ghost use Rattle.ipx_internet.specs.Ticks.{AreTicks, ticked};
 ghost use Rattle.ipx_internet.specs.Traced.{routers_after};
 ghost use Rattle.ipx_internet.specs.Tree.{Router, Copy, root, tree_to};
 ghost use Rattle.ipx_laws.specs.Announces.{IsAnnounced, AsksApart};
-ghost use Rattle.ipx_laws.specs.Arriving.{IsOfHost, IsShort, Arrives, EndsOn};
+ghost use Rattle.ipx_laws.specs.Arriving.{IsOfHost, CanArrive, Arrives, EndsOn};
 ghost use Rattle.ipx_laws.specs.Departure.{ObservesHorizon, departures, handed, deliveries_from};
 ghost use Rattle.ipx_laws.specs.Gone.{most_ticks_gone, IsGone};
-ghost use Rattle.ipx_laws.specs.Least.{Way, is_better, least, IsWay, most_hops, AreCheap, HasRoom, FifteenSuffice, CostTheSame, least_route, way_of, ticks_right, most_ticks_right};
-ghost use Rattle.ipx_laws.specs.Meanwhile.{IsWithoutRoute, IsWithoutService, SaysOnly, StaysGone, EachTick};
+ghost use Rattle.ipx_laws.specs.Least.{Way, is_better, least, IsWay, most_hops, FifteenSuffice, CostTheSame, least_route, ticks_right, most_ticks_right};
+ghost use Rattle.ipx_laws.specs.Meanwhile.{IsWithoutRoute, IsWithoutService, SaysOnly, EachStep, StaysGone, EachTick, AreBusyTicks};
 ghost use Rattle.ipx_laws.specs.Real.{IsReal, led_over};
+ghost use Rattle.ipx_laws.specs.Setting.{IsSetting, AreDeliveries};
+ghost use Rattle.ipx_laws.specs.Tables.{routes_of, route_of, AreReal, IsRight, services_of};
 ghost use Rattle.ipx_laws.specs.Ups.{ups};
 
 pub use crate::laws::costs::{tables_stay, upkeep};
@@ -62,10 +59,9 @@ pub fn horizon()
 /// waits. Nothing else happens: packets of hosts, starts and stops, and ports that go down or come up aren't in it.
 pub fn gone()
     ensures networks { (net : Internet) (most_routes most_services : ℕ) (histories : List History) (ticks : List (List Step)) (router : ℕ) (network : Network)
-        → IsInternet net → AreHistories net histories → AreTicks net most_routes most_services (begun histories) ticks → most_ticks_gone ≤ length ticks
-        → router < length net → IsGone net histories network
-        → AllByRecursion (λ r. r.network ≢ network)
-        (offers (routes_held (ports_of net router) most_routes (history_of (ticked net most_routes most_services (begun histories) ticks).histories router))) }
+        → IsInternet net → AreHistories net histories → AreTicks net most_routes most_services (begun histories) ticks
+        → most_ticks_gone ≤ length ticks → router < length net → IsGone net histories network
+        → AllByRecursion (λ r. r.network ≢ network) (routes_of net most_routes (ticked net most_routes most_services (begun histories) ticks).histories router) }
     ensures services { (net : Internet) (most_routes most_services : ℕ) (histories : List History) (ticks : List (List Step)) (router : ℕ)
         → IsInternet net → AreHistories net histories → AreTicks net most_routes most_services (begun histories) ticks → most_ticks_gone ≤ length ticks
         → router < length net
@@ -85,18 +81,16 @@ pub fn gone()
 /// not sent from the socket of SAP, nor a query for services from that of RIP: the answer would be read as what it is not.
 pub fn gone_meanwhile()
     ensures networks { (net : Internet) (most_routes most_services : ℕ) (histories : List History) (ticks : List (List Step)) (router : ℕ) (network : Network)
-        → IsInternet net → AreHistories net histories
-        → EachTick net most_routes most_services (IsBusyTick net most_routes most_services) (begun histories) ticks → most_ticks_gone ≤ length ticks
-        → router < length net → EachTick net most_routes most_services (StaysGone net most_routes most_services network) (begun histories) ticks
-        → AllByRecursion (AllByRecursion (SaysOnly (IsWithoutRoute network))) ticks
-        → AllByRecursion (λ r. r.network ≢ network)
-        (offers (routes_held (ports_of net router) most_routes (history_of (ticked net most_routes most_services (begun histories) ticks).histories router))) }
+        → IsInternet net → AreHistories net histories → AreBusyTicks net most_routes most_services (begun histories) ticks
+        → most_ticks_gone ≤ length ticks → router < length net
+        → EachTick net most_routes most_services (StaysGone net most_routes most_services network) (begun histories) ticks
+        → EachStep (SaysOnly (IsWithoutRoute network)) ticks
+        → AllByRecursion (λ r. r.network ≢ network) (routes_of net most_routes (ticked net most_routes most_services (begun histories) ticks).histories router) }
     ensures services { (net : Internet) (most_routes most_services : ℕ) (histories : List History) (ticks : List (List Step)) (router : ℕ) (key : ℕ × List ℕ)
-        → IsInternet net → AreHistories net histories
-        → EachTick net most_routes most_services (IsBusyTick net most_routes most_services) (begun histories) ticks → most_ticks_gone ≤ length ticks
-        → router < length net → AllByRecursion (AllByRecursion (SaysOnly (IsWithoutService key))) ticks
+        → IsInternet net → AreHistories net histories → AreBusyTicks net most_routes most_services (begun histories) ticks
+        → most_ticks_gone ≤ length ticks → router < length net → EachStep (SaysOnly (IsWithoutService key)) ticks
         → AllByRecursion (λ s. (s.service.kind, s.service.name) ≢ key)
-        (offers (services_held (ports_of net router) most_services (history_of (ticked net most_routes most_services (begun histories) ticks).histories router))) }
+        (services_of net most_services (ticked net most_routes most_services (begun histories) ticks).histories router) }
 {
     ipx_wire::laws::readings();
     ipx_wire::laws::service_readings();
@@ -114,17 +108,16 @@ pub fn gone_meanwhile()
 /// sent from the socket of SAP.
 pub fn announced()
     ensures services { (net : Internet) (most_routes most_services : ℕ) (histories : List History) (ticks : List (List Step)) (router : ℕ)
-        → IsInternet net → AreHistories net histories
-        → EachTick net most_routes most_services (IsBusyTick net most_routes most_services) (begun histories) ticks → most_ticks_gone ≤ length ticks
-        → router < length net → AllByRecursion (AllByRecursion (SaysOnly AsksApart)) ticks
+        → IsInternet net → AreHistories net histories → AreBusyTicks net most_routes most_services (begun histories) ticks
+        → most_ticks_gone ≤ length ticks → router < length net → EachStep (SaysOnly AsksApart) ticks
         → AllByRecursion (λ s. IsAnnounced net most_routes most_services (begun histories) ticks s.service)
-        (offers (services_held (ports_of net router) most_services (history_of (ticked net most_routes most_services (begun histories) ticks).histories router))) }
+        (services_of net most_services (ticked net most_routes most_services (begun histories) ticks).histories router) }
     ensures whatever_waits { (net : Internet) (most_routes most_services : ℕ) (run : Run) (first : List Step) (ticks : List (List Step)) (router : ℕ)
-        → IsInternet net → AreHistories net run.histories → AllByRecursion (λ w. IsDelivery net w.delivery) run.waiting
-        → EachTick net most_routes most_services (IsBusyTick net most_routes most_services) run (first ∷ ticks) → most_ticks_gone ≤ length ticks
-        → router < length net → AllByRecursion (AllByRecursion (SaysOnly AsksApart)) ticks
+        → IsInternet net → AreHistories net run.histories → AreDeliveries net run.waiting
+        → AreBusyTicks net most_routes most_services run (first ∷ ticks) → most_ticks_gone ≤ length ticks → router < length net
+        → EachStep (SaysOnly AsksApart) ticks
         → AllByRecursion (λ s. IsAnnounced net most_routes most_services (run_of net most_routes most_services run first) ticks s.service)
-        (offers (services_held (ports_of net router) most_services (history_of (ticked net most_routes most_services run (first ∷ ticks)).histories router))) }
+        (services_of net most_services (ticked net most_routes most_services run (first ∷ ticks)).histories router) }
 {
     ipx_wire::laws::readings();
     ipx_wire::laws::service_readings();
@@ -140,20 +133,19 @@ pub fn announced()
 /// any number of ticks (`own_ports`).
 pub fn real()
     ensures routes { (net : Internet) (most_routes most_services : ℕ) (histories : List History) (ticks : List (List Step)) (router : ℕ)
-        → IsInternet net → AreHistories net histories → AreTicks net most_routes most_services (begun histories) ticks → most_ticks_gone ≤ length ticks
-        → router < length net
+        → IsInternet net → AreHistories net histories → AreTicks net most_routes most_services (begun histories) ticks
+        → most_ticks_gone ≤ length ticks → router < length net
         → AllByRecursion (IsReal net (ups net histories) router)
-        (offers (routes_held (ports_of net router) most_routes (history_of (ticked net most_routes most_services (begun histories) ticks).histories router))) }
+        (routes_of net most_routes (ticked net most_routes most_services (begun histories) ticks).histories router) }
     ensures down { (net : Internet) (most_routes most_services : ℕ) (histories : List History) (ticks : List (List Step)) (router : ℕ) (place : Place)
-        → IsInternet net → AreHistories net histories → AreTicks net most_routes most_services (begun histories) ticks → most_ticks_gone ≤ length ticks
-        → router < length net → is_up (ups net histories place.router) place.port ≡ false
-        → AllByRecursion
-        (λ r. (real : IsReal net (ups net histories) router r) × AllByRecursion (λ p. p ≢ place) (led_over net (ups net histories) router r real))
-        (offers (routes_held (ports_of net router) most_routes (history_of (ticked net most_routes most_services (begun histories) ticks).histories router))) }
+        → IsInternet net → AreHistories net histories → AreTicks net most_routes most_services (begun histories) ticks
+        → most_ticks_gone ≤ length ticks → router < length net → is_up (ups net histories place.router) place.port ≡ false
+        → AllByRecursion (λ r. (real : IsReal net (ups net histories) router r) × AllByRecursion (λ p. p ≢ place) (led_over net (ups net histories) router r real))
+        (routes_of net most_routes (ticked net most_routes most_services (begun histories) ticks).histories router) }
     ensures own_ports { (net : Internet) (most_routes most_services : ℕ) (histories : List History) (ticks : List (List Step)) (router : ℕ)
         → IsInternet net → AreHistories net histories → AreTicks net most_routes most_services (begun histories) ticks → router < length net
         → AllByRecursion (λ r. is_up (ups net histories router) r.port ≡ true)
-        (offers (routes_held (ports_of net router) most_routes (history_of (ticked net most_routes most_services (begun histories) ticks).histories router))) }
+        (routes_of net most_routes (ticked net most_routes most_services (begun histories) ticks).histories router) }
 {
     ipx_wire::laws::readings();
     ipx_wire::laws::service_readings();
@@ -168,34 +160,29 @@ pub fn real()
 /// route is of a real way. Where anything else happens meanwhile, it is so of what stayed gone after the first tick.
 pub fn whatever_waits()
     ensures networks { (net : Internet) (most_routes most_services : ℕ) (run : Run) (ticks : List (List Step)) (router : ℕ) (network : Network)
-        → IsInternet net → AreHistories net run.histories → AllByRecursion (λ w. IsDelivery net w.delivery) run.waiting
-        → AreTicks net most_routes most_services run ticks → most_ticks_gone < length ticks → router < length net → IsGone net run.histories network
-        → AllByRecursion (λ r. r.network ≢ network)
-        (offers (routes_held (ports_of net router) most_routes (history_of (ticked net most_routes most_services run ticks).histories router))) }
+        → IsInternet net → AreHistories net run.histories → AreDeliveries net run.waiting → AreTicks net most_routes most_services run ticks
+        → most_ticks_gone < length ticks → router < length net → IsGone net run.histories network
+        → AllByRecursion (λ r. r.network ≢ network) (routes_of net most_routes (ticked net most_routes most_services run ticks).histories router) }
     ensures services { (net : Internet) (most_routes most_services : ℕ) (run : Run) (ticks : List (List Step)) (router : ℕ)
-        → IsInternet net → AreHistories net run.histories → AllByRecursion (λ w. IsDelivery net w.delivery) run.waiting
-        → AreTicks net most_routes most_services run ticks → most_ticks_gone < length ticks → router < length net
+        → IsInternet net → AreHistories net run.histories → AreDeliveries net run.waiting → AreTicks net most_routes most_services run ticks
+        → most_ticks_gone < length ticks → router < length net
         → services_held (ports_of net router) most_services (history_of (ticked net most_routes most_services run ticks).histories router) ≡ [] }
     ensures routes { (net : Internet) (most_routes most_services : ℕ) (run : Run) (ticks : List (List Step)) (router : ℕ)
-        → IsInternet net → AreHistories net run.histories → AllByRecursion (λ w. IsDelivery net w.delivery) run.waiting
-        → AreTicks net most_routes most_services run ticks → most_ticks_gone < length ticks → router < length net
-        → AllByRecursion (IsReal net (ups net run.histories) router)
-        (offers (routes_held (ports_of net router) most_routes (history_of (ticked net most_routes most_services run ticks).histories router))) }
+        → IsInternet net → AreHistories net run.histories → AreDeliveries net run.waiting → AreTicks net most_routes most_services run ticks
+        → most_ticks_gone < length ticks → router < length net
+        → AllByRecursion (IsReal net (ups net run.histories) router) (routes_of net most_routes (ticked net most_routes most_services run ticks).histories router) }
     ensures networks_meanwhile { (net : Internet) (most_routes most_services : ℕ) (run : Run) (first : List Step) (ticks : List (List Step)) (router : ℕ) (network : Network)
-        → IsInternet net → AreHistories net run.histories → AllByRecursion (λ w. IsDelivery net w.delivery) run.waiting
-        → EachTick net most_routes most_services (IsBusyTick net most_routes most_services) run (first ∷ ticks) → most_ticks_gone ≤ length ticks
-        → router < length net
+        → IsInternet net → AreHistories net run.histories → AreDeliveries net run.waiting
+        → AreBusyTicks net most_routes most_services run (first ∷ ticks) → most_ticks_gone ≤ length ticks → router < length net
         → EachTick net most_routes most_services (StaysGone net most_routes most_services network) (run_of net most_routes most_services run first) ticks
-        → AllByRecursion (AllByRecursion (SaysOnly (IsWithoutRoute network))) ticks
-        → AllByRecursion (λ r. r.network ≢ network)
-        (offers (routes_held (ports_of net router) most_routes (history_of (ticked net most_routes most_services run (first ∷ ticks)).histories router))) }
-    ensures services_meanwhile { (net : Internet) (most_routes most_services : ℕ) (run : Run) (first : List Step) (ticks : List (List Step)) (router : ℕ)
-        (key : ℕ × List ℕ)
-        → IsInternet net → AreHistories net run.histories → AllByRecursion (λ w. IsDelivery net w.delivery) run.waiting
-        → EachTick net most_routes most_services (IsBusyTick net most_routes most_services) run (first ∷ ticks) → most_ticks_gone ≤ length ticks
-        → router < length net → AllByRecursion (AllByRecursion (SaysOnly (IsWithoutService key))) ticks
+        → EachStep (SaysOnly (IsWithoutRoute network)) ticks
+        → AllByRecursion (λ r. r.network ≢ network) (routes_of net most_routes (ticked net most_routes most_services run (first ∷ ticks)).histories router) }
+    ensures services_meanwhile { (net : Internet) (most_routes most_services : ℕ) (run : Run) (first : List Step) (ticks : List (List Step)) (router : ℕ) (key : ℕ × List ℕ)
+        → IsInternet net → AreHistories net run.histories → AreDeliveries net run.waiting
+        → AreBusyTicks net most_routes most_services run (first ∷ ticks) → most_ticks_gone ≤ length ticks → router < length net
+        → EachStep (SaysOnly (IsWithoutService key)) ticks
         → AllByRecursion (λ s. (s.service.kind, s.service.name) ≢ key)
-        (offers (services_held (ports_of net router) most_services (history_of (ticked net most_routes most_services run (first ∷ ticks)).histories router))) }
+        (services_of net most_services (ticked net most_routes most_services run (first ∷ ticks)).histories router) }
 {
     ipx_wire::laws::readings();
     ipx_wire::laws::service_readings();
@@ -239,56 +226,35 @@ pub fn fifteen_suffice()
 /// (`hosts::right_meanwhile` says it of hosts that speak).
 pub fn right()
     ensures tables { (net : Internet) (most_routes most_services : ℕ) (histories : List History) (ticks : List (List Step)) (router : ℕ) (network : Network)
-        → IsInternet net → NodesDiffer net → FifteenSuffice net (ups net histories) network → AreCheap net → HasRoom net most_routes → AreHistories net histories
-        → AreTicks net most_routes most_services (begun histories) ticks → router < length net
+        → IsSetting net most_routes histories network → AreTicks net most_routes most_services (begun histories) ticks → router < length net
         → ticks_right (least_route net (ups net histories) router network) ≤ length ticks
-        → option_map way_of
-        (route_to (offers (routes_held (ports_of net router) most_routes (history_of (ticked net most_routes most_services (begun histories) ticks).histories router))) network.0)
-        ≡ least_route net (ups net histories) router network }
+        → IsRight net most_routes (ticked net most_routes most_services (begun histories) ticks).histories (ups net histories) router network }
     ensures stay { (net : Internet) (most_routes most_services : ℕ) (histories : List History) (ticks further : List (List Step)) (router : ℕ) (network : Network)
-        → IsInternet net → NodesDiffer net → FifteenSuffice net (ups net histories) network → AreCheap net → HasRoom net most_routes → AreHistories net histories
-        → AreTicks net most_routes most_services (begun histories) (ticks ++ further) → router < length net
-        → ticks_right (least_route net (ups net histories) router network) ≤ length ticks
-        → route_to (offers (routes_held (ports_of net router) most_routes
-        (history_of (ticked net most_routes most_services (begun histories) (ticks ++ further)).histories router))) network.0
-        ≡ route_to (offers (routes_held (ports_of net router) most_routes
-        (history_of (ticked net most_routes most_services (begun histories) ticks).histories router))) network.0 }
+        → IsSetting net most_routes histories network → AreTicks net most_routes most_services (begun histories) (ticks ++ further)
+        → router < length net → ticks_right (least_route net (ups net histories) router network) ≤ length ticks
+        → route_of net most_routes (ticked net most_routes most_services (begun histories) (ticks ++ further)).histories router network
+        ≡ route_of net most_routes (ticked net most_routes most_services (begun histories) ticks).histories router network }
     ensures whatever_waits { (net : Internet) (most_routes most_services : ℕ) (run : Run) (ticks : List (List Step)) (router : ℕ) (network : Network)
-        → IsInternet net → NodesDiffer net → FifteenSuffice net (ups net run.histories) network → AreCheap net → HasRoom net most_routes → AreHistories net run.histories
-        → AllByRecursion (λ w. IsDelivery net w.delivery) run.waiting
-        → AreTicks net most_routes most_services run ticks → router < length net
-        → ticks_right (least_route net (ups net run.histories) router network) < length ticks
-        → option_map way_of
-        (route_to (offers (routes_held (ports_of net router) most_routes (history_of (ticked net most_routes most_services run ticks).histories router))) network.0)
-        ≡ least_route net (ups net run.histories) router network }
+        → IsSetting net most_routes run.histories network → AreDeliveries net run.waiting → AreTicks net most_routes most_services run ticks
+        → router < length net → ticks_right (least_route net (ups net run.histories) router network) < length ticks
+        → IsRight net most_routes (ticked net most_routes most_services run ticks).histories (ups net run.histories) router network }
     ensures whatever_waits_stay { (net : Internet) (most_routes most_services : ℕ) (run : Run) (ticks further : List (List Step)) (router : ℕ) (network : Network)
-        → IsInternet net → NodesDiffer net → FifteenSuffice net (ups net run.histories) network → AreCheap net → HasRoom net most_routes → AreHistories net run.histories
-        → AllByRecursion (λ w. IsDelivery net w.delivery) run.waiting
+        → IsSetting net most_routes run.histories network → AreDeliveries net run.waiting
         → AreTicks net most_routes most_services run (ticks ++ further) → router < length net
         → ticks_right (least_route net (ups net run.histories) router network) < length ticks
-        → route_to (offers (routes_held (ports_of net router) most_routes
-        (history_of (ticked net most_routes most_services run (ticks ++ further)).histories router))) network.0
-        ≡ route_to (offers (routes_held (ports_of net router) most_routes
-        (history_of (ticked net most_routes most_services run ticks).histories router))) network.0 }
+        → route_of net most_routes (ticked net most_routes most_services run (ticks ++ further)).histories router network
+        ≡ route_of net most_routes (ticked net most_routes most_services run ticks).histories router network }
     ensures sooner { (net : Internet) (most_routes most_services : ℕ) (histories : List History) (ticks : List (List Step)) (router : ℕ) (network : Network)
-        → IsInternet net → NodesDiffer net → FifteenSuffice net (ups net histories) network → AreCheap net → HasRoom net most_routes → AreHistories net histories
-        → ((other : ℕ) → other < length net
-        → AllByRecursion (IsReal net (ups net histories) other) (offers (routes_held (ports_of net other) most_routes (history_of histories other))))
+        → IsSetting net most_routes histories network → AreReal net most_routes histories (ups net histories)
         → AreTicks net most_routes most_services (begun histories) ticks → router < length net
         → ticks_right (least_route net (ups net histories) router network) ≤ most_ticks_gone + length ticks
-        → option_map way_of
-        (route_to (offers (routes_held (ports_of net router) most_routes (history_of (ticked net most_routes most_services (begun histories) ticks).histories router))) network.0)
-        ≡ least_route net (ups net histories) router network }
+        → IsRight net most_routes (ticked net most_routes most_services (begun histories) ticks).histories (ups net histories) router network }
     ensures sooner_stay { (net : Internet) (most_routes most_services : ℕ) (histories : List History) (ticks further : List (List Step)) (router : ℕ) (network : Network)
-        → IsInternet net → NodesDiffer net → FifteenSuffice net (ups net histories) network → AreCheap net → HasRoom net most_routes → AreHistories net histories
-        → ((other : ℕ) → other < length net
-        → AllByRecursion (IsReal net (ups net histories) other) (offers (routes_held (ports_of net other) most_routes (history_of histories other))))
+        → IsSetting net most_routes histories network → AreReal net most_routes histories (ups net histories)
         → AreTicks net most_routes most_services (begun histories) (ticks ++ further) → router < length net
         → ticks_right (least_route net (ups net histories) router network) ≤ most_ticks_gone + length ticks
-        → route_to (offers (routes_held (ports_of net router) most_routes
-        (history_of (ticked net most_routes most_services (begun histories) (ticks ++ further)).histories router))) network.0
-        ≡ route_to (offers (routes_held (ports_of net router) most_routes
-        (history_of (ticked net most_routes most_services (begun histories) ticks).histories router))) network.0 }
+        → route_of net most_routes (ticked net most_routes most_services (begun histories) (ticks ++ further)).histories router network
+        ≡ route_of net most_routes (ticked net most_routes most_services (begun histories) ticks).histories router network }
     ensures soon { (net : Internet) (histories : List History) (router : ℕ) (network : Network) → ticks_right (least_route net (ups net histories) router network) ≤ most_ticks_right }
 {
     ipx_wire::laws::readings();
@@ -313,24 +279,14 @@ pub fn right()
 /// same way after one tick more (`whatever_waits`).
 pub fn arrives()
     ensures goes { (net : Internet) (most_routes most_services : ℕ) (histories : List History) (ticks : List (List Step)) (place : Place) (bytes : List ℕ) (p : Parts) (way : Way)
-        → IsInternet net → NodesDiffer net → FifteenSuffice net (ups net histories) p.header.destination.network → AreCheap net → HasRoom net most_routes → AreHistories net histories
-        → AreTicks net most_routes most_services (begun histories) ticks → IsPlace net place → is_up (ups net histories place.router) place.port ≡ true
-        → IsBytes bytes → IsPacket bytes p → IsOfHost net p
-        → network_of net place ≢ p.header.destination.network → least net (ups net histories) place.router p.header.destination.network ≡ Some way
-        → ticks_right (Some way) ≤ length ticks
-        → IsShort net (ups net histories) p.header.length p.header.destination.network way.hops place.router
-        → p.header.control + way.hops < most_routers
+        → IsSetting net most_routes histories p.header.destination.network → AreTicks net most_routes most_services (begun histories) ticks
+        → CanArrive net (ups net histories) place bytes p way → ticks_right (Some way) ≤ length ticks
         → Arrives (routers_after net most_routes (ticked net most_routes most_services (begun histories) ticks).histories) p.header.destination p.header.control way.hops 0
         (root place bytes) }
     ensures whatever_waits { (net : Internet) (most_routes most_services : ℕ) (run : Run) (ticks : List (List Step)) (place : Place) (bytes : List ℕ) (p : Parts) (way : Way)
-        → IsInternet net → NodesDiffer net → FifteenSuffice net (ups net run.histories) p.header.destination.network → AreCheap net → HasRoom net most_routes → AreHistories net run.histories
-        → AllByRecursion (λ w. IsDelivery net w.delivery) run.waiting
-        → AreTicks net most_routes most_services run ticks → IsPlace net place → is_up (ups net run.histories place.router) place.port ≡ true
-        → IsBytes bytes → IsPacket bytes p → IsOfHost net p
-        → network_of net place ≢ p.header.destination.network → least net (ups net run.histories) place.router p.header.destination.network ≡ Some way
+        → IsSetting net most_routes run.histories p.header.destination.network → AreDeliveries net run.waiting
+        → AreTicks net most_routes most_services run ticks → CanArrive net (ups net run.histories) place bytes p way
         → ticks_right (Some way) < length ticks
-        → IsShort net (ups net run.histories) p.header.length p.header.destination.network way.hops place.router
-        → p.header.control + way.hops < most_routers
         → Arrives (routers_after net most_routes (ticked net most_routes most_services run ticks).histories) p.header.destination p.header.control way.hops 0
         (root place bytes) }
     ensures one_each { (routers : List Router) (to : Address) (control hops : ℕ) (c : Copy) → Arrives routers to control hops 0 c → length (tree_to routers (hops + 1) c) ≡ hops + 1 }

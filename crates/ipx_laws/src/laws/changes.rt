@@ -10,6 +10,7 @@ ghost use Rattle.ipx_internet.specs.Ticks.{AreTicks, ticked};
 ghost use Rattle.ipx_laws.specs.Gains.{IsOfGains};
 ghost use Rattle.ipx_laws.specs.Least.{AreCheap, HasRoom, FifteenSuffice};
 ghost use Rattle.ipx_laws.specs.Losses.{AreLosses};
+ghost use Rattle.ipx_laws.specs.Setting.{IsSetting};
 ghost use Rattle.ipx_laws.specs.Tables.{AreReal, AreRight};
 ghost use Rattle.ipx_laws.specs.Ups.{ups};
 
@@ -28,14 +29,12 @@ pub fn losses()
         → AreLosses net most_routes most_services histories steps
         → let last = (run_of net most_routes most_services (begun histories) steps).histories in AreReal net most_routes last (ups net last) }
     ensures right { (net : Internet) (most_routes most_services : ℕ) (histories : List History) (steps : List Step) (ticks : List (List Step))
-        → IsInternet net → NodesDiffer net → ((network : Network) → FifteenSuffice net (ups net histories) network) → AreCheap net → HasRoom net most_routes → AreHistories net histories
-        → AreReal net most_routes histories (ups net histories) → AreRight net most_routes histories (ups net histories)
-        → AreLosses net most_routes most_services histories steps
+        → ((network : Network) → IsSetting net most_routes histories network) → AreReal net most_routes histories (ups net histories)
+        → AreRight net most_routes histories (ups net histories) → AreLosses net most_routes most_services histories steps
         → let last = (run_of net most_routes most_services (begun histories) steps).histories in
         ((network : Network) → FifteenSuffice net (ups net last) network) → period ≤ length ticks
         → AreTicks net most_routes most_services (run_of net most_routes most_services (begun histories) steps) ticks
-        → AreRight net most_routes
-        (ticked net most_routes most_services (run_of net most_routes most_services (begun histories) steps) ticks).histories (ups net last) }
+        → AreRight net most_routes (ticked net most_routes most_services (run_of net most_routes most_services (begun histories) steps) ticks).histories (ups net last) }
 {
     ipx_wire::laws::readings();
     ipx_wire::laws::service_readings();

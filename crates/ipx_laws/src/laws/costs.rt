@@ -2,22 +2,22 @@
 ghost use Rattle.std.specs.Prelude.{◌≡◌, ℕ, ◌<◌, ◌≤◌, true, List, [], ◌++◌, length};
 ghost use Rattle.std.specs.List.{AllByRecursion, sum_by};
 ghost use Rattle.ipx_wire.specs.declared.network.Network.{Network};
-ghost use Rattle.ipx_router.specs.Facts.{routes_held, services_held, offers};
+ghost use Rattle.ipx_router.specs.Facts.{services_held};
 ghost use Rattle.ipx_router.specs.History.{History, IsOfBytes};
 ghost use Rattle.ipx_router.specs.Numbers.{period};
 ghost use Rattle.ipx_router.specs.Port.{Port, IsPort, is_up};
 ghost use Rattle.ipx_router.specs.Sends.{holding};
 ghost use Rattle.ipx_router.specs.Told.{told, told_services};
-ghost use Rattle.ipx_internet.specs.BusyTick.{IsBusyTick};
-ghost use Rattle.ipx_internet.specs.Internet.{Internet, IsInternet, NodesDiffer, ports_of};
+ghost use Rattle.ipx_internet.specs.Internet.{Internet, IsInternet, ports_of};
 ghost use Rattle.ipx_internet.specs.Queue.{history_of};
 ghost use Rattle.ipx_internet.specs.Run.{Step, AreHistories, Run, begun};
 ghost use Rattle.ipx_internet.specs.Ticks.{seconds_of, AreTicks, ticked};
 ghost use Rattle.ipx_laws.specs.Departure.{departures};
-ghost use Rattle.ipx_laws.specs.Least.{networks_of, AreCheap, HasRoom, FifteenSuffice, most_ticks_right};
-ghost use Rattle.ipx_laws.specs.Meanwhile.{TellsNoRoute, LeavesPorts, SaysOnly, EachTick};
+ghost use Rattle.ipx_laws.specs.Least.{networks_of, most_ticks_right};
+ghost use Rattle.ipx_laws.specs.Meanwhile.{TellsNoRoute, SaysOnly, EachStep, AreTicksOfHosts};
 ghost use Rattle.ipx_laws.specs.Real.{IsReal};
-ghost use Rattle.ipx_laws.specs.Tables.{AreReal};
+ghost use Rattle.ipx_laws.specs.Setting.{IsSetting};
+ghost use Rattle.ipx_laws.specs.Tables.{routes_of, AreReal};
 ghost use Rattle.ipx_laws.specs.Upkeep.{IsOfUpkeep, has, TablesStay, ServicesStay, steps_of, sent_by, all_pages, upkeep_packets, upkeep_bytes};
 ghost use Rattle.ipx_laws.specs.Ups.{ups};
 
@@ -48,9 +48,8 @@ pub fn upkeep()
         sum_by (λ s. length s.bytes) (all_pages ports h number) ≡ upkeep_bytes (length (told ports h.up h.routes number)) (length (told_services h.services number)) }
     ensures few { (net : Internet) (most_routes : ℕ) (histories : List History) (router number : ℕ)
         → IsInternet net → AreHistories net histories → is_up (ups net histories router) number ≡ true
-        → AllByRecursion (IsReal net (ups net histories) router) (offers (routes_held (ports_of net router) most_routes (history_of histories router)))
-        → length (told (ports_of net router) (ups net histories router) (offers (routes_held (ports_of net router) most_routes (history_of histories router))) number)
-        < length (networks_of net) }
+        → AllByRecursion (IsReal net (ups net histories) router) (routes_of net most_routes histories router)
+        → length (told (ports_of net router) (ups net histories router) (routes_of net most_routes histories router) number) < length (networks_of net) }
 {
     ipx_wire::laws::readings();
     ipx_wire::laws::service_readings();
@@ -72,41 +71,40 @@ pub fn upkeep()
 /// Sixty ticks are needed from right tables, too: a route of which nobody has told for 179 seconds is gone in the next.
 pub fn tables_stay()
     ensures stay { (net : Internet) (most_routes most_services : ℕ) (histories : List History) (ticks further : List (List Step))
-        → IsInternet net → NodesDiffer net → ((network : Network) → FifteenSuffice net (ups net histories) network) → AreCheap net → HasRoom net most_routes → AreHistories net histories
-        → EachTick net most_routes most_services (IsBusyTick net most_routes most_services) (begun histories) (ticks ++ further)
-        → AllByRecursion (AllByRecursion LeavesPorts) (ticks ++ further) → AllByRecursion (AllByRecursion (SaysOnly TellsNoRoute)) (ticks ++ further)
+        → ((network : Network) → IsSetting net most_routes histories network)
+        → AreTicksOfHosts net most_routes most_services (begun histories) (ticks ++ further) → EachStep (SaysOnly TellsNoRoute) (ticks ++ further)
         → most_ticks_right ≤ length ticks
         → let run = ticked net most_routes most_services (begun histories) ticks in
-        ServicesStay net most_routes most_services run.histories run (steps_of further) → TablesStay net most_routes most_services run.histories run (steps_of further) }
+        ServicesStay net most_routes most_services run.histories run (steps_of further)
+        → TablesStay net most_routes most_services run.histories run (steps_of further) }
     ensures sooner { (net : Internet) (most_routes most_services : ℕ) (histories : List History) (ticks further : List (List Step))
-        → IsInternet net → NodesDiffer net → ((network : Network) → FifteenSuffice net (ups net histories) network) → AreCheap net → HasRoom net most_routes → AreHistories net histories
-        → AreReal net most_routes histories (ups net histories)
-        → EachTick net most_routes most_services (IsBusyTick net most_routes most_services) (begun histories) (ticks ++ further)
-        → AllByRecursion (AllByRecursion LeavesPorts) (ticks ++ further) → AllByRecursion (AllByRecursion (SaysOnly TellsNoRoute)) (ticks ++ further)
+        → ((network : Network) → IsSetting net most_routes histories network) → AreReal net most_routes histories (ups net histories)
+        → AreTicksOfHosts net most_routes most_services (begun histories) (ticks ++ further) → EachStep (SaysOnly TellsNoRoute) (ticks ++ further)
         → period ≤ length ticks
         → let run = ticked net most_routes most_services (begun histories) ticks in
-        ServicesStay net most_routes most_services run.histories run (steps_of further) → TablesStay net most_routes most_services run.histories run (steps_of further) }
+        ServicesStay net most_routes most_services run.histories run (steps_of further)
+        → TablesStay net most_routes most_services run.histories run (steps_of further) }
     ensures alone { (net : Internet) (most_routes most_services : ℕ) (histories : List History) (ticks further : List (List Step))
-        → IsInternet net → NodesDiffer net → ((network : Network) → FifteenSuffice net (ups net histories) network) → AreCheap net → HasRoom net most_routes → AreHistories net histories
+        → ((network : Network) → IsSetting net most_routes histories network)
         → AreTicks net most_routes most_services (begun histories) (ticks ++ further) → most_ticks_right ≤ length ticks
-        → let run = ticked net most_routes most_services (begun histories) ticks in TablesStay net most_routes most_services run.histories run (steps_of further) }
+        → let run = ticked net most_routes most_services (begun histories) ticks in
+        TablesStay net most_routes most_services run.histories run (steps_of further) }
     ensures alone_sooner { (net : Internet) (most_routes most_services : ℕ) (histories : List History) (ticks further : List (List Step))
-        → IsInternet net → NodesDiffer net → ((network : Network) → FifteenSuffice net (ups net histories) network) → AreCheap net → HasRoom net most_routes → AreHistories net histories
-        → AreReal net most_routes histories (ups net histories)
+        → ((network : Network) → IsSetting net most_routes histories network) → AreReal net most_routes histories (ups net histories)
         → ((router : ℕ) → router < length net → services_held (ports_of net router) most_services (history_of histories router) ≡ [])
         → AreTicks net most_routes most_services (begun histories) (ticks ++ further) → period ≤ length ticks
-        → let run = ticked net most_routes most_services (begun histories) ticks in TablesStay net most_routes most_services run.histories run (steps_of further) }
+        → let run = ticked net most_routes most_services (begun histories) ticks in
+        TablesStay net most_routes most_services run.histories run (steps_of further) }
     ensures minute { (net : Internet) (most_routes most_services : ℕ) (histories : List History) (ticks further : List (List Step)) (router number : ℕ)
-        → IsInternet net → NodesDiffer net → ((network : Network) → FifteenSuffice net (ups net histories) network) → AreCheap net → HasRoom net most_routes → AreHistories net histories
+        → ((network : Network) → IsSetting net most_routes histories network)
         → AreTicks net most_routes most_services (begun histories) (ticks ++ further) → most_ticks_right ≤ length ticks → length further ≡ period
         → is_up (ups net histories router) number ≡ true
         → let run = ticked net most_routes most_services (begun histories) ticks in
         sent_by router number (departures net most_routes most_services run (steps_of further))
         ≡ all_pages (ports_of net router) (has net most_routes most_services run.histories router) number }
     ensures minute_meanwhile { (net : Internet) (most_routes most_services : ℕ) (histories : List History) (ticks further : List (List Step)) (router number : ℕ)
-        → IsInternet net → NodesDiffer net → ((network : Network) → FifteenSuffice net (ups net histories) network) → AreCheap net → HasRoom net most_routes → AreHistories net histories
-        → EachTick net most_routes most_services (IsBusyTick net most_routes most_services) (begun histories) (ticks ++ further)
-        → AllByRecursion (AllByRecursion LeavesPorts) (ticks ++ further) → AllByRecursion (AllByRecursion (SaysOnly TellsNoRoute)) (ticks ++ further)
+        → ((network : Network) → IsSetting net most_routes histories network)
+        → AreTicksOfHosts net most_routes most_services (begun histories) (ticks ++ further) → EachStep (SaysOnly TellsNoRoute) (ticks ++ further)
         → AllByRecursion (IsOfUpkeep net) (steps_of further) → length further ≡ period → most_ticks_right ≤ length ticks
         → is_up (ups net histories router) number ≡ true
         → let run = ticked net most_routes most_services (begun histories) ticks in

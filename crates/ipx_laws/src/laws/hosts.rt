@@ -1,28 +1,23 @@
 //! What holds of every internet while hosts speak: what `real`, `right` and `arrives` say of ticks in which nothing else happens.
-ghost use Rattle.std.specs.Prelude.{◌≡◌, ◌≢◌, ℕ, ◌+◌, ◌<◌, ◌≤◌, true, false, List, ◌∷◌, ◌++◌, length, Some};
+ghost use Rattle.std.specs.Prelude.{◌≡◌, ◌≢◌, ℕ, ◌+◌, ◌<◌, ◌≤◌, true, false, List, ◌∷◌, ◌++◌, length};
 ghost use Rattle.std.specs.List.{AllByRecursion};
-ghost use Rattle.std.specs.Option.{option_map};
-ghost use Rattle.ipx_wire.specs.Packet.{Parts, IsPacket};
-ghost use Rattle.ipx_wire.specs.Piece.{IsBytes};
+ghost use Rattle.ipx_wire.specs.Packet.{Parts};
 ghost use Rattle.ipx_wire.specs.declared.network.Network.{Network};
-ghost use Rattle.ipx_router.specs.Facts.{routes_held, offers};
 ghost use Rattle.ipx_router.specs.History.{History};
-ghost use Rattle.ipx_router.specs.Numbers.{most_routers, period};
-ghost use Rattle.ipx_router.specs.Outgoing.{route_to};
+ghost use Rattle.ipx_router.specs.Numbers.{period};
 ghost use Rattle.ipx_router.specs.Port.{is_up};
-ghost use Rattle.ipx_internet.specs.BusyTick.{IsBusyTick};
-ghost use Rattle.ipx_internet.specs.Internet.{Internet, Place, IsInternet, NodesDiffer, IsPlace, network_of, ports_of};
-ghost use Rattle.ipx_internet.specs.Queue.{history_of};
-ghost use Rattle.ipx_internet.specs.Rounds.{IsDelivery};
+ghost use Rattle.ipx_internet.specs.Internet.{Internet, Place, IsInternet};
 ghost use Rattle.ipx_internet.specs.Run.{Step, AreHistories, Run, begun};
 ghost use Rattle.ipx_internet.specs.Ticks.{ticked};
 ghost use Rattle.ipx_internet.specs.Traced.{routers_after};
 ghost use Rattle.ipx_internet.specs.Tree.{root};
-ghost use Rattle.ipx_laws.specs.Arriving.{IsOfHost, IsShort, Arrives};
+ghost use Rattle.ipx_laws.specs.Arriving.{CanArrive, Arrives};
 ghost use Rattle.ipx_laws.specs.Gone.{most_ticks_gone};
-ghost use Rattle.ipx_laws.specs.Least.{Way, least, AreCheap, HasRoom, FifteenSuffice, least_route, way_of, most_ticks_right};
-ghost use Rattle.ipx_laws.specs.Meanwhile.{TellsNoRoute, LeavesPorts, SaysOnly, EachTick};
+ghost use Rattle.ipx_laws.specs.Least.{Way, most_ticks_right};
+ghost use Rattle.ipx_laws.specs.Meanwhile.{TellsNoRoute, SaysOnly, EachStep, AreTicksOfHosts};
 ghost use Rattle.ipx_laws.specs.Real.{IsReal, led_over};
+ghost use Rattle.ipx_laws.specs.Setting.{IsSetting, AreDeliveries};
+ghost use Rattle.ipx_laws.specs.Tables.{routes_of, route_of, AreReal, IsRight};
 ghost use Rattle.ipx_laws.specs.Ups.{ups};
 
 /// Every route is of a real way after 2,880 ticks also while hosts speak, as in `real`: packets of any kind come from outside, near or far,
@@ -30,27 +25,21 @@ ghost use Rattle.ipx_laws.specs.Ups.{ups};
 /// a response of routing information, or a query for services that is answered to the socket of RIP.
 pub fn real_meanwhile()
     ensures routes { (net : Internet) (most_routes most_services : ℕ) (histories : List History) (ticks : List (List Step)) (router : ℕ)
-        → IsInternet net → AreHistories net histories
-        → EachTick net most_routes most_services (IsBusyTick net most_routes most_services) (begun histories) ticks
-        → AllByRecursion (AllByRecursion LeavesPorts) ticks → AllByRecursion (AllByRecursion (SaysOnly TellsNoRoute)) ticks
-        → most_ticks_gone ≤ length ticks → router < length net
+        → IsInternet net → AreHistories net histories → AreTicksOfHosts net most_routes most_services (begun histories) ticks
+        → EachStep (SaysOnly TellsNoRoute) ticks → most_ticks_gone ≤ length ticks → router < length net
         → AllByRecursion (IsReal net (ups net histories) router)
-        (offers (routes_held (ports_of net router) most_routes (history_of (ticked net most_routes most_services (begun histories) ticks).histories router))) }
+        (routes_of net most_routes (ticked net most_routes most_services (begun histories) ticks).histories router) }
     ensures down { (net : Internet) (most_routes most_services : ℕ) (histories : List History) (ticks : List (List Step)) (router : ℕ) (place : Place)
-        → IsInternet net → AreHistories net histories
-        → EachTick net most_routes most_services (IsBusyTick net most_routes most_services) (begun histories) ticks
-        → AllByRecursion (AllByRecursion LeavesPorts) ticks → AllByRecursion (AllByRecursion (SaysOnly TellsNoRoute)) ticks
-        → most_ticks_gone ≤ length ticks → is_up (ups net histories place.router) place.port ≡ false → router < length net
-        → AllByRecursion
-        (λ r. (real : IsReal net (ups net histories) router r) × AllByRecursion (λ p. p ≢ place) (led_over net (ups net histories) router r real))
-        (offers (routes_held (ports_of net router) most_routes (history_of (ticked net most_routes most_services (begun histories) ticks).histories router))) }
-    ensures own_ports { (net : Internet) (most_routes most_services : ℕ) (histories : List History) (ticks : List (List Step)) (router : ℕ)
-        → IsInternet net → AreHistories net histories
-        → EachTick net most_routes most_services (IsBusyTick net most_routes most_services) (begun histories) ticks
-        → AllByRecursion (AllByRecursion LeavesPorts) ticks → AllByRecursion (AllByRecursion (SaysOnly TellsNoRoute)) ticks
+        → IsInternet net → AreHistories net histories → AreTicksOfHosts net most_routes most_services (begun histories) ticks
+        → EachStep (SaysOnly TellsNoRoute) ticks → most_ticks_gone ≤ length ticks → is_up (ups net histories place.router) place.port ≡ false
         → router < length net
+        → AllByRecursion (λ r. (real : IsReal net (ups net histories) router r) × AllByRecursion (λ p. p ≢ place) (led_over net (ups net histories) router r real))
+        (routes_of net most_routes (ticked net most_routes most_services (begun histories) ticks).histories router) }
+    ensures own_ports { (net : Internet) (most_routes most_services : ℕ) (histories : List History) (ticks : List (List Step)) (router : ℕ)
+        → IsInternet net → AreHistories net histories → AreTicksOfHosts net most_routes most_services (begun histories) ticks
+        → EachStep (SaysOnly TellsNoRoute) ticks → router < length net
         → AllByRecursion (λ r. is_up (ups net histories router) r.port ≡ true)
-        (offers (routes_held (ports_of net router) most_routes (history_of (ticked net most_routes most_services (begun histories) ticks).histories router))) }
+        (routes_of net most_routes (ticked net most_routes most_services (begun histories) ticks).histories router) }
 {
     ipx_wire::laws::readings();
     ipx_wire::laws::service_readings();
@@ -67,52 +56,28 @@ pub fn real_meanwhile()
 /// packets arrive (`arrives`).
 pub fn right_meanwhile()
     ensures tables { (net : Internet) (most_routes most_services : ℕ) (histories : List History) (ticks : List (List Step)) (router : ℕ) (network : Network)
-        → IsInternet net → NodesDiffer net → FifteenSuffice net (ups net histories) network → AreCheap net → HasRoom net most_routes → AreHistories net histories
-        → EachTick net most_routes most_services (IsBusyTick net most_routes most_services) (begun histories) ticks
-        → AllByRecursion (AllByRecursion LeavesPorts) ticks → AllByRecursion (AllByRecursion (SaysOnly TellsNoRoute)) ticks
-        → router < length net → most_ticks_right ≤ length ticks
-        → option_map way_of
-        (route_to (offers (routes_held (ports_of net router) most_routes (history_of (ticked net most_routes most_services (begun histories) ticks).histories router))) network.0)
-        ≡ least_route net (ups net histories) router network }
+        → IsSetting net most_routes histories network → AreTicksOfHosts net most_routes most_services (begun histories) ticks
+        → EachStep (SaysOnly TellsNoRoute) ticks → router < length net → most_ticks_right ≤ length ticks
+        → IsRight net most_routes (ticked net most_routes most_services (begun histories) ticks).histories (ups net histories) router network }
     ensures stay { (net : Internet) (most_routes most_services : ℕ) (histories : List History) (ticks further : List (List Step)) (router : ℕ) (network : Network)
-        → IsInternet net → NodesDiffer net → FifteenSuffice net (ups net histories) network → AreCheap net → HasRoom net most_routes → AreHistories net histories
-        → EachTick net most_routes most_services (IsBusyTick net most_routes most_services) (begun histories) (ticks ++ further)
-        → AllByRecursion (AllByRecursion LeavesPorts) (ticks ++ further) → AllByRecursion (AllByRecursion (SaysOnly TellsNoRoute)) (ticks ++ further)
-        → router < length net → most_ticks_right ≤ length ticks
-        → route_to (offers (routes_held (ports_of net router) most_routes
-        (history_of (ticked net most_routes most_services (begun histories) (ticks ++ further)).histories router))) network.0
-        ≡ route_to (offers (routes_held (ports_of net router) most_routes
-        (history_of (ticked net most_routes most_services (begun histories) ticks).histories router))) network.0 }
+        → IsSetting net most_routes histories network → AreTicksOfHosts net most_routes most_services (begun histories) (ticks ++ further)
+        → EachStep (SaysOnly TellsNoRoute) (ticks ++ further) → router < length net → most_ticks_right ≤ length ticks
+        → route_of net most_routes (ticked net most_routes most_services (begun histories) (ticks ++ further)).histories router network
+        ≡ route_of net most_routes (ticked net most_routes most_services (begun histories) ticks).histories router network }
     ensures sooner { (net : Internet) (most_routes most_services : ℕ) (histories : List History) (ticks : List (List Step)) (router : ℕ) (network : Network)
-        → IsInternet net → NodesDiffer net → FifteenSuffice net (ups net histories) network → AreCheap net → HasRoom net most_routes → AreHistories net histories
-        → ((other : ℕ) → other < length net
-        → AllByRecursion (IsReal net (ups net histories) other) (offers (routes_held (ports_of net other) most_routes (history_of histories other))))
-        → EachTick net most_routes most_services (IsBusyTick net most_routes most_services) (begun histories) ticks
-        → AllByRecursion (AllByRecursion LeavesPorts) ticks → AllByRecursion (AllByRecursion (SaysOnly TellsNoRoute)) ticks
-        → router < length net → period ≤ length ticks
-        → option_map way_of
-        (route_to (offers (routes_held (ports_of net router) most_routes (history_of (ticked net most_routes most_services (begun histories) ticks).histories router))) network.0)
-        ≡ least_route net (ups net histories) router network }
+        → IsSetting net most_routes histories network → AreReal net most_routes histories (ups net histories)
+        → AreTicksOfHosts net most_routes most_services (begun histories) ticks → EachStep (SaysOnly TellsNoRoute) ticks → router < length net
+        → period ≤ length ticks
+        → IsRight net most_routes (ticked net most_routes most_services (begun histories) ticks).histories (ups net histories) router network }
     ensures whatever_waits { (net : Internet) (most_routes most_services : ℕ) (run : Run) (first : List Step) (ticks : List (List Step)) (router : ℕ) (network : Network)
-        → IsInternet net → NodesDiffer net → FifteenSuffice net (ups net run.histories) network → AreCheap net → HasRoom net most_routes → AreHistories net run.histories
-        → AllByRecursion (λ w. IsDelivery net w.delivery) run.waiting
-        → EachTick net most_routes most_services (IsBusyTick net most_routes most_services) run (first ∷ ticks)
-        → AllByRecursion (AllByRecursion LeavesPorts) (first ∷ ticks) → AllByRecursion (AllByRecursion (SaysOnly TellsNoRoute)) ticks
-        → router < length net → most_ticks_right ≤ length ticks
-        → option_map way_of
-        (route_to (offers (routes_held (ports_of net router) most_routes (history_of (ticked net most_routes most_services run (first ∷ ticks)).histories router))) network.0)
-        ≡ least_route net (ups net run.histories) router network }
-    ensures arrives { (net : Internet) (most_routes most_services : ℕ) (histories : List History) (ticks : List (List Step)) (place : Place) (bytes : List ℕ) (p : Parts) (way : Way)
-        → IsInternet net → NodesDiffer net → AreCheap net → HasRoom net most_routes
-        → FifteenSuffice net (ups net histories) p.header.destination.network → AreHistories net histories
-        → EachTick net most_routes most_services (IsBusyTick net most_routes most_services) (begun histories) ticks
-        → AllByRecursion (AllByRecursion LeavesPorts) ticks → AllByRecursion (AllByRecursion (SaysOnly TellsNoRoute)) ticks
-        → IsPlace net place → is_up (ups net histories place.router) place.port ≡ true
-        → IsBytes bytes → IsPacket bytes p → IsOfHost net p
-        → least net (ups net histories) place.router p.header.destination.network ≡ Some way → network_of net place ≢ p.header.destination.network
+        → IsSetting net most_routes run.histories network → AreDeliveries net run.waiting
+        → AreTicksOfHosts net most_routes most_services run (first ∷ ticks) → EachStep (SaysOnly TellsNoRoute) ticks → router < length net
         → most_ticks_right ≤ length ticks
-        → IsShort net (ups net histories) p.header.length p.header.destination.network way.hops place.router
-        → p.header.control + way.hops < most_routers
+        → IsRight net most_routes (ticked net most_routes most_services run (first ∷ ticks)).histories (ups net run.histories) router network }
+    ensures arrives { (net : Internet) (most_routes most_services : ℕ) (histories : List History) (ticks : List (List Step)) (place : Place) (bytes : List ℕ) (p : Parts)
+        (way : Way)
+        → IsSetting net most_routes histories p.header.destination.network → AreTicksOfHosts net most_routes most_services (begun histories) ticks
+        → EachStep (SaysOnly TellsNoRoute) ticks → CanArrive net (ups net histories) place bytes p way → most_ticks_right ≤ length ticks
         → Arrives (routers_after net most_routes (ticked net most_routes most_services (begun histories) ticks).histories) p.header.destination p.header.control way.hops 0
         (root place bytes) }
 {

@@ -4,23 +4,23 @@ ghost use Rattle.std.specs.List.{AllByRecursion};
 ghost use Rattle.ipx_wire.specs.Piece.{IsBytes};
 ghost use Rattle.ipx_wire.specs.declared.address.Address.{Address};
 ghost use Rattle.ipx_wire.specs.declared.sap.Sap.TheVariants.{Query};
-ghost use Rattle.ipx_router.specs.Facts.{heard_after, services_held, offers};
+ghost use Rattle.ipx_router.specs.Facts.{heard_after};
 ghost use Rattle.ipx_router.specs.Heard.{HeardSap};
 ghost use Rattle.ipx_router.specs.History.{History, Packet};
 ghost use Rattle.ipx_router.specs.Numbers.{every_service, unreachable};
 ghost use Rattle.ipx_router.specs.Port.{is_up};
-ghost use Rattle.ipx_internet.specs.BusyTick.{IsBusyTick};
 ghost use Rattle.ipx_internet.specs.Internet.{Internet, Place, IsInternet, NodesDiffer, ports_of, network_of};
 ghost use Rattle.ipx_internet.specs.Queue.{history_of, sends_at};
-ghost use Rattle.ipx_internet.specs.Rounds.{IsDelivery};
 ghost use Rattle.ipx_internet.specs.Run.{Step, AreHistories, Run, begun, run_of};
 ghost use Rattle.ipx_internet.specs.Ticks.{ticked};
 ghost use Rattle.ipx_laws.specs.Gone.{most_ticks_gone};
 ghost use Rattle.ipx_laws.specs.Least.{most_ticks_right};
-ghost use Rattle.ipx_laws.specs.Meanwhile.{LeavesPorts, SaysOnly, EachTick};
+ghost use Rattle.ipx_laws.specs.Meanwhile.{EachStep, AreTicksOfHosts};
 ghost use Rattle.ipx_laws.specs.Nearest.{LeadsElsewhere, IsAnswered};
-ghost use Rattle.ipx_laws.specs.Regular.{HaveOneVoice, HasRoomFor, IsListedName, AreInTime, NoneNearer, most_ticks_known};
-ghost use Rattle.ipx_laws.specs.Servers.{Announcer, Server, IsOf, at_hops, known_of, SaysNoFalse, NamesOnly, IsServed, IsAway, IsFewest};
+ghost use Rattle.ipx_laws.specs.Regular.{IsListed, AreRegular, NoneNearer, most_ticks_known};
+ghost use Rattle.ipx_laws.specs.Servers.{Announcer, Server, IsOf, at_hops, known_of, SaysNoFalse, IsServed, IsAway, IsFewest};
+ghost use Rattle.ipx_laws.specs.Setting.{AreDeliveries};
+ghost use Rattle.ipx_laws.specs.Tables.{services_of};
 ghost use Rattle.ipx_laws.specs.Ups.{ups};
 
 /// What routers have of a service becomes true of it, whatever they had before: after 2,880 ticks each router has it as a host announces it
@@ -36,45 +36,36 @@ ghost use Rattle.ipx_laws.specs.Ups.{ups};
 /// `whatever_waits_away`).
 pub fn served()
     ensures real { (net : Internet) (most_routes most_services : ℕ) (server : Server) (histories : List History) (ticks : List (List Step)) (router : ℕ)
-        → IsInternet net → AreHistories net histories
-        → EachTick net most_routes most_services (IsBusyTick net most_routes most_services) (begun histories) ticks
-        → AllByRecursion (AllByRecursion LeavesPorts) ticks → AllByRecursion (AllByRecursion (SaysNoFalse net server)) ticks
-        → most_ticks_gone ≤ length ticks → router < length net
+        → IsInternet net → AreHistories net histories → AreTicksOfHosts net most_routes most_services (begun histories) ticks
+        → EachStep (SaysNoFalse net server) ticks → most_ticks_gone ≤ length ticks → router < length net
         → AllByRecursion (λ s. IsOf server s.service → IsServed net (ups net histories) server router s)
-        (offers (services_held (ports_of net router) most_services (history_of (ticked net most_routes most_services (begun histories) ticks).histories router))) }
+        (services_of net most_services (ticked net most_routes most_services (begun histories) ticks).histories router) }
     ensures away { (net : Internet) (most_routes most_services : ℕ) (server : Server) (histories : List History) (ticks : List (List Step)) (router : ℕ)
-        → IsInternet net → AreHistories net histories
-        → EachTick net most_routes most_services (IsBusyTick net most_routes most_services) (begun histories) ticks
-        → AllByRecursion (AllByRecursion LeavesPorts) ticks → AllByRecursion (AllByRecursion (SaysNoFalse net server)) ticks
-        → most_ticks_gone ≤ length ticks → router < length net
+        → IsInternet net → AreHistories net histories → AreTicksOfHosts net most_routes most_services (begun histories) ticks
+        → EachStep (SaysNoFalse net server) ticks → most_ticks_gone ≤ length ticks → router < length net
         → AllByRecursion
         (λ s. IsOf server s.service → (s.service ≡ at_hops server s.service.hops) × (s.service.hops < unreachable)
         × IsAway net (ups net histories) server router s.service.hops)
-        (offers (services_held (ports_of net router) most_services (history_of (ticked net most_routes most_services (begun histories) ticks).histories router))) }
+        (services_of net most_services (ticked net most_routes most_services (begun histories) ticks).histories router) }
     ensures none { (net : Internet) (most_routes most_services : ℕ) (server : Server) (histories : List History) (ticks : List (List Step)) (router : ℕ)
-        → IsInternet net → AreHistories net histories
-        → EachTick net most_routes most_services (IsBusyTick net most_routes most_services) (begun histories) ticks
-        → AllByRecursion (AllByRecursion LeavesPorts) ticks → AllByRecursion (AllByRecursion (SaysNoFalse net server)) ticks
-        → most_ticks_gone ≤ length ticks → router < length net
+        → IsInternet net → AreHistories net histories → AreTicksOfHosts net most_routes most_services (begun histories) ticks
+        → EachStep (SaysNoFalse net server) ticks → most_ticks_gone ≤ length ticks → router < length net
         → ((hops : ℕ) → IsAway net (ups net histories) server router hops → hops < unreachable → ⊥)
-        → AllByRecursion (λ s. IsOf server s.service → ⊥)
-        (offers (services_held (ports_of net router) most_services (history_of (ticked net most_routes most_services (begun histories) ticks).histories router))) }
+        → AllByRecursion (λ s. IsOf server s.service → ⊥) (services_of net most_services (ticked net most_routes most_services (begun histories) ticks).histories router) }
     ensures whatever_waits { (net : Internet) (most_routes most_services : ℕ) (server : Server) (run : Run) (first : List Step) (ticks : List (List Step)) (router : ℕ)
-        → IsInternet net → AreHistories net run.histories → AllByRecursion (λ w. IsDelivery net w.delivery) run.waiting
-        → EachTick net most_routes most_services (IsBusyTick net most_routes most_services) run (first ∷ ticks)
-        → AllByRecursion (AllByRecursion LeavesPorts) (first ∷ ticks) → AllByRecursion (AllByRecursion (SaysNoFalse net server)) ticks
-        → most_ticks_gone ≤ length ticks → router < length net
+        → IsInternet net → AreHistories net run.histories → AreDeliveries net run.waiting
+        → AreTicksOfHosts net most_routes most_services run (first ∷ ticks) → EachStep (SaysNoFalse net server) ticks → most_ticks_gone ≤ length ticks
+        → router < length net
         → AllByRecursion (λ s. IsOf server s.service → IsServed net (ups net run.histories) server router s)
-        (offers (services_held (ports_of net router) most_services (history_of (ticked net most_routes most_services run (first ∷ ticks)).histories router))) }
+        (services_of net most_services (ticked net most_routes most_services run (first ∷ ticks)).histories router) }
     ensures whatever_waits_away { (net : Internet) (most_routes most_services : ℕ) (server : Server) (run : Run) (first : List Step) (ticks : List (List Step)) (router : ℕ)
-        → IsInternet net → AreHistories net run.histories → AllByRecursion (λ w. IsDelivery net w.delivery) run.waiting
-        → EachTick net most_routes most_services (IsBusyTick net most_routes most_services) run (first ∷ ticks)
-        → AllByRecursion (AllByRecursion LeavesPorts) (first ∷ ticks) → AllByRecursion (AllByRecursion (SaysNoFalse net server)) ticks
-        → most_ticks_gone ≤ length ticks → router < length net
+        → IsInternet net → AreHistories net run.histories → AreDeliveries net run.waiting
+        → AreTicksOfHosts net most_routes most_services run (first ∷ ticks) → EachStep (SaysNoFalse net server) ticks → most_ticks_gone ≤ length ticks
+        → router < length net
         → AllByRecursion
         (λ s. IsOf server s.service → (s.service ≡ at_hops server s.service.hops) × (s.service.hops < unreachable)
         × IsAway net (ups net run.histories) server router s.service.hops)
-        (offers (services_held (ports_of net router) most_services (history_of (ticked net most_routes most_services run (first ∷ ticks)).histories router))) }
+        (services_of net most_services (ticked net most_routes most_services run (first ∷ ticks)).histories router) }
 {
     ipx_wire::laws::readings();
     ipx_wire::laws::service_readings();
@@ -94,31 +85,23 @@ pub fn served()
 pub fn beside()
     ensures has { (net : Internet) (most_routes most_services : ℕ) (server : Server) (names : List (ℕ × List ℕ)) (histories : List History) (ticks : List (List Step))
         (place : Place) (which : ℕ) (host : Announcer)
-        → IsInternet net → AreHistories net histories → HaveOneVoice server → HasRoomFor net most_services names → IsListedName names (server.kind, server.name)
-        → EachTick net most_routes most_services (IsBusyTick net most_routes most_services) (begun histories) ticks
-        → AllByRecursion (AllByRecursion LeavesPorts) ticks → AllByRecursion (AllByRecursion (SaysNoFalse net server)) ticks
-        → AllByRecursion (AllByRecursion (SaysOnly (NamesOnly (IsListedName names)))) ticks
-        → AreInTime net most_routes most_services server (ups net histories) (begun histories) ticks → most_ticks_right ≤ length ticks
-        → place.router < length net → is_up (ups net histories place.router) place.port ≡ true
-        → slice_get server.announcers which ≡ Some host → network_of net place ≡ host.network → host.hops < unreachable
+        → IsInternet net → AreHistories net histories → IsListed net most_services names server
+        → AreTicksOfHosts net most_routes most_services (begun histories) ticks
+        → AreRegular net most_routes most_services server names (ups net histories) (begun histories) ticks → most_ticks_right ≤ length ticks
+        → place.router < length net → is_up (ups net histories place.router) place.port ≡ true → slice_get server.announcers which ≡ Some host
+        → network_of net place ≡ host.network → host.hops < unreachable
         → ((number : ℕ) (other : Announcer) → slice_get server.announcers number ≡ Some other → host.hops ≤ other.hops)
-        → known_of server (offers (services_held (ports_of net place.router) most_services
-        (history_of (ticked net most_routes most_services (begun histories) ticks).histories place.router)))
+        → known_of server (services_of net most_services (ticked net most_routes most_services (begun histories) ticks).histories place.router)
         ≡ Some (at_hops server host.hops) }
     ensures whatever_waits { (net : Internet) (most_routes most_services : ℕ) (server : Server) (names : List (ℕ × List ℕ)) (run : Run) (first : List Step)
         (ticks : List (List Step)) (place : Place) (which : ℕ) (host : Announcer)
-        → IsInternet net → AreHistories net run.histories → AllByRecursion (λ w. IsDelivery net w.delivery) run.waiting
-        → HaveOneVoice server → HasRoomFor net most_services names → IsListedName names (server.kind, server.name)
-        → EachTick net most_routes most_services (IsBusyTick net most_routes most_services) run (first ∷ ticks)
-        → AllByRecursion (AllByRecursion LeavesPorts) (first ∷ ticks) → AllByRecursion (AllByRecursion (SaysNoFalse net server)) ticks
-        → AllByRecursion (AllByRecursion (SaysOnly (NamesOnly (IsListedName names)))) ticks
-        → AreInTime net most_routes most_services server (ups net run.histories) (run_of net most_routes most_services run first) ticks
-        → most_ticks_right ≤ length ticks
-        → place.router < length net → is_up (ups net run.histories place.router) place.port ≡ true
+        → IsInternet net → AreHistories net run.histories → AreDeliveries net run.waiting → IsListed net most_services names server
+        → AreTicksOfHosts net most_routes most_services run (first ∷ ticks)
+        → AreRegular net most_routes most_services server names (ups net run.histories) (run_of net most_routes most_services run first) ticks
+        → most_ticks_right ≤ length ticks → place.router < length net → is_up (ups net run.histories place.router) place.port ≡ true
         → slice_get server.announcers which ≡ Some host → network_of net place ≡ host.network
         → host.hops < unreachable → ((number : ℕ) (other : Announcer) → slice_get server.announcers number ≡ Some other → host.hops ≤ other.hops)
-        → known_of server (offers (services_held (ports_of net place.router) most_services
-        (history_of (ticked net most_routes most_services run (first ∷ ticks)).histories place.router)))
+        → known_of server (services_of net most_services (ticked net most_routes most_services run (first ∷ ticks)).histories place.router)
         ≡ Some (at_hops server host.hops) }
 {
     ipx_wire::laws::readings();
@@ -136,62 +119,39 @@ pub fn beside()
 /// It asks for what `beside` asks of hosts and of room, and that ports of two routers on one network have different nodes. Nothing is asked
 /// of costs, nor of how many routers there are. A router without such a way hasn't got the service (`served`, `none`).
 pub fn everywhere()
-    ensures has { (net : Internet) (most_routes most_services : ℕ) (server : Server) (names : List (ℕ × List ℕ)) (nearest : ℕ) (histories : List History) (ticks : List (List Step))
-        (router hops : ℕ)
-        → IsInternet net → NodesDiffer net → AreHistories net histories
-        → HaveOneVoice server → HasRoomFor net most_services names → IsListedName names (server.kind, server.name)
-        → NoneNearer server nearest
-        → EachTick net most_routes most_services (IsBusyTick net most_routes most_services) (begun histories) ticks
-        → AllByRecursion (AllByRecursion LeavesPorts) ticks → AllByRecursion (AllByRecursion (SaysNoFalse net server)) ticks
-        → AllByRecursion (AllByRecursion (SaysOnly (NamesOnly (IsListedName names)))) ticks
-        → AreInTime net most_routes most_services server (ups net histories) (begun histories) ticks → most_ticks_known nearest hops ≤ length ticks
-        → router < length net → hops < unreachable → IsFewest net (ups net histories) server router hops
-        → known_of server (offers (services_held (ports_of net router) most_services
-        (history_of (ticked net most_routes most_services (begun histories) ticks).histories router)))
-        ≡ Some (at_hops server hops) }
+    ensures has { (net : Internet) (most_routes most_services : ℕ) (server : Server) (names : List (ℕ × List ℕ)) (nearest : ℕ) (histories : List History)
+        (ticks : List (List Step)) (router hops : ℕ)
+        → IsInternet net → NodesDiffer net → AreHistories net histories → IsListed net most_services names server → NoneNearer server nearest
+        → AreTicksOfHosts net most_routes most_services (begun histories) ticks
+        → AreRegular net most_routes most_services server names (ups net histories) (begun histories) ticks
+        → most_ticks_known nearest hops ≤ length ticks → router < length net → hops < unreachable
+        → IsFewest net (ups net histories) server router hops
+        → known_of server (services_of net most_services (ticked net most_routes most_services (begun histories) ticks).histories router) ≡ Some (at_hops server hops) }
     ensures meanwhile { (net : Internet) (most_routes most_services : ℕ) (server : Server) (names : List (ℕ × List ℕ)) (nearest : ℕ) (histories : List History)
         (ticks : List (List Step)) (steps rest : List Step) (router hops : ℕ)
-        → IsInternet net → NodesDiffer net → AreHistories net histories
-        → HaveOneVoice server → HasRoomFor net most_services names → IsListedName names (server.kind, server.name)
-        → NoneNearer server nearest
-        → EachTick net most_routes most_services (IsBusyTick net most_routes most_services) (begun histories) (ticks ++ (steps ++ rest) ∷ [])
-        → AllByRecursion (AllByRecursion LeavesPorts) (ticks ++ (steps ++ rest) ∷ [])
-        → AllByRecursion (AllByRecursion (SaysNoFalse net server)) (ticks ++ (steps ++ rest) ∷ [])
-        → AllByRecursion (AllByRecursion (SaysOnly (NamesOnly (IsListedName names)))) (ticks ++ (steps ++ rest) ∷ [])
-        → AreInTime net most_routes most_services server (ups net histories) (begun histories) (ticks ++ (steps ++ rest) ∷ [])
-        → most_ticks_known nearest hops ≤ length ticks
-        → router < length net → hops < unreachable → IsFewest net (ups net histories) server router hops
-        → known_of server (offers (services_held (ports_of net router) most_services
-        (history_of (run_of net most_routes most_services (ticked net most_routes most_services (begun histories) ticks) steps).histories router)))
+        → IsInternet net → NodesDiffer net → AreHistories net histories → IsListed net most_services names server → NoneNearer server nearest
+        → AreTicksOfHosts net most_routes most_services (begun histories) (ticks ++ (steps ++ rest) ∷ [])
+        → AreRegular net most_routes most_services server names (ups net histories) (begun histories) (ticks ++ (steps ++ rest) ∷ [])
+        → most_ticks_known nearest hops ≤ length ticks → router < length net → hops < unreachable
+        → IsFewest net (ups net histories) server router hops
+        → known_of server (services_of net most_services (run_of net most_routes most_services (ticked net most_routes most_services (begun histories) ticks) steps).histories router)
         ≡ Some (at_hops server hops) }
     ensures whatever_waits { (net : Internet) (most_routes most_services : ℕ) (server : Server) (names : List (ℕ × List ℕ)) (nearest : ℕ) (run : Run) (first : List Step)
         (ticks : List (List Step)) (router hops : ℕ)
-        → IsInternet net → NodesDiffer net → AreHistories net run.histories → AllByRecursion (λ w. IsDelivery net w.delivery) run.waiting
-        → HaveOneVoice server → HasRoomFor net most_services names → IsListedName names (server.kind, server.name)
-        → NoneNearer server nearest
-        → EachTick net most_routes most_services (IsBusyTick net most_routes most_services) run (first ∷ ticks)
-        → AllByRecursion (AllByRecursion LeavesPorts) (first ∷ ticks) → AllByRecursion (AllByRecursion (SaysNoFalse net server)) ticks
-        → AllByRecursion (AllByRecursion (SaysOnly (NamesOnly (IsListedName names)))) ticks
-        → AreInTime net most_routes most_services server (ups net run.histories) (run_of net most_routes most_services run first) ticks
-        → most_ticks_known nearest hops ≤ length ticks
-        → router < length net → hops < unreachable → IsFewest net (ups net run.histories) server router hops
-        → known_of server (offers (services_held (ports_of net router) most_services
-        (history_of (ticked net most_routes most_services run (first ∷ ticks)).histories router)))
-        ≡ Some (at_hops server hops) }
-    ensures whatever_waits_meanwhile { (net : Internet) (most_routes most_services : ℕ) (server : Server) (names : List (ℕ × List ℕ)) (nearest : ℕ) (run : Run) (first : List Step)
-        (ticks : List (List Step)) (steps rest : List Step) (router hops : ℕ)
-        → IsInternet net → NodesDiffer net → AreHistories net run.histories → AllByRecursion (λ w. IsDelivery net w.delivery) run.waiting
-        → HaveOneVoice server → HasRoomFor net most_services names → IsListedName names (server.kind, server.name)
-        → NoneNearer server nearest
-        → EachTick net most_routes most_services (IsBusyTick net most_routes most_services) run (first ∷ ticks ++ (steps ++ rest) ∷ [])
-        → AllByRecursion (AllByRecursion LeavesPorts) (first ∷ ticks ++ (steps ++ rest) ∷ [])
-        → AllByRecursion (AllByRecursion (SaysNoFalse net server)) (ticks ++ (steps ++ rest) ∷ [])
-        → AllByRecursion (AllByRecursion (SaysOnly (NamesOnly (IsListedName names)))) (ticks ++ (steps ++ rest) ∷ [])
-        → AreInTime net most_routes most_services server (ups net run.histories) (run_of net most_routes most_services run first) (ticks ++ (steps ++ rest) ∷ [])
-        → most_ticks_known nearest hops ≤ length ticks
-        → router < length net → hops < unreachable → IsFewest net (ups net run.histories) server router hops
-        → known_of server (offers (services_held (ports_of net router) most_services
-        (history_of (run_of net most_routes most_services (ticked net most_routes most_services run (first ∷ ticks)) steps).histories router)))
+        → IsInternet net → NodesDiffer net → AreHistories net run.histories → AreDeliveries net run.waiting → IsListed net most_services names server
+        → NoneNearer server nearest → AreTicksOfHosts net most_routes most_services run (first ∷ ticks)
+        → AreRegular net most_routes most_services server names (ups net run.histories) (run_of net most_routes most_services run first) ticks
+        → most_ticks_known nearest hops ≤ length ticks → router < length net → hops < unreachable
+        → IsFewest net (ups net run.histories) server router hops
+        → known_of server (services_of net most_services (ticked net most_routes most_services run (first ∷ ticks)).histories router) ≡ Some (at_hops server hops) }
+    ensures whatever_waits_meanwhile { (net : Internet) (most_routes most_services : ℕ) (server : Server) (names : List (ℕ × List ℕ)) (nearest : ℕ) (run : Run)
+        (first : List Step) (ticks : List (List Step)) (steps rest : List Step) (router hops : ℕ)
+        → IsInternet net → NodesDiffer net → AreHistories net run.histories → AreDeliveries net run.waiting → IsListed net most_services names server
+        → NoneNearer server nearest → AreTicksOfHosts net most_routes most_services run (first ∷ ticks ++ (steps ++ rest) ∷ [])
+        → AreRegular net most_routes most_services server names (ups net run.histories) (run_of net most_routes most_services run first) (ticks ++ (steps ++ rest) ∷ [])
+        → most_ticks_known nearest hops ≤ length ticks → router < length net → hops < unreachable
+        → IsFewest net (ups net run.histories) server router hops
+        → known_of server (services_of net most_services (run_of net most_routes most_services (ticked net most_routes most_services run (first ∷ ticks)) steps).histories router)
         ≡ Some (at_hops server hops) }
 {
     ipx_wire::laws::readings();
@@ -209,17 +169,12 @@ pub fn everywhere()
 pub fn nearest()
     ensures answered { (net : Internet) (most_routes most_services : ℕ) (server : Server) (names : List (ℕ × List ℕ)) (nearest : ℕ) (histories : List History)
         (ticks : List (List Step)) (steps rest : List Step) (hops : ℕ) (place : Place) (source : Address) (bytes : List ℕ)
-        → IsInternet net → NodesDiffer net → AreHistories net histories
-        → HaveOneVoice server → HasRoomFor net most_services names → IsListedName names (server.kind, server.name)
-        → NoneNearer server nearest
-        → EachTick net most_routes most_services (IsBusyTick net most_routes most_services) (begun histories) (ticks ++ (steps ++ rest) ∷ [])
-        → AllByRecursion (AllByRecursion LeavesPorts) (ticks ++ (steps ++ rest) ∷ [])
-        → AllByRecursion (AllByRecursion (SaysNoFalse net server)) (ticks ++ (steps ++ rest) ∷ [])
-        → AllByRecursion (AllByRecursion (SaysOnly (NamesOnly (IsListedName names)))) (ticks ++ (steps ++ rest) ∷ [])
-        → AreInTime net most_routes most_services server (ups net histories) (begun histories) (ticks ++ (steps ++ rest) ∷ [])
-        → most_ticks_known nearest hops ≤ length ticks
-        → place.router < length net → suc hops < unreachable → IsFewest net (ups net histories) server place.router hops
-        → server.kind ≢ every_service → LeadsElsewhere net (ups net histories) server place hops → IsBytes bytes
+        → IsInternet net → NodesDiffer net → AreHistories net histories → IsListed net most_services names server → NoneNearer server nearest
+        → AreTicksOfHosts net most_routes most_services (begun histories) (ticks ++ (steps ++ rest) ∷ [])
+        → AreRegular net most_routes most_services server names (ups net histories) (begun histories) (ticks ++ (steps ++ rest) ∷ [])
+        → most_ticks_known nearest hops ≤ length ticks → place.router < length net → suc hops < unreachable
+        → IsFewest net (ups net histories) server place.router hops → server.kind ≢ every_service
+        → LeadsElsewhere net (ups net histories) server place hops → IsBytes bytes
         → heard_after (ports_of net place.router)
         (history_of (run_of net most_routes most_services (ticked net most_routes most_services (begun histories) ticks) steps).histories place.router) place.port bytes
         ≡ Some (HeardSap source (Query true server.kind))
@@ -228,17 +183,12 @@ pub fn nearest()
         place.router (Packet place.port bytes)) }
     ensures whatever_waits { (net : Internet) (most_routes most_services : ℕ) (server : Server) (names : List (ℕ × List ℕ)) (nearest : ℕ) (run : Run) (first : List Step)
         (ticks : List (List Step)) (steps rest : List Step) (hops : ℕ) (place : Place) (source : Address) (bytes : List ℕ)
-        → IsInternet net → NodesDiffer net → AreHistories net run.histories → AllByRecursion (λ w. IsDelivery net w.delivery) run.waiting
-        → HaveOneVoice server → HasRoomFor net most_services names → IsListedName names (server.kind, server.name)
-        → NoneNearer server nearest
-        → EachTick net most_routes most_services (IsBusyTick net most_routes most_services) run (first ∷ ticks ++ (steps ++ rest) ∷ [])
-        → AllByRecursion (AllByRecursion LeavesPorts) (first ∷ ticks ++ (steps ++ rest) ∷ [])
-        → AllByRecursion (AllByRecursion (SaysNoFalse net server)) (ticks ++ (steps ++ rest) ∷ [])
-        → AllByRecursion (AllByRecursion (SaysOnly (NamesOnly (IsListedName names)))) (ticks ++ (steps ++ rest) ∷ [])
-        → AreInTime net most_routes most_services server (ups net run.histories) (run_of net most_routes most_services run first) (ticks ++ (steps ++ rest) ∷ [])
-        → most_ticks_known nearest hops ≤ length ticks
-        → place.router < length net → suc hops < unreachable → IsFewest net (ups net run.histories) server place.router hops
-        → server.kind ≢ every_service → LeadsElsewhere net (ups net run.histories) server place hops → IsBytes bytes
+        → IsInternet net → NodesDiffer net → AreHistories net run.histories → AreDeliveries net run.waiting → IsListed net most_services names server
+        → NoneNearer server nearest → AreTicksOfHosts net most_routes most_services run (first ∷ ticks ++ (steps ++ rest) ∷ [])
+        → AreRegular net most_routes most_services server names (ups net run.histories) (run_of net most_routes most_services run first) (ticks ++ (steps ++ rest) ∷ [])
+        → most_ticks_known nearest hops ≤ length ticks → place.router < length net → suc hops < unreachable
+        → IsFewest net (ups net run.histories) server place.router hops → server.kind ≢ every_service
+        → LeadsElsewhere net (ups net run.histories) server place hops → IsBytes bytes
         → heard_after (ports_of net place.router)
         (history_of (run_of net most_routes most_services (ticked net most_routes most_services run (first ∷ ticks)) steps).histories place.router) place.port bytes
         ≡ Some (HeardSap source (Query true server.kind))

@@ -37,7 +37,7 @@ layouts c = record {
 }
 
 pub returns-clause-goes : goal.returns-clause-goes
-returns-clause-goes c net most_routes most_services histories ticks place bytes p way is differ suffice cheap room are passes there on are_bytes is_packet of_host away least sure short few_control =
+returns-clause-goes c net most_routes most_services histories ticks place bytes p way (is, differ, suffice, cheap, room, are) passes (there, on, are_bytes, is_packet, of_host, away, least, short, few_control) sure =
     let to = p.header.destination in
     let calm = quiet_ticks net most_routes most_services (layouts c) is (begun histories) ticks passes in
     let long = some_ticks (Some way) (length ticks) sure in
@@ -46,9 +46,9 @@ returns-clause-goes c net most_routes most_services histories ticks place bytes 
     way.hops place.router place.port 0 None bytes p way there on away are_bytes is_packet refl of_host short few_control least refl (all_ticks way (length ticks) sure)
 
 pub returns-clause-whatever_waits : goal.returns-clause-whatever_waits
-returns-clause-whatever_waits c net most_routes most_services run [] place bytes p way is differ suffice cheap room are waits passes there on are_bytes is_packet of_host away least sure short few_control =
+returns-clause-whatever_waits c net most_routes most_services run [] place bytes p way (is, differ, suffice, cheap, room, are) waits passes (there, on, are_bytes, is_packet, of_host, away, least, short, few_control) sure =
     absurd (omega (arith, sure))
-returns-clause-whatever_waits c net most_routes most_services run (first ∷ ticks) place bytes p way is differ suffice cheap room are waits passes there on are_bytes is_packet of_host away least sure short few_control =
+returns-clause-whatever_waits c net most_routes most_services run (first ∷ ticks) place bytes p way (is, differ, suffice, cheap, room, are) waits passes (there, on, are_bytes, is_packet, of_host, away, least, short, few_control) sure =
     let next = run_of net most_routes most_services run first in
     let to = p.header.destination in
     let calm = quiet_ticks net most_routes most_services (layouts c) is next ticks passes.1 in

@@ -40,14 +40,14 @@ layouts c = record {
 }
 
 pub returns-clause-tables : goal.returns-clause-tables
-returns-clause-tables c net most_routes most_services histories ticks router network is differ suffice cheap room are passes inside sure =
+returns-clause-tables c net most_routes most_services histories ticks router network (is, differ, suffice, cheap, room, are) passes inside sure =
     let calm = quiet_ticks net most_routes most_services (layouts c) is (begun histories) ticks passes in
     let long = some_ticks (least_route net (ups net histories) router network) (length ticks) sure in
     table_is (given_of net (layouts c) is differ cheap (ups net histories) (ups_within net histories) most_routes most_services room network suffice) (length ticks)
     (ticked net most_routes most_services (begun histories) ticks) (from_any net (layouts c) is differ cheap most_routes most_services room network histories are suffice ticks calm long) long router inside sure
 
 pub returns-clause-stay : goal.returns-clause-stay
-returns-clause-stay c net most_routes most_services histories ticks further router network is differ suffice cheap room are passes inside sure =
+returns-clause-stay c net most_routes most_services histories ticks further router network (is, differ, suffice, cheap, room, are) passes inside sure =
     let long = some_ticks (least_route net (ups net histories) router network) (length ticks) sure in
     let parts = parts_of net most_routes most_services (IsCalmTick net most_routes most_services) (begun histories) ticks further
     (quiet_ticks net most_routes most_services (layouts c) is (begun histories) (ticks ++ further) passes) in
@@ -63,8 +63,8 @@ pub returns-clause-soon : goal.returns-clause-soon
 returns-clause-soon c net histories router network = soon_enough (least_route net (ups net histories) router network)
 
 pub returns-clause-whatever_waits : goal.returns-clause-whatever_waits
-returns-clause-whatever_waits c net most_routes most_services run [] router network is differ suffice cheap room are waits passes inside sure = absurd (omega (arith, sure))
-returns-clause-whatever_waits c net most_routes most_services run (first ∷ ticks) router network is differ suffice cheap room are waits passes inside sure =
+returns-clause-whatever_waits c net most_routes most_services run [] router network (is, differ, suffice, cheap, room, are) waits passes inside sure = absurd (omega (arith, sure))
+returns-clause-whatever_waits c net most_routes most_services run (first ∷ ticks) router network (is, differ, suffice, cheap, room, are) waits passes inside sure =
     let next = run_of net most_routes most_services run first in
     let calm = quiet_ticks net most_routes most_services (layouts c) is next ticks passes.1 in
     let once = quiet_tick net most_routes most_services (layouts c) is run first passes.0 in
@@ -75,9 +75,9 @@ returns-clause-whatever_waits c net most_routes most_services run (first ∷ tic
     (from_run net (layouts c) is differ cheap most_routes most_services room network run are waits suffice first ticks once.busy once.leaves calm long) long router inside enough
 
 pub returns-clause-whatever_waits_stay : goal.returns-clause-whatever_waits_stay
-returns-clause-whatever_waits_stay c net most_routes most_services run [] further router network is differ suffice cheap room are waits passes inside sure =
+returns-clause-whatever_waits_stay c net most_routes most_services run [] further router network (is, differ, suffice, cheap, room, are) waits passes inside sure =
     absurd (omega (arith, sure))
-returns-clause-whatever_waits_stay c net most_routes most_services run (first ∷ ticks) further router network is differ suffice cheap room are waits passes inside sure =
+returns-clause-whatever_waits_stay c net most_routes most_services run (first ∷ ticks) further router network (is, differ, suffice, cheap, room, are) waits passes inside sure =
     let next = run_of net most_routes most_services run first in
     let once = quiet_tick net most_routes most_services (layouts c) is run first passes.0 in
     let enough : ticks_right (least_route net (ups net run.histories) router network) ≤ length ticks = omega (arith, sure) in
@@ -94,7 +94,7 @@ returns-clause-whatever_waits_stay c net most_routes most_services run (first �
 
 -- as if that many ticks had passed
 pub returns-clause-sooner : goal.returns-clause-sooner
-returns-clause-sooner c net most_routes most_services histories ticks router network is differ suffice cheap room are real passes inside sure =
+returns-clause-sooner c net most_routes most_services histories ticks router network (is, differ, suffice, cheap, room, are) real passes inside sure =
     let calm = quiet_ticks net most_routes most_services (layouts c) is (begun histories) ticks passes in
     let enough : ticks_right (least_route net (ups net histories) router network) ≤ length ticks + most_ticks_gone = omega (arith, sure) in
     table_is (given_of net (layouts c) is differ cheap (ups net histories) (ups_within net histories) most_routes most_services room network suffice) (length ticks + most_ticks_gone)
@@ -102,7 +102,7 @@ returns-clause-sooner c net most_routes most_services histories ticks router net
     (from_real net (layouts c) is differ cheap most_routes most_services room network histories are suffice ticks calm real) (omega arith) router inside enough
 
 pub returns-clause-sooner_stay : goal.returns-clause-sooner_stay
-returns-clause-sooner_stay c net most_routes most_services histories ticks further router network is differ suffice cheap room are real passes inside sure =
+returns-clause-sooner_stay c net most_routes most_services histories ticks further router network (is, differ, suffice, cheap, room, are) real passes inside sure =
     let enough : ticks_right (least_route net (ups net histories) router network) ≤ length ticks + most_ticks_gone = omega (arith, sure) in
     let parts = parts_of net most_routes most_services (IsCalmTick net most_routes most_services) (begun histories) ticks further
     (quiet_ticks net most_routes most_services (layouts c) is (begun histories) (ticks ++ further) passes) in

@@ -32,7 +32,7 @@ returns g c =
           let soon = c.right.ensures.soon net histories router network in
           let many = after.many in
           let enough : ticks_right (least_route net (ups net histories) router network) ≤ length after.ticks = omega (arith, soon, many) in
-          c.right.ensures.tables net g.row.R g.row.S histories after.ticks router network c.len.ensures.internet c.len.ensures.nodes
-          (c.fifteen_suffice.ensures.few_routers net histories network c.len.ensures.internet few) cheap room past.are after.are
-          within enough)) c.pass.ensures.ticked;
+          c.right.ensures.tables net g.row.R g.row.S histories after.ticks router network
+          (c.len.ensures.internet, c.len.ensures.nodes, c.fifteen_suffice.ensures.few_routers net histories network c.len.ensures.internet few, cheap, room, past.are)
+          after.are within enough)) c.pass.ensures.ticked;
     }

@@ -46,7 +46,7 @@ returns-clause-right c net most_routes most_services histories steps ticks is di
     let soon = c.right.ensures.soon net last router network in
     subst (λ (hs : List History). option_map way_of (route_to (routes_of net most_routes hs router) network.0) ≡ least_route net (ups net last) router network)
     (sym (ap (λ (q : Queued). q.histories) (same_ticked net most_routes most_services then_run (begun last) ticks equal)))
-    (c.right.ensures.sooner net most_routes most_services last ticks router network is differ (suffice network) cheap room
-    (gained net (layouts c) is most_routes most_services histories steps are real gains).are
+    (c.right.ensures.sooner net most_routes most_services last ticks router network
+    (is, differ, suffice network, cheap, room, (gained net (layouts c) is most_routes most_services histories steps are real gains).are)
     (all_real net (layouts c) is most_routes most_services histories steps are real gains)
     (same_ticks net most_routes most_services then_run (begun last) ticks equal passes) inside (omega (arith, soon, enough)))

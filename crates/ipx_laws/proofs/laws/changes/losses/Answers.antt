@@ -66,8 +66,13 @@ returns-clause-real c net most_routes most_services histories steps is suffice c
     real_then c net most_routes most_services histories steps is suffice cheap are real right losses
 
 pub returns-clause-right : goal.returns-clause-right
-returns-clause-right c net most_routes most_services histories steps ticks is differ suffice cheap room are real right losses suffice_last enough passes router network
-    inside =
+returns-clause-right c net most_routes most_services histories steps ticks settings real right losses suffice_last enough passes router network inside =
+    let is = (settings network).0 in
+    let differ = (settings network).1 in
+    let suffice : (other : Network) → FifteenSuffice net (ups net histories) other = λ other. (settings other).2 in
+    let cheap = (settings network).3 in
+    let room = (settings network).4 in
+    let are = (settings network).5 in
     let then_run = after c net most_routes most_services histories steps is suffice cheap are real right losses in
     let last = then_run.histories in
     let equal = same c net most_routes most_services histories steps is suffice cheap are real right losses in
@@ -75,6 +80,6 @@ returns-clause-right c net most_routes most_services histories steps ticks is di
     let soon = c.right.ensures.soon net last router network in
     subst (λ (hs : List History). option_map way_of (route_to (routes_of net most_routes hs router) network.0) ≡ least_route net (ups net last) router network)
     (sym (ap (λ (q : Queued). q.histories) (same_ticked net most_routes most_services then_run (begun last) ticks equal)))
-    (c.right.ensures.sooner net most_routes most_services last ticks router network is differ (suffice_last network) cheap room lost.are
+    (c.right.ensures.sooner net most_routes most_services last ticks router network (is, differ, suffice_last network, cheap, room, lost.are)
     (real_then c net most_routes most_services histories steps is suffice cheap are real right losses)
     (same_ticks net most_routes most_services then_run (begun last) ticks equal passes) inside (omega (arith, soon, enough)))

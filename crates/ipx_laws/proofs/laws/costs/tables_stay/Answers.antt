@@ -15,6 +15,7 @@ use Rattle.ipx_laws.specs.Departure.{departures}
 use Rattle.ipx_laws.specs.Gone.{most_ticks_gone}
 use Rattle.ipx_laws.specs.Least.{AreCheap, HasRoom, FifteenSuffice, most_ticks_right}
 use Rattle.ipx_laws.specs.Meanwhile.{EachTick}
+use Rattle.ipx_laws.specs.Setting.{IsSetting}
 use Rattle.ipx_laws.specs.Tables.{AreReal}
 use Rattle.ipx_laws.specs.Upkeep.{IsOfUpkeep, has, TablesStay, ServicesStay, steps_of, sent_by, all_pages}
 use Rattle.ipx_laws.specs.Ups.{ups}
@@ -52,9 +53,30 @@ layouts c = record {
   bytes = c.packets.ensures.bytes;
 }
 
-module _ (c : After-upkeep) (net : Internet) (most_routes most_services : ℕ) (histories : List History) (ticks further : List (List Step)) (is : IsInternet net)
-    (differ : NodesDiffer net) (suffice : (network : Network) → FifteenSuffice net (ups net histories) network) (cheap : AreCheap net) (room : HasRoom net most_routes)
-    (are : AreHistories net histories) where
+-- whichever that is
+any_network : Network
+any_network = record { 0 = 0 }
+
+module _ (c : After-upkeep) (net : Internet) (most_routes most_services : ℕ) (histories : List History) (ticks further : List (List Step))
+    (settings : (network : Network) → IsSetting net most_routes histories network) where
+  is : IsInternet net
+  is = (settings any_network).0
+
+  differ : NodesDiffer net
+  differ = (settings any_network).1
+
+  suffice : (network : Network) → FifteenSuffice net (ups net histories) network
+  suffice network = (settings network).2
+
+  cheap : AreCheap net
+  cheap = (settings any_network).3
+
+  room : HasRoom net most_routes
+  room = (settings any_network).4
+
+  are : AreHistories net histories
+  are = (settings any_network).5
+
   abbrev run : Run
   run = ticked net most_routes most_services (begun histories) ticks
 
@@ -131,33 +153,33 @@ module _ (c : After-upkeep) (net : Internet) (most_routes most_services : ℕ) (
     ticks_of_upkeep = are_of_upkeep net most_routes most_services run further parts.1
 
 pub returns-clause-stay : goal.returns-clause-stay
-returns-clause-stay c net most_routes most_services histories ticks further is differ suffice cheap room are busy leave say long services =
-    stay_then c net most_routes most_services histories ticks further is differ suffice cheap room are
+returns-clause-stay c net most_routes most_services histories ticks further settings (busy, leave) say long services =
+    stay_then c net most_routes most_services histories ticks further settings
     (calm_ticks net most_routes most_services (begun histories) (ticks ++ further) busy leave say) long services
 
 pub returns-clause-sooner : goal.returns-clause-sooner
-returns-clause-sooner c net most_routes most_services histories ticks further is differ suffice cheap room are real busy leave say long services =
-    stay_sooner c net most_routes most_services histories ticks further is differ suffice cheap room are real
+returns-clause-sooner c net most_routes most_services histories ticks further settings real (busy, leave) say long services =
+    stay_sooner c net most_routes most_services histories ticks further settings real
     (calm_ticks net most_routes most_services (begun histories) (ticks ++ further) busy leave say) long services
 
 pub returns-clause-alone : goal.returns-clause-alone
-returns-clause-alone c net most_routes most_services histories ticks further is differ suffice cheap room are passes long =
-    alone_then c net most_routes most_services histories ticks further is differ suffice cheap room are passes long
+returns-clause-alone c net most_routes most_services histories ticks further settings passes long =
+    alone_then c net most_routes most_services histories ticks further settings passes long
 
 pub returns-clause-alone_sooner : goal.returns-clause-alone_sooner
-returns-clause-alone_sooner c net most_routes most_services histories ticks further is differ suffice cheap room are real none passes long =
-    alone_soon c net most_routes most_services histories ticks further is differ suffice cheap room are passes real none long
+returns-clause-alone_sooner c net most_routes most_services histories ticks further settings real none passes long =
+    alone_soon c net most_routes most_services histories ticks further settings passes real none long
 
 pub returns-clause-minute : goal.returns-clause-minute
-returns-clause-minute c net most_routes most_services histories ticks further router number is differ suffice cheap room are passes long sixty on =
-    minute_then c net most_routes most_services histories ticks further is differ suffice cheap room are
-    (calm c net most_routes most_services histories ticks further is differ suffice cheap room are passes) router number
-    (ticks_of_upkeep c net most_routes most_services histories ticks further is differ suffice cheap room are passes) sixty on
-    (alone_then c net most_routes most_services histories ticks further is differ suffice cheap room are passes long)
+returns-clause-minute c net most_routes most_services histories ticks further router number settings passes long sixty on =
+    minute_then c net most_routes most_services histories ticks further settings
+    (calm c net most_routes most_services histories ticks further settings passes) router number
+    (ticks_of_upkeep c net most_routes most_services histories ticks further settings passes) sixty on
+    (alone_then c net most_routes most_services histories ticks further settings passes long)
 
 pub returns-clause-minute_meanwhile : goal.returns-clause-minute_meanwhile
-returns-clause-minute_meanwhile c net most_routes most_services histories ticks further router number is differ suffice cheap room are busy leave say of_upkeep sixty long on
+returns-clause-minute_meanwhile c net most_routes most_services histories ticks further router number settings (busy, leave) say of_upkeep sixty long on
     services =
     let all_calm = calm_ticks net most_routes most_services (begun histories) (ticks ++ further) busy leave say in
-    minute_then c net most_routes most_services histories ticks further is differ suffice cheap room are all_calm router number of_upkeep sixty on
-    (stay_then c net most_routes most_services histories ticks further is differ suffice cheap room are all_calm long services)
+    minute_then c net most_routes most_services histories ticks further settings all_calm router number of_upkeep sixty on
+    (stay_then c net most_routes most_services histories ticks further settings all_calm long services)
