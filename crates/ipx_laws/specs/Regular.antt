@@ -5,12 +5,12 @@ use Rattle.ipx_wire.specs.WriteServices.{entry_of}
 use Rattle.ipx_wire.specs.declared.sap.Sap.TheVariants.{Query, Response}
 use Rattle.ipx_router.specs.Facts.{heard_after}
 use Rattle.ipx_router.specs.Heard.{Heard, HeardRip, HeardSap}
-use Rattle.ipx_router.specs.History.{Packet}
+use Rattle.ipx_router.specs.History.{History, Packet}
 use Rattle.ipx_router.specs.Numbers.{period}
 use Rattle.ipx_router.specs.Port.{is_up}
-use Rattle.ipx_internet.specs.Internet.{Internet, Place, ports_of, network_of}
+use Rattle.ipx_internet.specs.Internet.{Internet, Place, IsInternet, ports_of, network_of}
 use Rattle.ipx_internet.specs.Queue.{history_of}
-use Rattle.ipx_internet.specs.Run.{Step, Happens, Settles, Run, stepped}
+use Rattle.ipx_internet.specs.Run.{Step, Happens, Settles, AreHistories, Run, stepped}
 use Rattle.ipx_internet.specs.Ticks.{ticked}
 use Rattle.ipx_laws.specs.Gone.{most_ticks_gone}
 use Rattle.ipx_laws.specs.Meanwhile.{SaysOnly, EachStep}
@@ -65,9 +65,11 @@ pub record HasRoomFor (net : Internet) (most_services : ℕ) (names : List (ℕ 
   pub table : length names ≤ most_services
   pub shares : AllByRecursion (λ ports. AllByRecursion (λ p. length names ≤ p.service_share) ports) net
 
--- each host says one number of hops, and of the listed names, of which this server's is one, each table has room for all
-abbrev pub IsListed : Internet → ℕ → List (ℕ × List ℕ) → Server → Type 0
-IsListed net most_services names server = HaveOneVoice server × HasRoomFor net most_services names × IsListedName names (server.kind, server.name)
+-- an internet, and what happened to its routers before, where they come to know a server's service: each of its hosts says one number of
+-- hops, and of the listed names, of which the service's is one, each table has room for all
+abbrev pub IsServiceSetting : Internet → ℕ → List History → List (ℕ × List ℕ) → Server → Type 0
+IsServiceSetting net most_services histories names server =
+    IsInternet net × AreHistories net histories × HaveOneVoice server × HasRoomFor net most_services names × IsListedName names (server.kind, server.name)
 
 -- in those ticks hosts say nothing false of the service, name listed ones alone, and are heard in time
 abbrev pub AreRegular : Internet → ℕ → ℕ → Server → List (ℕ × List ℕ) → (ℕ → List ℕ) → Run → List (List Step) → Type 0

@@ -1,5 +1,5 @@
 -- A service that hosts announce again and again: who announces it, what hosts say of it, what a router may know of it, and how far away it is.
-use Rattle.std.specs.Prelude.{◌≡◌, ◌≢◌, ◌⊎◌, ℕ, suc, ◌<◌, ◌≤◌, true, List, Option, Ok, Some, slice_get}
+use Rattle.std.specs.Prelude.{◌≡◌, ◌≢◌, ◌⊎◌, ℕ, suc, ◌<◌, ◌≤◌, true, List, length, Option, Ok, Some, slice_get}
 use Rattle.std.specs.List.{AllByRecursion, find}
 use Rattle.std.specs.Option.{option_map}
 use Rattle.std.specs.Ordering.{is_eq}
@@ -112,6 +112,13 @@ module _ (net : Internet) (up : ℕ → List ℕ) (server : Server) where
     beyond : {router hops : ℕ} (port : ℕ) (from : Place) → router ≢ from.router → is_up (up router) port ≡ true
         → is_up (up from.router) from.port ≡ true → network_of net (record { router = router; port = port }) ≡ network_of net from
         → IsAway from.router hops → IsAway router (suc hops)
+
+  -- a router is beside the nearest of the hosts that announce it, with fewer than 16 hops: that port of it is up on this host's network
+  abbrev pub IsBeside : Place → ℕ → Announcer → Type 0
+  IsBeside place which host =
+      (place.router < length net) × (is_up (up place.router) place.port ≡ true) × (slice_get server.announcers which ≡ Some host)
+      × (network_of net place ≡ host.network) × (host.hops < unreachable)
+      × ((number : ℕ) (other : Announcer) → slice_get server.announcers number ≡ Some other → host.hops ≤ other.hops)
 
   -- the fewest hops of all its ways there
   abbrev pub IsFewest : ℕ → ℕ → Type 0

@@ -221,9 +221,8 @@ pub fn fifteen_suffice()
 ///
 /// Ways lead over the ports that are up, of routers that run, whichever these are. Fifteen hops suffice for that network, as they do where
 /// there are at most 16 routers (`fifteen_suffice`), no port costs more than 4,095 ticks, and the ports of two routers on one network have
-/// different nodes. Every table has room for all networks that its router has
-/// no port on, and so has the share of every port. Nothing but ticks happens, so ports stay as they are
-/// (`hosts::right_meanwhile` says it of hosts that speak).
+/// different nodes. Every table has room for all networks that its router has no port on, and so has the share of every port. All that is a
+/// setting (`IsSetting`). Nothing but ticks happens, so ports stay as they are (`hosts::right_meanwhile` says it of hosts that speak).
 pub fn right()
     ensures tables { (net : Internet) (most_routes most_services : ℕ) (histories : List History) (ticks : List (List Step)) (router : ℕ) (network : Network)
         → IsSetting net most_routes histories network → AreTicks net most_routes most_services (begun histories) ticks → router < length net
@@ -273,10 +272,10 @@ pub fn right()
 /// Where such a packet's destination has another node than the broadcast, these receptions are its whole tree (`ends`). The last one is at a
 /// router with a port that is up on that network, and no router receives what leaves there.
 ///
-/// It is for one network. No port of a router sent it or is where it goes, and its source isn't the broadcast node. No port by which one of
-/// that router's least ways leads finds it too long. Its transport control and these hops are together fewer than 16. The rest is asked for
-/// as by `right`, of ticks that begin with nothing that waits; whatever waits, forged packets too, packets arrive in the
-/// same way after one tick more (`whatever_waits`).
+/// It is for one network. No port of a router sent it or is where it goes, and its source isn't the broadcast node. No port by which one of that
+/// router's least ways leads finds it too long. Its transport control and these hops are together fewer than 16 (`CanArrive`). The rest is asked for
+/// as by `right`, of ticks that begin with nothing that waits; whatever waits, forged packets too, packets arrive in the same way after one tick more
+/// (`whatever_waits`).
 pub fn arrives()
     ensures goes { (net : Internet) (most_routes most_services : ℕ) (histories : List History) (ticks : List (List Step)) (place : Place) (bytes : List ℕ) (p : Parts) (way : Way)
         → IsSetting net most_routes histories p.header.destination.network → AreTicks net most_routes most_services (begun histories) ticks

@@ -33,7 +33,7 @@ use Rattle.ipx_internet.proofs.examples.Words.{network, node, port_on, at}
 use Rattle.ipx_internet.proofs.packets.SentOnOrReply.{Layouts}
 use Rattle.ipx_internet.proofs.ticks.TickCanBeHad.{sound_run, can_be_busy}
 use Rattle.ipx_laws.specs.Meanwhile.{LeavesPorts, SaysOnly, EachTick}
-use Rattle.ipx_laws.specs.Regular.{IsListedName, most_ticks_known, IsHeard, HeardInSteps, HeardInTicks, AreInTime}
+use Rattle.ipx_laws.specs.Regular.{IsListedName, IsServiceSetting, most_ticks_known, IsHeard, HeardInSteps, HeardInTicks, AreInTime}
 use Rattle.ipx_laws.specs.Servers.{Announcer, NamesOnly, at_hops, known_of, SaysNoFalse}
 use Rattle.ipx_laws.specs.Ups.{ups}
 use Rattle.ipx_laws.proofs.examples.Hosts.{server, said, start, names, bytes, says, names_it, the_host, one_voice, room}
@@ -106,6 +106,9 @@ the_port (suc zero) zero e = absurd (omega (arith, e))
 the_port (suc zero) (suc zero) e = absurd (omega (arith, e))
 the_port (suc zero) (suc (suc port)) e = absurd (omega (arith, e))
 the_port (suc (suc router)) port e = absurd (omega (arith, e))
+
+pub setting : IsServiceSetting segment 8 start.histories names (server 0x10)
+setting = (made, are, one_voice, room, (0, refl))
 
 module _ (laws : Layouts) where
   abbrev pub up : ℕ → List ℕ

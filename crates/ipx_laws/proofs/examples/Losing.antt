@@ -22,12 +22,13 @@ use Rattle.ipx_internet.specs.Ticks.{AreTicks}
 use Rattle.ipx_internet.proofs.examples.Waiting.{segment, after}
 use Rattle.ipx_internet.proofs.examples.Words.{network, route}
 use Rattle.ipx_laws.specs.Least.{Way, is_on, least, least_route, way_of, HasRoom, IsWay, direct, further, FifteenSuffice}
+use Rattle.ipx_laws.specs.Setting.{IsSetting}
 use Rattle.ipx_laws.specs.Tables.{routes_of, AreRight}
 use Rattle.ipx_laws.specs.Ups.{ups}
 use Rattle.ipx_laws.proofs.examples.Changes.{lost}
 use Rattle.ipx_laws.proofs.examples.Meanwhile.{all_small, are_bytes}
 use Rattle.ipx_laws.proofs.examples.Premises.{ticks, left, are_by}
-use Rattle.ipx_laws.proofs.examples.Rights.{held, should, first_right, second_right, as_they_should, made}
+use Rattle.ipx_laws.proofs.examples.Rights.{held, should, first_right, second_right, as_they_should, made, cheap, differ}
 use Rattle.ipx_laws.proofs.tables.ComputedIsLeast.{least_is}
 use Rattle.ipx_laws.proofs.tables.FifteenHopsSuffice.{of_few_routers}
 use Rattle.ipx_laws.proofs.tables.LeastWays.{own_is, ups_within}
@@ -199,6 +200,10 @@ right router n inside =
 
 pub room : HasRoom segment 8
 room = record { table = (omega arith, (omega arith, tt)); shares = ((omega arith, (omega arith, tt)), ((omega arith, (omega arith, tt)), tt)) }
+
+-- so this is a setting for every network
+pub setting : (n : Network) → IsSetting segment 8 histories n
+setting n = (made, differ, suffice n, cheap, room, are)
 
 -- nobody hears anybody any more, so no second makes a delivery
 abbrev quiet_minute : List ℕ

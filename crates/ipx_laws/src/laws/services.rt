@@ -1,24 +1,19 @@
 //! What holds of services while hosts announce them, in every internet.
-ghost use Rattle.std.specs.Prelude.{◌≡◌, ◌≢◌, ℕ, suc, ◌<◌, ◌≤◌, true, List, [], ◌∷◌, ◌++◌, length, Some, slice_get};
+ghost use Rattle.std.specs.Prelude.{◌≡◌, ◌≢◌, ℕ, suc, ◌<◌, ◌≤◌, List, [], ◌∷◌, ◌++◌, length, Some};
 ghost use Rattle.std.specs.List.{AllByRecursion};
-ghost use Rattle.ipx_wire.specs.Piece.{IsBytes};
 ghost use Rattle.ipx_wire.specs.declared.address.Address.{Address};
-ghost use Rattle.ipx_wire.specs.declared.sap.Sap.TheVariants.{Query};
-ghost use Rattle.ipx_router.specs.Facts.{heard_after};
-ghost use Rattle.ipx_router.specs.Heard.{HeardSap};
 ghost use Rattle.ipx_router.specs.History.{History, Packet};
 ghost use Rattle.ipx_router.specs.Numbers.{every_service, unreachable};
-ghost use Rattle.ipx_router.specs.Port.{is_up};
-ghost use Rattle.ipx_internet.specs.Internet.{Internet, Place, IsInternet, NodesDiffer, ports_of, network_of};
-ghost use Rattle.ipx_internet.specs.Queue.{history_of, sends_at};
+ghost use Rattle.ipx_internet.specs.Internet.{Internet, Place, IsInternet, NodesDiffer, ports_of};
+ghost use Rattle.ipx_internet.specs.Queue.{sends_at};
 ghost use Rattle.ipx_internet.specs.Run.{Step, AreHistories, Run, begun, run_of};
 ghost use Rattle.ipx_internet.specs.Ticks.{ticked};
 ghost use Rattle.ipx_laws.specs.Gone.{most_ticks_gone};
 ghost use Rattle.ipx_laws.specs.Least.{most_ticks_right};
 ghost use Rattle.ipx_laws.specs.Meanwhile.{EachStep, AreTicksOfHosts};
-ghost use Rattle.ipx_laws.specs.Nearest.{LeadsElsewhere, IsAnswered};
-ghost use Rattle.ipx_laws.specs.Regular.{IsListed, AreRegular, NoneNearer, most_ticks_known};
-ghost use Rattle.ipx_laws.specs.Servers.{Announcer, Server, IsOf, at_hops, known_of, SaysNoFalse, IsServed, IsAway, IsFewest};
+ghost use Rattle.ipx_laws.specs.Nearest.{LeadsElsewhere, IsAnswered, Asks};
+ghost use Rattle.ipx_laws.specs.Regular.{IsServiceSetting, AreRegular, NoneNearer, most_ticks_known};
+ghost use Rattle.ipx_laws.specs.Servers.{Announcer, Server, IsOf, at_hops, known_of, SaysNoFalse, IsServed, IsAway, IsBeside, IsFewest};
 ghost use Rattle.ipx_laws.specs.Setting.{AreDeliveries};
 ghost use Rattle.ipx_laws.specs.Tables.{services_of};
 ghost use Rattle.ipx_laws.specs.Ups.{ups};
@@ -28,12 +23,11 @@ ghost use Rattle.ipx_laws.specs.Ups.{ups};
 /// as a way to one of those hosts, fewer than 16 (`away`): nobody has it nearer than it is. A router without such a way hasn't got it
 /// (`none`).
 ///
-/// In these ticks seconds pass, deliveries happen, and packets come from outside; nobody starts or stops, and no port goes down or comes
-/// up. A service is known by its type and its name. A packet from outside that names it comes where a host announces it: its source has
-/// that host's node, its destination is that network (0 means it too), and address and hops are as that host announces them. No request for
-/// routes is answered to the socket of SAP. Hosts may say anything else, and nothing is asked of how many routers there are, of nodes,
-/// costs or room. Whatever waits when the ticks begin, one tick more is enough, in which hosts may say anything (`whatever_waits`,
-/// `whatever_waits_away`).
+/// In these ticks seconds pass, deliveries happen, and packets come from outside; nobody starts or stops, and no port goes down or comes up
+/// (`AreTicksOfHosts`). A service is known by its type and its name. A packet from outside that names it comes where a host announces it: its source
+/// has that host's node, its destination is that network (0 means it too), and address and hops are as that host announces them. No request for
+/// routes is answered to the socket of SAP. Hosts may say anything else, and nothing is asked of how many routers there are, of nodes, costs or room.
+/// Whatever waits when the ticks begin, one tick more is enough, in which hosts may say anything (`whatever_waits`, `whatever_waits_away`).
 pub fn served()
     ensures real { (net : Internet) (most_routes most_services : ℕ) (server : Server) (histories : List History) (ticks : List (List Step)) (router : ℕ)
         → IsInternet net → AreHistories net histories → AreTicksOfHosts net most_routes most_services (begun histories) ticks
@@ -81,26 +75,21 @@ pub fn served()
 /// Beside `served` it asks for this. Each host that announces the service is heard in any 60 of these ticks, on every port of its network
 /// that is up, and one node on one network says one number of hops. Packets from outside name listed services alone, this one among them,
 /// and every table has room for all that are listed, and so has the share of each port. The router has a port up on that host's network,
-/// and no host says the service with fewer hops.
+/// and no host says the service with fewer hops (`IsBeside`).
 pub fn beside()
     ensures has { (net : Internet) (most_routes most_services : ℕ) (server : Server) (names : List (ℕ × List ℕ)) (histories : List History) (ticks : List (List Step))
         (place : Place) (which : ℕ) (host : Announcer)
-        → IsInternet net → AreHistories net histories → IsListed net most_services names server
-        → AreTicksOfHosts net most_routes most_services (begun histories) ticks
+        → IsServiceSetting net most_services histories names server → AreTicksOfHosts net most_routes most_services (begun histories) ticks
         → AreRegular net most_routes most_services server names (ups net histories) (begun histories) ticks → most_ticks_right ≤ length ticks
-        → place.router < length net → is_up (ups net histories place.router) place.port ≡ true → slice_get server.announcers which ≡ Some host
-        → network_of net place ≡ host.network → host.hops < unreachable
-        → ((number : ℕ) (other : Announcer) → slice_get server.announcers number ≡ Some other → host.hops ≤ other.hops)
+        → IsBeside net (ups net histories) server place which host
         → known_of server (services_of net most_services (ticked net most_routes most_services (begun histories) ticks).histories place.router)
         ≡ Some (at_hops server host.hops) }
     ensures whatever_waits { (net : Internet) (most_routes most_services : ℕ) (server : Server) (names : List (ℕ × List ℕ)) (run : Run) (first : List Step)
         (ticks : List (List Step)) (place : Place) (which : ℕ) (host : Announcer)
-        → IsInternet net → AreHistories net run.histories → AreDeliveries net run.waiting → IsListed net most_services names server
+        → IsServiceSetting net most_services run.histories names server → AreDeliveries net run.waiting
         → AreTicksOfHosts net most_routes most_services run (first ∷ ticks)
         → AreRegular net most_routes most_services server names (ups net run.histories) (run_of net most_routes most_services run first) ticks
-        → most_ticks_right ≤ length ticks → place.router < length net → is_up (ups net run.histories place.router) place.port ≡ true
-        → slice_get server.announcers which ≡ Some host → network_of net place ≡ host.network
-        → host.hops < unreachable → ((number : ℕ) (other : Announcer) → slice_get server.announcers number ≡ Some other → host.hops ≤ other.hops)
+        → most_ticks_right ≤ length ticks → IsBeside net (ups net run.histories) server place which host
         → known_of server (services_of net most_services (ticked net most_routes most_services run (first ∷ ticks)).histories place.router)
         ≡ Some (at_hops server host.hops) }
 {
@@ -121,7 +110,7 @@ pub fn beside()
 pub fn everywhere()
     ensures has { (net : Internet) (most_routes most_services : ℕ) (server : Server) (names : List (ℕ × List ℕ)) (nearest : ℕ) (histories : List History)
         (ticks : List (List Step)) (router hops : ℕ)
-        → IsInternet net → NodesDiffer net → AreHistories net histories → IsListed net most_services names server → NoneNearer server nearest
+        → IsServiceSetting net most_services histories names server → NodesDiffer net → NoneNearer server nearest
         → AreTicksOfHosts net most_routes most_services (begun histories) ticks
         → AreRegular net most_routes most_services server names (ups net histories) (begun histories) ticks
         → most_ticks_known nearest hops ≤ length ticks → router < length net → hops < unreachable
@@ -129,7 +118,7 @@ pub fn everywhere()
         → known_of server (services_of net most_services (ticked net most_routes most_services (begun histories) ticks).histories router) ≡ Some (at_hops server hops) }
     ensures meanwhile { (net : Internet) (most_routes most_services : ℕ) (server : Server) (names : List (ℕ × List ℕ)) (nearest : ℕ) (histories : List History)
         (ticks : List (List Step)) (steps rest : List Step) (router hops : ℕ)
-        → IsInternet net → NodesDiffer net → AreHistories net histories → IsListed net most_services names server → NoneNearer server nearest
+        → IsServiceSetting net most_services histories names server → NodesDiffer net → NoneNearer server nearest
         → AreTicksOfHosts net most_routes most_services (begun histories) (ticks ++ (steps ++ rest) ∷ [])
         → AreRegular net most_routes most_services server names (ups net histories) (begun histories) (ticks ++ (steps ++ rest) ∷ [])
         → most_ticks_known nearest hops ≤ length ticks → router < length net → hops < unreachable
@@ -138,16 +127,16 @@ pub fn everywhere()
         ≡ Some (at_hops server hops) }
     ensures whatever_waits { (net : Internet) (most_routes most_services : ℕ) (server : Server) (names : List (ℕ × List ℕ)) (nearest : ℕ) (run : Run) (first : List Step)
         (ticks : List (List Step)) (router hops : ℕ)
-        → IsInternet net → NodesDiffer net → AreHistories net run.histories → AreDeliveries net run.waiting → IsListed net most_services names server
-        → NoneNearer server nearest → AreTicksOfHosts net most_routes most_services run (first ∷ ticks)
+        → IsServiceSetting net most_services run.histories names server → NodesDiffer net → AreDeliveries net run.waiting → NoneNearer server nearest
+        → AreTicksOfHosts net most_routes most_services run (first ∷ ticks)
         → AreRegular net most_routes most_services server names (ups net run.histories) (run_of net most_routes most_services run first) ticks
         → most_ticks_known nearest hops ≤ length ticks → router < length net → hops < unreachable
         → IsFewest net (ups net run.histories) server router hops
         → known_of server (services_of net most_services (ticked net most_routes most_services run (first ∷ ticks)).histories router) ≡ Some (at_hops server hops) }
     ensures whatever_waits_meanwhile { (net : Internet) (most_routes most_services : ℕ) (server : Server) (names : List (ℕ × List ℕ)) (nearest : ℕ) (run : Run)
         (first : List Step) (ticks : List (List Step)) (steps rest : List Step) (router hops : ℕ)
-        → IsInternet net → NodesDiffer net → AreHistories net run.histories → AreDeliveries net run.waiting → IsListed net most_services names server
-        → NoneNearer server nearest → AreTicksOfHosts net most_routes most_services run (first ∷ ticks ++ (steps ++ rest) ∷ [])
+        → IsServiceSetting net most_services run.histories names server → NodesDiffer net → AreDeliveries net run.waiting → NoneNearer server nearest
+        → AreTicksOfHosts net most_routes most_services run (first ∷ ticks ++ (steps ++ rest) ∷ [])
         → AreRegular net most_routes most_services server names (ups net run.histories) (run_of net most_routes most_services run first) (ticks ++ (steps ++ rest) ∷ [])
         → most_ticks_known nearest hops ≤ length ticks → router < length net → hops < unreachable
         → IsFewest net (ups net run.histories) server router hops
@@ -169,32 +158,28 @@ pub fn everywhere()
 pub fn nearest()
     ensures answered { (net : Internet) (most_routes most_services : ℕ) (server : Server) (names : List (ℕ × List ℕ)) (nearest : ℕ) (histories : List History)
         (ticks : List (List Step)) (steps rest : List Step) (hops : ℕ) (place : Place) (source : Address) (bytes : List ℕ)
-        → IsInternet net → NodesDiffer net → AreHistories net histories → IsListed net most_services names server → NoneNearer server nearest
+        → IsServiceSetting net most_services histories names server → NodesDiffer net → NoneNearer server nearest
         → AreTicksOfHosts net most_routes most_services (begun histories) (ticks ++ (steps ++ rest) ∷ [])
         → AreRegular net most_routes most_services server names (ups net histories) (begun histories) (ticks ++ (steps ++ rest) ∷ [])
         → most_ticks_known nearest hops ≤ length ticks → place.router < length net → suc hops < unreachable
         → IsFewest net (ups net histories) server place.router hops → server.kind ≢ every_service
-        → LeadsElsewhere net (ups net histories) server place hops → IsBytes bytes
-        → heard_after (ports_of net place.router)
-        (history_of (run_of net most_routes most_services (ticked net most_routes most_services (begun histories) ticks) steps).histories place.router) place.port bytes
-        ≡ Some (HeardSap source (Query true server.kind))
+        → LeadsElsewhere net (ups net histories) server place hops
+        → let now = run_of net most_routes most_services (ticked net most_routes most_services (begun histories) ticks) steps in
+        Asks net now.histories place source server.kind bytes
         → IsAnswered (ports_of net place.router) place.port source server.kind (suc hops)
-        (sends_at net most_routes most_services (run_of net most_routes most_services (ticked net most_routes most_services (begun histories) ticks) steps).histories
-        place.router (Packet place.port bytes)) }
+        (sends_at net most_routes most_services now.histories place.router (Packet place.port bytes)) }
     ensures whatever_waits { (net : Internet) (most_routes most_services : ℕ) (server : Server) (names : List (ℕ × List ℕ)) (nearest : ℕ) (run : Run) (first : List Step)
         (ticks : List (List Step)) (steps rest : List Step) (hops : ℕ) (place : Place) (source : Address) (bytes : List ℕ)
-        → IsInternet net → NodesDiffer net → AreHistories net run.histories → AreDeliveries net run.waiting → IsListed net most_services names server
-        → NoneNearer server nearest → AreTicksOfHosts net most_routes most_services run (first ∷ ticks ++ (steps ++ rest) ∷ [])
+        → IsServiceSetting net most_services run.histories names server → NodesDiffer net → AreDeliveries net run.waiting → NoneNearer server nearest
+        → AreTicksOfHosts net most_routes most_services run (first ∷ ticks ++ (steps ++ rest) ∷ [])
         → AreRegular net most_routes most_services server names (ups net run.histories) (run_of net most_routes most_services run first) (ticks ++ (steps ++ rest) ∷ [])
         → most_ticks_known nearest hops ≤ length ticks → place.router < length net → suc hops < unreachable
         → IsFewest net (ups net run.histories) server place.router hops → server.kind ≢ every_service
-        → LeadsElsewhere net (ups net run.histories) server place hops → IsBytes bytes
-        → heard_after (ports_of net place.router)
-        (history_of (run_of net most_routes most_services (ticked net most_routes most_services run (first ∷ ticks)) steps).histories place.router) place.port bytes
-        ≡ Some (HeardSap source (Query true server.kind))
+        → LeadsElsewhere net (ups net run.histories) server place hops
+        → let now = run_of net most_routes most_services (ticked net most_routes most_services run (first ∷ ticks)) steps in
+        Asks net now.histories place source server.kind bytes
         → IsAnswered (ports_of net place.router) place.port source server.kind (suc hops)
-        (sends_at net most_routes most_services (run_of net most_routes most_services (ticked net most_routes most_services run (first ∷ ticks)) steps).histories
-        place.router (Packet place.port bytes)) }
+        (sends_at net most_routes most_services now.histories place.router (Packet place.port bytes)) }
 {
     ipx_wire::laws::readings();
     ipx_wire::laws::service_readings();

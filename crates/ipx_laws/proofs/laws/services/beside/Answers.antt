@@ -36,7 +36,7 @@ layouts c = record {
 }
 
 pub returns-clause-has : goal.returns-clause-has
-returns-clause-has c net most_routes most_services server names histories ticks place which host is are (voice, room, listed) (busy, leave) (say, named, in_time) long inside on announces network reached least =
+returns-clause-has c net most_routes most_services server names histories ticks place which host (is, are, voice, room, listed) (busy, leave) (say, named, in_time) long (inside, on, announces, network, reached, least) =
     let rests = rested net (layouts c) is most_routes most_services (ups net histories) server (IsListedName names) (begun histories) [] are (λ router within. refl) refl
     tt tt tt tt in
     has net (layouts c) is most_routes most_services (ups net histories) server names
@@ -45,7 +45,7 @@ returns-clause-has c net most_routes most_services server names histories ticks 
     (begun histories) rests ticks long busy leave say named in_time
 
 pub returns-clause-whatever_waits : goal.returns-clause-whatever_waits
-returns-clause-whatever_waits c net most_routes most_services server names run first ticks place which host is are waits (voice, room, listed) (busy, leave) (say, named, in_time) long inside on announces network reached least =
+returns-clause-whatever_waits c net most_routes most_services server names run first ticks place which host (is, are, voice, room, listed) waits (busy, leave) (say, named, in_time) long (inside, on, announces, network, reached, least) =
     let next = run_of net most_routes most_services run first in
     let begins = begins_after net (layouts c) is most_routes most_services run are waits first busy.0 leave.0 in
     let rests = rested net (layouts c) is most_routes most_services (ups net run.histories) server (IsListedName names) next [] begins.are

@@ -41,7 +41,7 @@ layouts c = record {
 }
 
 pub returns-clause-has : goal.returns-clause-has
-returns-clause-has c net most_routes most_services server names nearest histories ticks router hops is differ are (voice, room, listed) least (busy, leave) (say, named, in_time) long inside near fewest =
+returns-clause-has c net most_routes most_services server names nearest histories ticks router hops (is, are, voice, room, listed) differ least (busy, leave) (say, named, in_time) long inside near fewest =
     let start = begun histories in
     let rests = rested net (layouts c) is most_routes most_services (ups net histories) server (IsListedName names) start [] are (λ k within. refl) refl tt tt tt tt in
     known_last net (layouts c) is most_routes most_services (ups net histories) server names
@@ -50,7 +50,7 @@ returns-clause-has c net most_routes most_services server names nearest historie
     (record { busy = busy; leave = leave; say = say; named = named; in_time = in_time }) router inside fewest
 
 pub returns-clause-meanwhile : goal.returns-clause-meanwhile
-returns-clause-meanwhile c net most_routes most_services server names nearest histories ticks steps rest router hops is differ are (voice, room, listed) least (busy, leave) (say, named, in_time) long inside near fewest =
+returns-clause-meanwhile c net most_routes most_services server names nearest histories ticks steps rest router hops (is, are, voice, room, listed) differ least (busy, leave) (say, named, in_time) long inside near fewest =
     let start = begun histories in
     let rests = rested net (layouts c) is most_routes most_services (ups net histories) server (IsListedName names) start [] are (λ k within. refl) refl tt tt tt tt in
     at_prefix net most_routes most_services server
@@ -63,7 +63,7 @@ returns-clause-meanwhile c net most_routes most_services server names nearest hi
     (record { busy = busy; leave = leave; say = say; named = named; in_time = in_time }) router inside fewest)
 
 pub returns-clause-whatever_waits : goal.returns-clause-whatever_waits
-returns-clause-whatever_waits c net most_routes most_services server names nearest run first ticks router hops is differ are waits (voice, room, listed) least (busy, leave) (say, named, in_time) long inside near fewest =
+returns-clause-whatever_waits c net most_routes most_services server names nearest run first ticks router hops (is, are, voice, room, listed) differ waits least (busy, leave) (say, named, in_time) long inside near fewest =
     let next = run_of net most_routes most_services run first in
     let begins = begins_after net (layouts c) is most_routes most_services run are waits first busy.0 leave.0 in
     let rests = rested net (layouts c) is most_routes most_services (ups net run.histories) server (IsListedName names) next [] begins.are
@@ -74,7 +74,7 @@ returns-clause-whatever_waits c net most_routes most_services server names neare
     (record { busy = busy.1; leave = leave.1; say = say; named = named; in_time = in_time }) router inside fewest
 
 pub returns-clause-whatever_waits_meanwhile : goal.returns-clause-whatever_waits_meanwhile
-returns-clause-whatever_waits_meanwhile c net most_routes most_services server names nearest run first ticks steps rest router hops is differ are waits (voice, room, listed) least (busy, leave) (say, named, in_time) long inside near fewest =
+returns-clause-whatever_waits_meanwhile c net most_routes most_services server names nearest run first ticks steps rest router hops (is, are, voice, room, listed) differ waits least (busy, leave) (say, named, in_time) long inside near fewest =
     let next = run_of net most_routes most_services run first in
     let begins = begins_after net (layouts c) is most_routes most_services run are waits first busy.0 leave.0 in
     let rests = rested net (layouts c) is most_routes most_services (ups net run.histories) server (IsListedName names) next [] begins.are

@@ -47,7 +47,7 @@ layouts c = record {
 }
 
 pub returns-clause-answered : goal.returns-clause-answered
-returns-clause-answered c net most_routes most_services server names nearest histories ticks steps rest hops place source bytes is differ are (voice, room, listed) least (busy, leave) (say, named, in_time) long inside near fewest kind elsewhere are_bytes heard =
+returns-clause-answered c net most_routes most_services server names nearest histories ticks steps rest hops place source bytes (is, are, voice, room, listed) differ least (busy, leave) (say, named, in_time) long inside near fewest kind elsewhere (are_bytes, heard) =
     let start = begun histories in
     let rests = rested net (layouts c) is most_routes most_services (ups net histories) server (IsListedName names) start [] are (λ k within. refl) refl tt tt tt tt in
     let last = ticked net most_routes most_services start ticks in
@@ -69,7 +69,7 @@ returns-clause-answered c net most_routes most_services server names nearest his
     are_bytes source (length ticks + 0) (omega (arith, long)) last steps rest then_rests ticks_busy.1.0 leaves.1.0 says.1.0 names_say.1.0 has heard
 
 pub returns-clause-whatever_waits : goal.returns-clause-whatever_waits
-returns-clause-whatever_waits c net most_routes most_services server names nearest run first ticks steps rest hops place source bytes is differ are waits (voice, room, listed) least (busy, leave) (say, named, in_time) long inside near fewest kind elsewhere are_bytes heard =
+returns-clause-whatever_waits c net most_routes most_services server names nearest run first ticks steps rest hops place source bytes (is, are, voice, room, listed) differ waits least (busy, leave) (say, named, in_time) long inside near fewest kind elsewhere (are_bytes, heard) =
     let start = run_of net most_routes most_services run first in
     let begins = begins_after net (layouts c) is most_routes most_services run are waits first busy.0 leave.0 in
     let rests = rested net (layouts c) is most_routes most_services (ups net run.histories) server (IsListedName names) start [] begins.are
