@@ -101,3 +101,7 @@ module _ (net : Internet) (most_routes most_services : ℕ) where
   -- in each of them hosts may speak, but ports stay as they are and routers run on
   abbrev pub AreTicksOfHosts : Run → List (List Step) → Type 0
   AreTicksOfHosts run ticks = AreBusyTicks run ticks × EachStep LeavesPorts ticks
+
+  -- and nothing that may be heard of them says a route
+  abbrev pub AreCalmTicks : Run → List (List Step) → Type 0
+  AreCalmTicks run ticks = AreTicksOfHosts run ticks × EachStep (SaysOnly TellsNoRoute) ticks

@@ -14,7 +14,7 @@ ghost use Rattle.ipx_internet.specs.Run.{Step, AreHistories, Run, begun};
 ghost use Rattle.ipx_internet.specs.Ticks.{seconds_of, AreTicks, ticked};
 ghost use Rattle.ipx_laws.specs.Departure.{departures};
 ghost use Rattle.ipx_laws.specs.Least.{networks_of, most_ticks_right};
-ghost use Rattle.ipx_laws.specs.Meanwhile.{TellsNoRoute, SaysOnly, EachStep, AreTicksOfHosts};
+ghost use Rattle.ipx_laws.specs.Meanwhile.{AreCalmTicks};
 ghost use Rattle.ipx_laws.specs.Real.{IsReal};
 ghost use Rattle.ipx_laws.specs.Setting.{IsSetting};
 ghost use Rattle.ipx_laws.specs.Tables.{routes_of, AreReal};
@@ -72,15 +72,13 @@ pub fn upkeep()
 pub fn tables_stay()
     ensures stay { (net : Internet) (most_routes most_services : ℕ) (histories : List History) (ticks further : List (List Step))
         → ((network : Network) → IsSetting net most_routes histories network)
-        → AreTicksOfHosts net most_routes most_services (begun histories) (ticks ++ further) → EachStep (SaysOnly TellsNoRoute) (ticks ++ further)
-        → most_ticks_right ≤ length ticks
+        → AreCalmTicks net most_routes most_services (begun histories) (ticks ++ further) → most_ticks_right ≤ length ticks
         → let run = ticked net most_routes most_services (begun histories) ticks in
         ServicesStay net most_routes most_services run.histories run (steps_of further)
         → TablesStay net most_routes most_services run.histories run (steps_of further) }
     ensures sooner { (net : Internet) (most_routes most_services : ℕ) (histories : List History) (ticks further : List (List Step))
         → ((network : Network) → IsSetting net most_routes histories network) → AreReal net most_routes histories (ups net histories)
-        → AreTicksOfHosts net most_routes most_services (begun histories) (ticks ++ further) → EachStep (SaysOnly TellsNoRoute) (ticks ++ further)
-        → period ≤ length ticks
+        → AreCalmTicks net most_routes most_services (begun histories) (ticks ++ further) → period ≤ length ticks
         → let run = ticked net most_routes most_services (begun histories) ticks in
         ServicesStay net most_routes most_services run.histories run (steps_of further)
         → TablesStay net most_routes most_services run.histories run (steps_of further) }
@@ -104,9 +102,8 @@ pub fn tables_stay()
         ≡ all_pages (ports_of net router) (has net most_routes most_services run.histories router) number }
     ensures minute_meanwhile { (net : Internet) (most_routes most_services : ℕ) (histories : List History) (ticks further : List (List Step)) (router number : ℕ)
         → ((network : Network) → IsSetting net most_routes histories network)
-        → AreTicksOfHosts net most_routes most_services (begun histories) (ticks ++ further) → EachStep (SaysOnly TellsNoRoute) (ticks ++ further)
-        → AllByRecursion (IsOfUpkeep net) (steps_of further) → length further ≡ period → most_ticks_right ≤ length ticks
-        → is_up (ups net histories router) number ≡ true
+        → AreCalmTicks net most_routes most_services (begun histories) (ticks ++ further) → AllByRecursion (IsOfUpkeep net) (steps_of further)
+        → length further ≡ period → most_ticks_right ≤ length ticks → is_up (ups net histories router) number ≡ true
         → let run = ticked net most_routes most_services (begun histories) ticks in
         ServicesStay net most_routes most_services run.histories run (steps_of further)
         → sent_by router number (departures net most_routes most_services run (steps_of further))

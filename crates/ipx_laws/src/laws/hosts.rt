@@ -14,7 +14,7 @@ ghost use Rattle.ipx_internet.specs.Tree.{root};
 ghost use Rattle.ipx_laws.specs.Arriving.{CanArrive, Arrives};
 ghost use Rattle.ipx_laws.specs.Gone.{most_ticks_gone};
 ghost use Rattle.ipx_laws.specs.Least.{Way, most_ticks_right};
-ghost use Rattle.ipx_laws.specs.Meanwhile.{TellsNoRoute, SaysOnly, EachStep, AreTicksOfHosts};
+ghost use Rattle.ipx_laws.specs.Meanwhile.{TellsNoRoute, SaysOnly, EachStep, AreTicksOfHosts, AreCalmTicks};
 ghost use Rattle.ipx_laws.specs.Real.{IsReal, led_over};
 ghost use Rattle.ipx_laws.specs.Setting.{IsSetting, AreDeliveries};
 ghost use Rattle.ipx_laws.specs.Tables.{routes_of, route_of, AreReal, IsRight};
@@ -25,19 +25,17 @@ ghost use Rattle.ipx_laws.specs.Ups.{ups};
 /// a response of routing information, or a query for services that is answered to the socket of RIP.
 pub fn real_meanwhile()
     ensures routes { (net : Internet) (most_routes most_services : ℕ) (histories : List History) (ticks : List (List Step)) (router : ℕ)
-        → IsInternet net → AreHistories net histories → AreTicksOfHosts net most_routes most_services (begun histories) ticks
-        → EachStep (SaysOnly TellsNoRoute) ticks → most_ticks_gone ≤ length ticks → router < length net
+        → IsInternet net → AreHistories net histories → AreCalmTicks net most_routes most_services (begun histories) ticks
+        → most_ticks_gone ≤ length ticks → router < length net
         → AllByRecursion (IsReal net (ups net histories) router)
         (routes_of net most_routes (ticked net most_routes most_services (begun histories) ticks).histories router) }
     ensures down { (net : Internet) (most_routes most_services : ℕ) (histories : List History) (ticks : List (List Step)) (router : ℕ) (place : Place)
-        → IsInternet net → AreHistories net histories → AreTicksOfHosts net most_routes most_services (begun histories) ticks
-        → EachStep (SaysOnly TellsNoRoute) ticks → most_ticks_gone ≤ length ticks → is_up (ups net histories place.router) place.port ≡ false
-        → router < length net
+        → IsInternet net → AreHistories net histories → AreCalmTicks net most_routes most_services (begun histories) ticks
+        → most_ticks_gone ≤ length ticks → is_up (ups net histories place.router) place.port ≡ false → router < length net
         → AllByRecursion (λ r. (real : IsReal net (ups net histories) router r) × AllByRecursion (λ p. p ≢ place) (led_over net (ups net histories) router r real))
         (routes_of net most_routes (ticked net most_routes most_services (begun histories) ticks).histories router) }
     ensures own_ports { (net : Internet) (most_routes most_services : ℕ) (histories : List History) (ticks : List (List Step)) (router : ℕ)
-        → IsInternet net → AreHistories net histories → AreTicksOfHosts net most_routes most_services (begun histories) ticks
-        → EachStep (SaysOnly TellsNoRoute) ticks → router < length net
+        → IsInternet net → AreHistories net histories → AreCalmTicks net most_routes most_services (begun histories) ticks → router < length net
         → AllByRecursion (λ r. is_up (ups net histories router) r.port ≡ true)
         (routes_of net most_routes (ticked net most_routes most_services (begun histories) ticks).histories router) }
 {
@@ -56,18 +54,17 @@ pub fn real_meanwhile()
 /// packets arrive (`arrives`).
 pub fn right_meanwhile()
     ensures tables { (net : Internet) (most_routes most_services : ℕ) (histories : List History) (ticks : List (List Step)) (router : ℕ) (network : Network)
-        → IsSetting net most_routes histories network → AreTicksOfHosts net most_routes most_services (begun histories) ticks
-        → EachStep (SaysOnly TellsNoRoute) ticks → router < length net → most_ticks_right ≤ length ticks
+        → IsSetting net most_routes histories network → AreCalmTicks net most_routes most_services (begun histories) ticks → router < length net
+        → most_ticks_right ≤ length ticks
         → IsRight net most_routes (ticked net most_routes most_services (begun histories) ticks).histories (ups net histories) router network }
     ensures stay { (net : Internet) (most_routes most_services : ℕ) (histories : List History) (ticks further : List (List Step)) (router : ℕ) (network : Network)
-        → IsSetting net most_routes histories network → AreTicksOfHosts net most_routes most_services (begun histories) (ticks ++ further)
-        → EachStep (SaysOnly TellsNoRoute) (ticks ++ further) → router < length net → most_ticks_right ≤ length ticks
+        → IsSetting net most_routes histories network → AreCalmTicks net most_routes most_services (begun histories) (ticks ++ further)
+        → router < length net → most_ticks_right ≤ length ticks
         → route_of net most_routes (ticked net most_routes most_services (begun histories) (ticks ++ further)).histories router network
         ≡ route_of net most_routes (ticked net most_routes most_services (begun histories) ticks).histories router network }
     ensures sooner { (net : Internet) (most_routes most_services : ℕ) (histories : List History) (ticks : List (List Step)) (router : ℕ) (network : Network)
         → IsSetting net most_routes histories network → AreReal net most_routes histories (ups net histories)
-        → AreTicksOfHosts net most_routes most_services (begun histories) ticks → EachStep (SaysOnly TellsNoRoute) ticks → router < length net
-        → period ≤ length ticks
+        → AreCalmTicks net most_routes most_services (begun histories) ticks → router < length net → period ≤ length ticks
         → IsRight net most_routes (ticked net most_routes most_services (begun histories) ticks).histories (ups net histories) router network }
     ensures whatever_waits { (net : Internet) (most_routes most_services : ℕ) (run : Run) (first : List Step) (ticks : List (List Step)) (router : ℕ) (network : Network)
         → IsSetting net most_routes run.histories network → AreDeliveries net run.waiting
@@ -76,8 +73,8 @@ pub fn right_meanwhile()
         → IsRight net most_routes (ticked net most_routes most_services run (first ∷ ticks)).histories (ups net run.histories) router network }
     ensures arrives { (net : Internet) (most_routes most_services : ℕ) (histories : List History) (ticks : List (List Step)) (place : Place) (bytes : List ℕ) (p : Parts)
         (way : Way)
-        → IsSetting net most_routes histories p.header.destination.network → AreTicksOfHosts net most_routes most_services (begun histories) ticks
-        → EachStep (SaysOnly TellsNoRoute) ticks → CanArrive net (ups net histories) place bytes p way → most_ticks_right ≤ length ticks
+        → IsSetting net most_routes histories p.header.destination.network → AreCalmTicks net most_routes most_services (begun histories) ticks
+        → CanArrive net (ups net histories) place bytes p way → most_ticks_right ≤ length ticks
         → Arrives (routers_after net most_routes (ticked net most_routes most_services (begun histories) ticks).histories) p.header.destination p.header.control way.hops 0
         (root place bytes) }
 {

@@ -153,12 +153,12 @@ module _ (c : After-upkeep) (net : Internet) (most_routes most_services : ℕ) (
     ticks_of_upkeep = are_of_upkeep net most_routes most_services run further parts.1
 
 pub returns-clause-stay : goal.returns-clause-stay
-returns-clause-stay c net most_routes most_services histories ticks further settings (busy, leave) say long services =
+returns-clause-stay c net most_routes most_services histories ticks further settings ((busy, leave), say) long services =
     stay_then c net most_routes most_services histories ticks further settings
     (calm_ticks net most_routes most_services (begun histories) (ticks ++ further) busy leave say) long services
 
 pub returns-clause-sooner : goal.returns-clause-sooner
-returns-clause-sooner c net most_routes most_services histories ticks further settings real (busy, leave) say long services =
+returns-clause-sooner c net most_routes most_services histories ticks further settings real ((busy, leave), say) long services =
     stay_sooner c net most_routes most_services histories ticks further settings real
     (calm_ticks net most_routes most_services (begun histories) (ticks ++ further) busy leave say) long services
 
@@ -178,7 +178,7 @@ returns-clause-minute c net most_routes most_services histories ticks further ro
     (alone_then c net most_routes most_services histories ticks further settings passes long)
 
 pub returns-clause-minute_meanwhile : goal.returns-clause-minute_meanwhile
-returns-clause-minute_meanwhile c net most_routes most_services histories ticks further router number settings (busy, leave) say of_upkeep sixty long on
+returns-clause-minute_meanwhile c net most_routes most_services histories ticks further router number settings ((busy, leave), say) of_upkeep sixty long on
     services =
     let all_calm = calm_ticks net most_routes most_services (begun histories) (ticks ++ further) busy leave say in
     minute_then c net most_routes most_services histories ticks further settings all_calm router number of_upkeep sixty on

@@ -38,17 +38,17 @@ module _ (c : goal.After-packets) (net : Internet) (most_routes most_services : 
   rests = rested net (layouts c) is most_routes most_services (ups net histories) (begun histories) ticks are (λ router. refl) refl passes
 
 pub returns-clause-routes : goal.returns-clause-routes
-returns-clause-routes c net most_routes most_services histories ticks router is are (busy, leave) says long within =
+returns-clause-routes c net most_routes most_services histories ticks router is are ((busy, leave), says) long within =
     all_real net (layouts c) is most_routes most_services histories (length ticks) (ticked net most_routes most_services (begun histories) ticks)
     (rests c net most_routes most_services histories ticks is are (calm_ticks net most_routes most_services (begun histories) ticks busy leave says)) router within long
 
 pub returns-clause-down : goal.returns-clause-down
-returns-clause-down c net most_routes most_services histories ticks router place is are (busy, leave) says long down within =
+returns-clause-down c net most_routes most_services histories ticks router place is are ((busy, leave), says) long down within =
     none_over net (layouts c) is most_routes most_services histories (length ticks) (ticked net most_routes most_services (begun histories) ticks)
     (rests c net most_routes most_services histories ticks is are (calm_ticks net most_routes most_services (begun histories) ticks busy leave says)) router within long
     place down
 
 pub returns-clause-own_ports : goal.returns-clause-own_ports
-returns-clause-own_ports c net most_routes most_services histories ticks router is are (busy, leave) says within =
+returns-clause-own_ports c net most_routes most_services histories ticks router is are ((busy, leave), says) within =
     all_on net (layouts c) is most_routes most_services histories (length ticks) (ticked net most_routes most_services (begun histories) ticks)
     (rests c net most_routes most_services histories ticks is are (calm_ticks net most_routes most_services (begun histories) ticks busy leave says)) router within

@@ -41,7 +41,7 @@ layouts c = record {
 }
 
 pub returns-clause-tables : goal.returns-clause-tables
-returns-clause-tables c net most_routes most_services histories ticks router network (is, differ, suffice, cheap, room, are) (busy, leave) says inside sure =
+returns-clause-tables c net most_routes most_services histories ticks router network (is, differ, suffice, cheap, room, are) ((busy, leave), says) inside sure =
     let calm = calm_ticks net most_routes most_services (begun histories) ticks busy leave says in
     let soon = soon_enough (least_route net (ups net histories) router network) in
     let long : most_ticks_gone ≤ length ticks = omega (arith, sure) in
@@ -50,7 +50,7 @@ returns-clause-tables c net most_routes most_services histories ticks router net
     (omega (arith, soon, sure))
 
 pub returns-clause-stay : goal.returns-clause-stay
-returns-clause-stay c net most_routes most_services histories ticks further router network (is, differ, suffice, cheap, room, are) (busy, leave) says inside sure =
+returns-clause-stay c net most_routes most_services histories ticks further router network (is, differ, suffice, cheap, room, are) ((busy, leave), says) inside sure =
     let soon = soon_enough (least_route net (ups net histories) router network) in
     let long : most_ticks_gone ≤ length ticks = omega (arith, sure) in
     let enough : ticks_right (least_route net (ups net histories) router network) ≤ length ticks = omega (arith, soon, sure) in
@@ -65,7 +65,7 @@ returns-clause-stay c net most_routes most_services histories ticks further rout
     (from_any net (layouts c) is differ cheap most_routes most_services room network histories are suffice ticks parts.0 long) parts.1 router inside enough)
 
 pub returns-clause-sooner : goal.returns-clause-sooner
-returns-clause-sooner c net most_routes most_services histories ticks router network (is, differ, suffice, cheap, room, are) real (busy, leave) says inside sure =
+returns-clause-sooner c net most_routes most_services histories ticks router network (is, differ, suffice, cheap, room, are) real ((busy, leave), says) inside sure =
     let calm = calm_ticks net most_routes most_services (begun histories) ticks busy leave says in
     let soon = soon_enough (least_route net (ups net histories) router network) in
     let enough : ticks_right (least_route net (ups net histories) router network) ≤ length ticks + most_ticks_gone = omega (arith, soon, sure) in
@@ -84,7 +84,7 @@ returns-clause-whatever_waits c net most_routes most_services run first ticks ro
     (from_run net (layouts c) is differ cheap most_routes most_services room network run are waits suffice first ticks busy.0 leave.0 calm long) long router inside (omega (arith, soon, sure))
 
 pub returns-clause-arrives : goal.returns-clause-arrives
-returns-clause-arrives c net most_routes most_services histories ticks place bytes p way (is, differ, suffice, cheap, room, are) (busy, leave) says (there, on, are_bytes, is_packet, of_host, away, least, short, few_control) sure =
+returns-clause-arrives c net most_routes most_services histories ticks place bytes p way (is, differ, suffice, cheap, room, are) ((busy, leave), says) (there, on, are_bytes, is_packet, of_host, away, least, short, few_control) sure =
     let to = p.header.destination in
     let calm = calm_ticks net most_routes most_services (begun histories) ticks busy leave says in
     let long : most_ticks_gone ≤ length ticks = omega (arith, sure) in
