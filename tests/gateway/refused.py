@@ -154,7 +154,7 @@ def nobody_answers_of_one_that_is_off():
     with Gateway("network 20 1 1490 interface v0 raw\n", SYSTEM.troubled, environment=trouble.environment()) as gate:
         gate.until("network 00000020 up")
         ip("link", "set", "v0", "down")
-        gate.told("network 00000020 is down")
+        gate.told("it is switched off")
         told = len(gate.lines)
         with trouble.fails("ioctl", errno.ENOMEM):
             let_pass(gate, 2)
