@@ -1,4 +1,4 @@
-use Rattle.std.proofs.Common.{arith, ◌≡◌, sym, ap, ◌∙◌, drop, ◌++◌, ◌∷◌, [], subst, List, length}
+use Rattle.std.proofs.Common.{◌≡◌, sym, ap, ◌∙◌, drop, ◌++◌, ◌∷◌, [], subst, List, length}
 use Rattle.std.proofs.lemmas.List.{length-map}
 use Rattle.ipx_router.specs.Stands.{State}
 use Rattle.ipx_internet.specs.Moment.{Moment, SharesNode, net_at}
@@ -17,16 +17,13 @@ pub invariant_of-self-2 : goal.invariant_of-self-2
 invariant_of-self-2 g c =
     let routers = c.self.inside.routers.items in
     let net = net_among routers in
-    let counted = c.len-number.ensures in
-    let all = c.make_place.new.routers.ok.0 in
-    let same = ap (λ (rs : List State). length rs) c.make_place.ensures.routers in
-    let number : c.len-number.result ≡ length routers = omega (arith, counted, all, same) in
-    let size = length-map routers (λ (s : State). s.ports) in
+    let number : c.len-number.result ≡ length routers =
+    c.len-number.ensures ∙ c.make_place.new.routers.ok.0 ∙ ap (λ (rs : List State). length rs) c.make_place.ensures.routers in
     subst (λ (rs : List State). IsSimulated g.row.R g.row.S rs c.add.new.self.list c.self.inside.front.deliveries c.self.inside.done c.self.inside.back.deliveries)
     (sym (c.push_reserved.ensures.items ∙ ap (λ (rs : List State). rs ++ c.args.router ∷ []) c.make_place.ensures.routers))
     (wider_simulated g.row.R g.row.S routers c.args.router c.self.inside.stations.list c.add.new.self.list c.self.inside.front.deliveries c.self.inside.done
     c.self.inside.back.deliveries c.self.invariant c.in_default.ensures.fresh c.is_router.ensures.are c.is_router.ensures.apart c.is_router.ensures.past
-    (c.add.ensures net (subst (λ (l : List Station). AreOf net l) (sym c.make_place.ensures.list) c.self.invariant.sound.stationed) (omega (arith, number, size))))
+    (c.add.ensures net (subst (λ (l : List Station). AreOf net l) (sym c.make_place.ensures.list) c.self.invariant.sound.stationed) (length-map routers (λ (s : State). s.ports) ∙ sym number)))
 
 pub returns-clause-fresh : goal.returns-clause-fresh
 returns-clause-fresh g c =
@@ -61,10 +58,8 @@ returns-in-Err-clause-queue g c = ap (λ (m : Moment). m.queue) c.self.view_is
 
 pub returns-clause-number : goal.returns-clause-number
 returns-clause-number g c =
-    let counted = c.len-number.ensures in
-    let all = c.make_place.new.routers.ok.0 in
-    let same = ap (λ (rs : List State). length rs) (c.make_place.ensures.routers ∙ ap (λ (m : Moment). m.routers) c.self.view_is) in
-    omega (arith, counted, all, same)
+    c.len-number.ensures ∙ c.make_place.new.routers.ok.0
+    ∙ ap (λ (rs : List State). length rs) (c.make_place.ensures.routers ∙ ap (λ (m : Moment). m.routers) c.self.view_is)
 
 pub returns-clause-last : goal.returns-clause-last
 returns-clause-last g c =
