@@ -131,6 +131,7 @@ static void begin_link(gateway *it, network *on, const network *was, changed *wh
     if (on->cable == NULL)
         on->cable = new_cable(it, on->set, what);
     on->lacks = NULL;
+    memset(on->told, 0, sizeof on->told);
     if (was == NULL)
         what->added++;
     else
