@@ -468,7 +468,8 @@ def what_was_heard_lately():
         for _ in range(4):
             clock.let_pass(180)
             gate.report()
-        assert is_held(gate, 0, 0) and tells_an_end(b)
+        assert is_held(gate, 0, 0)
+        until(lambda: tells_an_end(b), "what ended is told")
         assert f"report after {2 * 300 + 4 * 180} s\n" in gate.report()
 
 
