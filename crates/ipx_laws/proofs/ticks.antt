@@ -1,10 +1,9 @@
 -- Ticks, quiet or busy: how old what is held can be, what of it is real, and what ends.
 pub mod AfterEachStep
+pub mod AfterRest
 pub mod BusyTickAfterTick
 pub mod FineOrSoonEnded
-pub mod FirstTickClears
 pub mod GoneWhateverHappens
-pub mod LogsDontMatter
 pub mod NoServiceInTicks
 pub mod OwnPagesSayFine
 pub mod RealFromTheFirst

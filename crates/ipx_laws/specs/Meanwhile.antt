@@ -15,7 +15,9 @@ use Rattle.ipx_router.specs.Why.{is_propagated, is_for_rip, is_for_sap}
 use Rattle.ipx_internet.specs.BusyTick.{IsBusyTick}
 use Rattle.ipx_internet.specs.Internet.{Internet}
 use Rattle.ipx_internet.specs.Run.{Step, Happens, Settles, Run, stepped, run_of}
+use Rattle.ipx_internet.specs.Ticks.{AreTicks}
 use Rattle.ipx_laws.specs.Gone.{IsGone}
+use Rattle.ipx_laws.specs.Setting.{ComesToRest}
 
 -- ---- what may be heard of a packet, near or far
 
@@ -105,3 +107,23 @@ module _ (net : Internet) (most_routes most_services : ℕ) where
   -- and nothing that may be heard of them says a route
   abbrev pub AreCalmTicks : Run → List (List Step) → Type 0
   AreCalmTicks run ticks = AreTicksOfHosts run ticks × EachStep (SaysOnly TellsNoRoute) ticks
+
+  -- ---- such ticks after steps that leave nothing that waits; before those of hosts and calm ones, ports stay as they are in these, too
+
+  abbrev pub AreTicksAfter : Run → List Step → List (List Step) → Type 0
+  AreTicksAfter run first ticks =
+      ComesToRest net most_routes most_services run first × AreTicks net most_routes most_services (run_of net most_routes most_services run first) ticks
+
+  abbrev pub AreBusyTicksAfter : Run → List Step → List (List Step) → Type 0
+  AreBusyTicksAfter run first ticks =
+      ComesToRest net most_routes most_services run first × AreBusyTicks (run_of net most_routes most_services run first) ticks
+
+  abbrev pub AreTicksOfHostsAfter : Run → List Step → List (List Step) → Type 0
+  AreTicksOfHostsAfter run first ticks =
+      ComesToRest net most_routes most_services run first
+      × AllByRecursion LeavesPorts first × AreTicksOfHosts (run_of net most_routes most_services run first) ticks
+
+  abbrev pub AreCalmTicksAfter : Run → List Step → List (List Step) → Type 0
+  AreCalmTicksAfter run first ticks =
+      ComesToRest net most_routes most_services run first
+      × AllByRecursion LeavesPorts first × AreCalmTicks (run_of net most_routes most_services run first) ticks

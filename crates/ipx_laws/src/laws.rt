@@ -1,10 +1,12 @@
 //! What becomes true of every internet in time, whatever its routers' tables.
+//!
+//! Laws of ticks begin with steps after which nothing waits (`ComesToRest`): with none where nothing waits, as at `begun histories`, else with
+//! those of one tick. So whatever waits, forged packets too, one tick more is enough; hosts may say anything in it.
 pub mod changes;
 mod costs;
-pub mod hosts;
 pub mod services;
 
-ghost use Rattle.std.specs.Prelude.{◌≡◌, ◌≢◌, ℕ, ◌+◌, ◌<◌, ◌≤◌, true, false, List, [], ◌∷◌, ◌++◌, length, map, flat_map, Some};
+ghost use Rattle.std.specs.Prelude.{◌≡◌, ◌≢◌, ℕ, ◌+◌, ◌<◌, ◌≤◌, true, false, List, [], ◌∷◌, ◌++◌, length, map, flat_map, Option, Some};
 ghost use Rattle.std.specs.List.{AllByRecursion};
 ghost use Rattle.ipx_wire.specs.Packet.{Parts};
 ghost use Rattle.ipx_wire.specs.declared.address.Address.{Address};
@@ -24,9 +26,9 @@ ghost use Rattle.ipx_laws.specs.Arriving.{IsOfHost, CanArrive, Arrives, EndsOn};
 ghost use Rattle.ipx_laws.specs.Departure.{ObservesHorizon, departures, handed, deliveries_from};
 ghost use Rattle.ipx_laws.specs.Gone.{most_ticks_gone, IsGone};
 ghost use Rattle.ipx_laws.specs.Least.{Way, is_better, least, IsWay, most_hops, FifteenSuffice, CostTheSame, least_route, ticks_right, most_ticks_right};
-ghost use Rattle.ipx_laws.specs.Meanwhile.{IsWithoutRoute, IsWithoutService, SaysOnly, EachStep, StaysGone, EachTick, AreBusyTicks};
+ghost use Rattle.ipx_laws.specs.Meanwhile.{IsWithoutRoute, IsWithoutService, SaysOnly, EachStep, StaysGone, EachTick, AreCalmTicks, AreTicksAfter, AreBusyTicksAfter, AreCalmTicksAfter};
 ghost use Rattle.ipx_laws.specs.Real.{IsReal, led_over};
-ghost use Rattle.ipx_laws.specs.Setting.{IsSetting, AreDeliveries};
+ghost use Rattle.ipx_laws.specs.Setting.{IsSetting};
 ghost use Rattle.ipx_laws.specs.Tables.{routes_of, route_of, AreReal, IsRight, services_of};
 ghost use Rattle.ipx_laws.specs.Ups.{ups};
 
@@ -52,20 +54,24 @@ pub fn horizon()
     ipx_router::laws::no_route_goes_back();
 }
 
+/// Ticks in which nothing else happens are calm, and so ticks of hosts and busy ones: what a law says of those it says of them.
+pub fn ticks_are_calm()
+    ensures { (net : Internet) (most_routes most_services : ℕ) (run : Run) (ticks : List (List Step))
+        → AreTicks net most_routes most_services run ticks → AreCalmTicks net most_routes most_services run ticks }
+{}
+
 /// What is gone is gone everywhere after 2,880 ticks, whatever was in the tables before: where nobody has a port up on a network,
-/// no router has a route to it; and no router has any service, as no router announces one of its own.
-///
-/// Nothing waits when they begin. In a tick each router has one second, in any order, deliveries happen in between, and in the end nothing
-/// waits. Nothing else happens: packets of hosts, starts and stops, and ports that go down or come up aren't in it.
+/// no router has a route to it (`networks`), also while hosts speak, as in `real`. No router has any service, as no router announces one of
+/// its own (`services`): in these ticks each router has one second, in any order, deliveries happen in between, and nothing else does.
 pub fn gone()
-    ensures networks { (net : Internet) (most_routes most_services : ℕ) (histories : List History) (ticks : List (List Step)) (router : ℕ) (network : Network)
-        → IsInternet net → AreHistories net histories → AreTicks net most_routes most_services (begun histories) ticks
-        → most_ticks_gone ≤ length ticks → router < length net → IsGone net histories network
-        → AllByRecursion (λ r. r.network ≢ network) (routes_of net most_routes (ticked net most_routes most_services (begun histories) ticks).histories router) }
-    ensures services { (net : Internet) (most_routes most_services : ℕ) (histories : List History) (ticks : List (List Step)) (router : ℕ)
-        → IsInternet net → AreHistories net histories → AreTicks net most_routes most_services (begun histories) ticks → most_ticks_gone ≤ length ticks
-        → router < length net
-        → services_held (ports_of net router) most_services (history_of (ticked net most_routes most_services (begun histories) ticks).histories router) ≡ [] }
+    ensures networks { (net : Internet) (most_routes most_services : ℕ) (run : Run) (first : List Step) (ticks : List (List Step)) (router : ℕ) (network : Network)
+        → IsInternet net → AreHistories net run.histories → AreCalmTicksAfter net most_routes most_services run first ticks
+        → most_ticks_gone ≤ length ticks → router < length net → IsGone net run.histories network
+        → AllByRecursion (λ r. r.network ≢ network) (routes_of net most_routes (ticked net most_routes most_services run (first ∷ ticks)).histories router) }
+    ensures services { (net : Internet) (most_routes most_services : ℕ) (run : Run) (first : List Step) (ticks : List (List Step)) (router : ℕ)
+        → IsInternet net → AreHistories net run.histories → AreTicksAfter net most_routes most_services run first ticks
+        → most_ticks_gone ≤ length ticks → router < length net
+        → services_held (ports_of net router) most_services (history_of (ticked net most_routes most_services run (first ∷ ticks)).histories router) ≡ [] }
 {
     ipx_wire::laws::readings();
     ipx_wire::laws::service_readings();
@@ -76,21 +82,21 @@ pub fn gone()
 /// What is gone stays gone, whatever else happens meanwhile: starts and stops, ports that go down and come up, packets of hosts.
 ///
 /// After 2,880 ticks no router has a route to a network on which no port was up since they began, if no packet of a host said that it
-/// is reached; and no router has a service that no host announced since then. Nothing waits when they begin. In a tick each router has one
-/// second, everything else happens in any order, and in the end nothing waits. A host may ask what it likes, but a request for routes is
-/// not sent from the socket of SAP, nor a query for services from that of RIP: the answer would be read as what it is not.
+/// is reached; and no router has a service that no host announced since then. In a tick each router has one second, everything else happens
+/// in any order, and in the end nothing waits. A host may ask what it likes, but a request for routes is not sent from the socket of SAP, nor
+/// a query for services from that of RIP: the answer would be read as what it is not.
 pub fn gone_meanwhile()
-    ensures networks { (net : Internet) (most_routes most_services : ℕ) (histories : List History) (ticks : List (List Step)) (router : ℕ) (network : Network)
-        → IsInternet net → AreHistories net histories → AreBusyTicks net most_routes most_services (begun histories) ticks
+    ensures networks { (net : Internet) (most_routes most_services : ℕ) (run : Run) (first : List Step) (ticks : List (List Step)) (router : ℕ) (network : Network)
+        → IsInternet net → AreHistories net run.histories → AreBusyTicksAfter net most_routes most_services run first ticks
         → most_ticks_gone ≤ length ticks → router < length net
-        → EachTick net most_routes most_services (StaysGone net most_routes most_services network) (begun histories) ticks
+        → EachTick net most_routes most_services (StaysGone net most_routes most_services network) (run_of net most_routes most_services run first) ticks
         → EachStep (SaysOnly (IsWithoutRoute network)) ticks
-        → AllByRecursion (λ r. r.network ≢ network) (routes_of net most_routes (ticked net most_routes most_services (begun histories) ticks).histories router) }
-    ensures services { (net : Internet) (most_routes most_services : ℕ) (histories : List History) (ticks : List (List Step)) (router : ℕ) (key : ℕ × List ℕ)
-        → IsInternet net → AreHistories net histories → AreBusyTicks net most_routes most_services (begun histories) ticks
+        → AllByRecursion (λ r. r.network ≢ network) (routes_of net most_routes (ticked net most_routes most_services run (first ∷ ticks)).histories router) }
+    ensures services { (net : Internet) (most_routes most_services : ℕ) (run : Run) (first : List Step) (ticks : List (List Step)) (router : ℕ) (key : ℕ × List ℕ)
+        → IsInternet net → AreHistories net run.histories → AreBusyTicksAfter net most_routes most_services run first ticks
         → most_ticks_gone ≤ length ticks → router < length net → EachStep (SaysOnly (IsWithoutService key)) ticks
         → AllByRecursion (λ s. (s.service.kind, s.service.name) ≢ key)
-        (services_of net most_services (ticked net most_routes most_services (begun histories) ticks).histories router) }
+        (services_of net most_services (ticked net most_routes most_services run (first ∷ ticks)).histories router) }
 {
     ipx_wire::laws::readings();
     ipx_wire::laws::service_readings();
@@ -102,20 +108,13 @@ pub fn gone_meanwhile()
 /// and address as it said, and with no fewer hops, whatever was in the tables before and whatever else happens meanwhile. The router to which
 /// that packet came heard it or sent it on: a packet that is dropped there announces nothing.
 ///
-/// So a server that is switched off is forgotten everywhere, and one that moves is no longer looked for where it was. Nothing waits when the
-/// ticks begin; where anything does, forged packets too, it is so of the ticks after one more (`whatever_waits`). In a tick each router has one
-/// second, everything else happens in any order, and in the end nothing waits. A host may ask what it likes, but a request for routes is not
+/// So a server that is switched off is forgotten everywhere, and one that moves is no longer looked for where it was. In a tick each router has
+/// one second, everything else happens in any order, and in the end nothing waits. A host may ask what it likes, but a request for routes is not
 /// sent from the socket of SAP.
 pub fn announced()
-    ensures services { (net : Internet) (most_routes most_services : ℕ) (histories : List History) (ticks : List (List Step)) (router : ℕ)
-        → IsInternet net → AreHistories net histories → AreBusyTicks net most_routes most_services (begun histories) ticks
+    ensures services { (net : Internet) (most_routes most_services : ℕ) (run : Run) (first : List Step) (ticks : List (List Step)) (router : ℕ)
+        → IsInternet net → AreHistories net run.histories → AreBusyTicksAfter net most_routes most_services run first ticks
         → most_ticks_gone ≤ length ticks → router < length net → EachStep (SaysOnly AsksApart) ticks
-        → AllByRecursion (λ s. IsAnnounced net most_routes most_services (begun histories) ticks s.service)
-        (services_of net most_services (ticked net most_routes most_services (begun histories) ticks).histories router) }
-    ensures whatever_waits { (net : Internet) (most_routes most_services : ℕ) (run : Run) (first : List Step) (ticks : List (List Step)) (router : ℕ)
-        → IsInternet net → AreHistories net run.histories → AreDeliveries net run.waiting
-        → AreBusyTicks net most_routes most_services run (first ∷ ticks) → most_ticks_gone ≤ length ticks → router < length net
-        → EachStep (SaysOnly AsksApart) ticks
         → AllByRecursion (λ s. IsAnnounced net most_routes most_services (run_of net most_routes most_services run first) ticks s.service)
         (services_of net most_services (ticked net most_routes most_services run (first ∷ ticks)).histories router) }
 {
@@ -125,64 +124,32 @@ pub fn announced()
     ipx_router::laws::packets();
 }
 
-/// Every route is of a real way after 2,880 ticks in which nothing else happens, as in `gone`, whatever was in the tables before: each
-/// came by a port that is up from a router that has the network on another port, or has such a route by another one. All those ports are
-/// up, neighbour by neighbour, and hops and ticks are those of that way. Nothing waits when the ticks begin.
+/// Every route is of a real way after 2,880 calm ticks, whatever was in the tables before: each came by a port that is up from a router
+/// that has the network on another port, or has such a route by another one. All those ports are up, neighbour by neighbour, and hops and
+/// ticks are those of that way.
 ///
 /// So no route is of a way that leads over a port that has been down that long (`down`). The port by which a route came is up after
 /// any number of ticks (`own_ports`).
-pub fn real()
-    ensures routes { (net : Internet) (most_routes most_services : ℕ) (histories : List History) (ticks : List (List Step)) (router : ℕ)
-        → IsInternet net → AreHistories net histories → AreTicks net most_routes most_services (begun histories) ticks
-        → most_ticks_gone ≤ length ticks → router < length net
-        → AllByRecursion (IsReal net (ups net histories) router)
-        (routes_of net most_routes (ticked net most_routes most_services (begun histories) ticks).histories router) }
-    ensures down { (net : Internet) (most_routes most_services : ℕ) (histories : List History) (ticks : List (List Step)) (router : ℕ) (place : Place)
-        → IsInternet net → AreHistories net histories → AreTicks net most_routes most_services (begun histories) ticks
-        → most_ticks_gone ≤ length ticks → router < length net → is_up (ups net histories place.router) place.port ≡ false
-        → AllByRecursion (λ r. (real : IsReal net (ups net histories) router r) × AllByRecursion (λ p. p ≢ place) (led_over net (ups net histories) router r real))
-        (routes_of net most_routes (ticked net most_routes most_services (begun histories) ticks).histories router) }
-    ensures own_ports { (net : Internet) (most_routes most_services : ℕ) (histories : List History) (ticks : List (List Step)) (router : ℕ)
-        → IsInternet net → AreHistories net histories → AreTicks net most_routes most_services (begun histories) ticks → router < length net
-        → AllByRecursion (λ r. is_up (ups net histories router) r.port ≡ true)
-        (routes_of net most_routes (ticked net most_routes most_services (begun histories) ticks).histories router) }
-{
-    ipx_wire::laws::readings();
-    ipx_wire::laws::service_readings();
-    ipx_wire::laws::reread();
-    ipx_router::laws::packets();
-}
-
-/// Whatever waits when the ticks begin, forged packets too, one tick more is enough for what `gone`, `gone_meanwhile` and `real` say:
-/// the first one ends with nothing that waits.
 ///
-/// So after more than 2,880 ticks no router has a route to a network on which nobody has a port up, none has any service, and every
-/// route is of a real way. Where anything else happens meanwhile, it is so of what stayed gone after the first tick.
-pub fn whatever_waits()
-    ensures networks { (net : Internet) (most_routes most_services : ℕ) (run : Run) (ticks : List (List Step)) (router : ℕ) (network : Network)
-        → IsInternet net → AreHistories net run.histories → AreDeliveries net run.waiting → AreTicks net most_routes most_services run ticks
-        → most_ticks_gone < length ticks → router < length net → IsGone net run.histories network
-        → AllByRecursion (λ r. r.network ≢ network) (routes_of net most_routes (ticked net most_routes most_services run ticks).histories router) }
-    ensures services { (net : Internet) (most_routes most_services : ℕ) (run : Run) (ticks : List (List Step)) (router : ℕ)
-        → IsInternet net → AreHistories net run.histories → AreDeliveries net run.waiting → AreTicks net most_routes most_services run ticks
-        → most_ticks_gone < length ticks → router < length net
-        → services_held (ports_of net router) most_services (history_of (ticked net most_routes most_services run ticks).histories router) ≡ [] }
-    ensures routes { (net : Internet) (most_routes most_services : ℕ) (run : Run) (ticks : List (List Step)) (router : ℕ)
-        → IsInternet net → AreHistories net run.histories → AreDeliveries net run.waiting → AreTicks net most_routes most_services run ticks
-        → most_ticks_gone < length ticks → router < length net
-        → AllByRecursion (IsReal net (ups net run.histories) router) (routes_of net most_routes (ticked net most_routes most_services run ticks).histories router) }
-    ensures networks_meanwhile { (net : Internet) (most_routes most_services : ℕ) (run : Run) (first : List Step) (ticks : List (List Step)) (router : ℕ) (network : Network)
-        → IsInternet net → AreHistories net run.histories → AreDeliveries net run.waiting
-        → AreBusyTicks net most_routes most_services run (first ∷ ticks) → most_ticks_gone ≤ length ticks → router < length net
-        → EachTick net most_routes most_services (StaysGone net most_routes most_services network) (run_of net most_routes most_services run first) ticks
-        → EachStep (SaysOnly (IsWithoutRoute network)) ticks
-        → AllByRecursion (λ r. r.network ≢ network) (routes_of net most_routes (ticked net most_routes most_services run (first ∷ ticks)).histories router) }
-    ensures services_meanwhile { (net : Internet) (most_routes most_services : ℕ) (run : Run) (first : List Step) (ticks : List (List Step)) (router : ℕ) (key : ℕ × List ℕ)
-        → IsInternet net → AreHistories net run.histories → AreDeliveries net run.waiting
-        → AreBusyTicks net most_routes most_services run (first ∷ ticks) → most_ticks_gone ≤ length ticks → router < length net
-        → EachStep (SaysOnly (IsWithoutService key)) ticks
-        → AllByRecursion (λ s. (s.service.kind, s.service.name) ≢ key)
-        (services_of net most_services (ticked net most_routes most_services run (first ∷ ticks)).histories router) }
+/// In calm ticks hosts may speak: packets of any kind come from outside, near or far, with true or forged senders. But nobody starts or
+/// stops, no port goes down or comes up, and nothing that may be heard of such a packet is a response of routing information, or a query for
+/// services that is answered to the socket of RIP. Ticks in which nothing else happens are such (`ticks_are_calm`).
+pub fn real()
+    ensures routes { (net : Internet) (most_routes most_services : ℕ) (run : Run) (first : List Step) (ticks : List (List Step)) (router : ℕ)
+        → IsInternet net → AreHistories net run.histories → AreCalmTicksAfter net most_routes most_services run first ticks
+        → most_ticks_gone ≤ length ticks → router < length net
+        → AllByRecursion (IsReal net (ups net run.histories) router)
+        (routes_of net most_routes (ticked net most_routes most_services run (first ∷ ticks)).histories router) }
+    ensures down { (net : Internet) (most_routes most_services : ℕ) (run : Run) (first : List Step) (ticks : List (List Step)) (router : ℕ) (place : Place)
+        → IsInternet net → AreHistories net run.histories → AreCalmTicksAfter net most_routes most_services run first ticks
+        → most_ticks_gone ≤ length ticks → router < length net → is_up (ups net run.histories place.router) place.port ≡ false
+        → AllByRecursion
+        (λ r. (real : IsReal net (ups net run.histories) router r) × AllByRecursion (λ p. p ≢ place) (led_over net (ups net run.histories) router r real))
+        (routes_of net most_routes (ticked net most_routes most_services run (first ∷ ticks)).histories router) }
+    ensures own_ports { (net : Internet) (most_routes most_services : ℕ) (run : Run) (first : List Step) (ticks : List (List Step)) (router : ℕ)
+        → IsInternet net → AreHistories net run.histories → AreCalmTicksAfter net most_routes most_services run first ticks → router < length net
+        → AllByRecursion (λ r. is_up (ups net run.histories router) r.port ≡ true)
+        (routes_of net most_routes (ticked net most_routes most_services run (first ∷ ticks)).histories router) }
 {
     ipx_wire::laws::readings();
     ipx_wire::laws::service_readings();
@@ -212,49 +179,37 @@ pub fn fifteen_suffice()
         → FifteenSuffice net (ups net histories) network }
 {}
 
-/// Every table becomes right and stays so, whatever was in it before: after 2,940 ticks every router has the route of the least way to a
+/// Every table becomes right and stays so, whatever was in it before: after 2,940 calm ticks every router has the route of the least way to a
 /// network, however many hops that has, and where there is no way it has none, after 2,880 (`tables`). From then on it is the same route at
-/// the end of each tick, with hops, ticks, port and neighbour (`stay`). No network takes longer (`soon`). That is said of ticks that begin with
-/// nothing that waits; whatever waits, forged packets too, one tick more is enough, 2,941 at most (`whatever_waits`), and from then on too it
-/// is the same route (`whatever_waits_stay`). Where every route is of a real way from the first and nothing waits, 60 ticks are enough, the
-/// time from one broadcast of all to the next (`sooner`, `sooner_stay`).
+/// the end of each tick, with hops, ticks, port and neighbour (`stay`). No network takes longer (`soon`). Where every route is of a real way
+/// from the first and nothing waits, 60 ticks are enough, the time from one broadcast of all to the next (`sooner`, `sooner_stay`).
 ///
 /// Ways lead over the ports that are up, of routers that run, whichever these are. Fifteen hops suffice for that network, as they do where
 /// there are at most 16 routers (`fifteen_suffice`), no port costs more than 4,095 ticks, and the ports of two routers on one network have
 /// different nodes. Every table has room for all networks that its router has no port on, and so has the share of every port. All that is a
-/// setting (`IsSetting`). Nothing but ticks happens, so ports stay as they are (`hosts::right_meanwhile` says it of hosts that speak).
+/// setting (`IsSetting`). Hosts may speak, as in `real`; ports stay as they are.
 pub fn right()
-    ensures tables { (net : Internet) (most_routes most_services : ℕ) (histories : List History) (ticks : List (List Step)) (router : ℕ) (network : Network)
-        → IsSetting net most_routes histories network → AreTicks net most_routes most_services (begun histories) ticks → router < length net
-        → ticks_right (least_route net (ups net histories) router network) ≤ length ticks
-        → IsRight net most_routes (ticked net most_routes most_services (begun histories) ticks).histories (ups net histories) router network }
-    ensures stay { (net : Internet) (most_routes most_services : ℕ) (histories : List History) (ticks further : List (List Step)) (router : ℕ) (network : Network)
-        → IsSetting net most_routes histories network → AreTicks net most_routes most_services (begun histories) (ticks ++ further)
-        → router < length net → ticks_right (least_route net (ups net histories) router network) ≤ length ticks
-        → route_of net most_routes (ticked net most_routes most_services (begun histories) (ticks ++ further)).histories router network
-        ≡ route_of net most_routes (ticked net most_routes most_services (begun histories) ticks).histories router network }
-    ensures whatever_waits { (net : Internet) (most_routes most_services : ℕ) (run : Run) (ticks : List (List Step)) (router : ℕ) (network : Network)
-        → IsSetting net most_routes run.histories network → AreDeliveries net run.waiting → AreTicks net most_routes most_services run ticks
-        → router < length net → ticks_right (least_route net (ups net run.histories) router network) < length ticks
+    ensures tables { (net : Internet) (most_routes most_services : ℕ) (run : Run) (first : List Step) (ticks : List (List Step)) (router : ℕ) (network : Network)
+        → IsSetting net most_routes run.histories network → AreCalmTicksAfter net most_routes most_services run first ticks → router < length net
+        → ticks_right (least_route net (ups net run.histories) router network) ≤ length ticks
+        → IsRight net most_routes (ticked net most_routes most_services run (first ∷ ticks)).histories (ups net run.histories) router network }
+    ensures stay { (net : Internet) (most_routes most_services : ℕ) (run : Run) (first : List Step) (ticks further : List (List Step)) (router : ℕ) (network : Network)
+        → IsSetting net most_routes run.histories network → AreCalmTicksAfter net most_routes most_services run first (ticks ++ further)
+        → router < length net → ticks_right (least_route net (ups net run.histories) router network) ≤ length ticks
+        → route_of net most_routes (ticked net most_routes most_services run (first ∷ ticks ++ further)).histories router network
+        ≡ route_of net most_routes (ticked net most_routes most_services run (first ∷ ticks)).histories router network }
+    ensures sooner { (net : Internet) (most_routes most_services : ℕ) (run : Run) (ticks : List (List Step)) (router : ℕ) (network : Network)
+        → IsSetting net most_routes run.histories network → AreReal net most_routes run.histories (ups net run.histories) → run.waiting ≡ []
+        → AreCalmTicks net most_routes most_services run ticks → router < length net
+        → ticks_right (least_route net (ups net run.histories) router network) ≤ most_ticks_gone + length ticks
         → IsRight net most_routes (ticked net most_routes most_services run ticks).histories (ups net run.histories) router network }
-    ensures whatever_waits_stay { (net : Internet) (most_routes most_services : ℕ) (run : Run) (ticks further : List (List Step)) (router : ℕ) (network : Network)
-        → IsSetting net most_routes run.histories network → AreDeliveries net run.waiting
-        → AreTicks net most_routes most_services run (ticks ++ further) → router < length net
-        → ticks_right (least_route net (ups net run.histories) router network) < length ticks
+    ensures sooner_stay { (net : Internet) (most_routes most_services : ℕ) (run : Run) (ticks further : List (List Step)) (router : ℕ) (network : Network)
+        → IsSetting net most_routes run.histories network → AreReal net most_routes run.histories (ups net run.histories) → run.waiting ≡ []
+        → AreCalmTicks net most_routes most_services run (ticks ++ further) → router < length net
+        → ticks_right (least_route net (ups net run.histories) router network) ≤ most_ticks_gone + length ticks
         → route_of net most_routes (ticked net most_routes most_services run (ticks ++ further)).histories router network
         ≡ route_of net most_routes (ticked net most_routes most_services run ticks).histories router network }
-    ensures sooner { (net : Internet) (most_routes most_services : ℕ) (histories : List History) (ticks : List (List Step)) (router : ℕ) (network : Network)
-        → IsSetting net most_routes histories network → AreReal net most_routes histories (ups net histories)
-        → AreTicks net most_routes most_services (begun histories) ticks → router < length net
-        → ticks_right (least_route net (ups net histories) router network) ≤ most_ticks_gone + length ticks
-        → IsRight net most_routes (ticked net most_routes most_services (begun histories) ticks).histories (ups net histories) router network }
-    ensures sooner_stay { (net : Internet) (most_routes most_services : ℕ) (histories : List History) (ticks further : List (List Step)) (router : ℕ) (network : Network)
-        → IsSetting net most_routes histories network → AreReal net most_routes histories (ups net histories)
-        → AreTicks net most_routes most_services (begun histories) (ticks ++ further) → router < length net
-        → ticks_right (least_route net (ups net histories) router network) ≤ most_ticks_gone + length ticks
-        → route_of net most_routes (ticked net most_routes most_services (begun histories) (ticks ++ further)).histories router network
-        ≡ route_of net most_routes (ticked net most_routes most_services (begun histories) ticks).histories router network }
-    ensures soon { (net : Internet) (histories : List History) (router : ℕ) (network : Network) → ticks_right (least_route net (ups net histories) router network) ≤ most_ticks_right }
+    ensures soon { (way : Option Way) → ticks_right way ≤ most_ticks_right }
 {
     ipx_wire::laws::readings();
     ipx_wire::laws::service_readings();
@@ -274,19 +229,13 @@ pub fn right()
 ///
 /// It is for one network. No port of a router sent it or is where it goes, and its source isn't the broadcast node. No port by which one of that
 /// router's least ways leads finds it too long. Its transport control and these hops are together fewer than 16 (`CanArrive`). The rest is asked for
-/// as by `right`, of ticks that begin with nothing that waits; whatever waits, forged packets too, packets arrive in the same way after one tick more
-/// (`whatever_waits`).
+/// as by `right`.
 pub fn arrives()
-    ensures goes { (net : Internet) (most_routes most_services : ℕ) (histories : List History) (ticks : List (List Step)) (place : Place) (bytes : List ℕ) (p : Parts) (way : Way)
-        → IsSetting net most_routes histories p.header.destination.network → AreTicks net most_routes most_services (begun histories) ticks
-        → CanArrive net (ups net histories) place bytes p way → ticks_right (Some way) ≤ length ticks
-        → Arrives (routers_after net most_routes (ticked net most_routes most_services (begun histories) ticks).histories) p.header.destination p.header.control way.hops 0
-        (root place bytes) }
-    ensures whatever_waits { (net : Internet) (most_routes most_services : ℕ) (run : Run) (ticks : List (List Step)) (place : Place) (bytes : List ℕ) (p : Parts) (way : Way)
-        → IsSetting net most_routes run.histories p.header.destination.network → AreDeliveries net run.waiting
-        → AreTicks net most_routes most_services run ticks → CanArrive net (ups net run.histories) place bytes p way
-        → ticks_right (Some way) < length ticks
-        → Arrives (routers_after net most_routes (ticked net most_routes most_services run ticks).histories) p.header.destination p.header.control way.hops 0
+    ensures goes { (net : Internet) (most_routes most_services : ℕ) (run : Run) (first : List Step) (ticks : List (List Step)) (place : Place) (bytes : List ℕ) (p : Parts)
+        (way : Way)
+        → IsSetting net most_routes run.histories p.header.destination.network → AreCalmTicksAfter net most_routes most_services run first ticks
+        → CanArrive net (ups net run.histories) place bytes p way → ticks_right (Some way) ≤ length ticks
+        → Arrives (routers_after net most_routes (ticked net most_routes most_services run (first ∷ ticks)).histories) p.header.destination p.header.control way.hops 0
         (root place bytes) }
     ensures one_each { (routers : List Router) (to : Address) (control hops : ℕ) (c : Copy) → Arrives routers to control hops 0 c → length (tree_to routers (hops + 1) c) ≡ hops + 1 }
     ensures ends { (net : Internet) (most_routes : ℕ) (histories : List History) (p : Parts) (control hops : ℕ) (c : Copy)

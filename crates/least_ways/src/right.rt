@@ -22,6 +22,7 @@ pub fn become_right<const P: usize, const R: usize, const S: usize>(
         → HasRoom (net_at internet.old) R → internet.old.queue ≡ [] → HasLeastWays R S internet.old internet.new) }
 {
     ipx_laws::laws::right();
+    ipx_laws::laws::ticks_are_calm();
     ipx_laws::laws::fifteen_suffice();
     let _ = internet.len();
     pass(internet, SECONDS, limit)

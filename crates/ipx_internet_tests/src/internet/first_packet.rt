@@ -202,12 +202,12 @@ fn a_client_finds_the_nearest_server_and_its_first_packet_arrives(
     same(&rt, answers(&mut internet, &query(CLIENT))?, 0);
     same(&rt, answers(&mut internet, &query(COUNTED))?, 1);
     a_second(&mut internet)?;
-    // `right`, and `hosts::right_meanwhile` while hosts speak: C's route is of the best way, of 4 ticks, which leads to B.
+    // `right`, also while hosts speak: C's route is of the best way, of 4 ticks, which leads to B.
     same(&rt, way(&internet), Some((3, 4, 1)));
     same(&rt, answers(&mut internet, &request(CLIENT))?, 0);
     same(&rt, answers(&mut internet, &request(COUNTED))?, 1);
     a_second(&mut internet)?;
-    // `arrives`, and the clause of that name of `hosts::right_meanwhile`: the packet is in as many more routers as that way has
+    // `arrives`: the packet is in as many more routers as that way has
     // hops, and F, the last one, sends it out on network F0, where no router receives it.
     let on = Outcome::Forwarded;
     let wanted = [

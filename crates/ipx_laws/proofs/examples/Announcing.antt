@@ -43,7 +43,7 @@ use Rattle.ipx_laws.proofs.examples.Rights.{made, differ}
 use Rattle.ipx_laws.proofs.services.HostTickAfterTick.{rested}
 use Rattle.ipx_laws.proofs.services.HostsApart.{hosts_apart}
 use Rattle.ipx_laws.proofs.services.KnownByFewestHops.{known_last}
-use Rattle.ipx_laws.proofs.ticks.FirstTickClears.{Kept, steps_keep}
+use Rattle.ipx_laws.proofs.ticks.AfterRest.{Kept, steps_keep}
 
 -- ---- one tick
 

@@ -37,7 +37,7 @@ use Rattle.ipx_laws.proofs.services.FewestHops.{Link}
 use Rattle.ipx_laws.proofs.services.HeardAtAStep.{Hears, FirstHears, HeardWithin, HeardWithinTicks, AtEach, at_first}
 use Rattle.ipx_laws.proofs.services.ServiceIsTold.{AnyService, told_there, NamesTo, waits_for, second_says}
 use Rattle.ipx_laws.proofs.ticks.BusyTickAfterTick.{own_seconds}
-use Rattle.ipx_laws.proofs.ticks.FirstTickClears.{Kept, steps_keep}
+use Rattle.ipx_laws.proofs.ticks.AfterRest.{Kept, steps_keep}
 use Rattle.ipx_laws.proofs.ticks.TickAfterTick.{second_there}
 
 -- the seconds of a router that runs, and goes on to run

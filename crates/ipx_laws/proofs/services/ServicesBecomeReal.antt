@@ -1,6 +1,6 @@
 -- After the ticks by which what is gone is gone, what a router has of a service that hosts announce is as it may know it: at its address, on a
 -- way of as many hops.
-use Rattle.std.proofs.Common.{◌≡◌, refl, sym, ap, ◌∙◌, subst, ℕ, suc, ◌<◌, ◌≤◌, List, [], ◌∷◌, length, map, Option, Some, None, IfSome, arith}
+use Rattle.std.proofs.Common.{◌≡◌, refl, sym, ap, ◌∙◌, subst, ℕ, suc, ◌<◌, ◌≤◌, List, ◌∷◌, length, map, Option, Some, None, IfSome, arith}
 use Rattle.std.specs.List.{AllByRecursion}
 use Rattle.ipx_wire.specs.declared.sap.Sap.TheVariants.{Query, Response as SapResponse}
 use Rattle.ipx_wire.specs.declared.service.Service.{Service}
@@ -14,22 +14,20 @@ use Rattle.ipx_router.specs.Told.{farther}
 use Rattle.ipx_router.specs.declared.service_offer.ServiceOffer.{ServiceOffer}
 use Rattle.ipx_router.proofs.bounds.PacketsOfEachEvent.{service_total}
 use Rattle.ipx_router.proofs.lists.EachElement.{all_both}
-use Rattle.ipx_internet.specs.BusyTick.{IsBusyTick}
 use Rattle.ipx_internet.specs.Internet.{Internet, IsInternet, ports_of}
 use Rattle.ipx_internet.specs.Queue.{history_of}
-use Rattle.ipx_internet.specs.Rounds.{IsDelivery}
 use Rattle.ipx_internet.specs.Run.{Step, Happens, Settles, AreHistories, Run, run_of}
 use Rattle.ipx_internet.specs.Ticks.{ticked}
 use Rattle.ipx_internet.proofs.lists.EachElement.{all_of, all_then}
 use Rattle.ipx_internet.proofs.packets.SentOnOrReply.{Layouts}
 use Rattle.ipx_laws.specs.Gone.{most_ticks_gone}
-use Rattle.ipx_laws.specs.Meanwhile.{message_of, LeavesPorts, SaysOnly, EachTick}
+use Rattle.ipx_laws.specs.Meanwhile.{message_of, SaysOnly, AreTicksOfHostsAfter}
 use Rattle.ipx_laws.specs.Servers.{Server, IsOf, at_hops, SaysNoFalse, NamesOnly, IsServed, IsAway, announced, passed_on, beside, beyond}
 use Rattle.ipx_laws.specs.Ups.{ups}
 use Rattle.ipx_laws.proofs.records.RecordsGrowOld.{at_last, old_held, IsOldHeld}
 use Rattle.ipx_laws.proofs.services.HostTickAfterTick.{Rests, rested}
 use Rattle.ipx_laws.proofs.services.SpokenOfAServer.{IsFine}
-use Rattle.ipx_laws.proofs.ticks.FirstTickClears.{begins_after}
+use Rattle.ipx_laws.proofs.ticks.AfterRest.{begins_after}
 
 -- ---- what a router may know is on a way
 
@@ -94,25 +92,16 @@ module _ (net : Internet) (laws : Layouts) (is : IsInternet net) (most_routes mo
 -- ---- where they begin
 
 module _ (net : Internet) (laws : Layouts) (is : IsInternet net) (most_routes most_services : ℕ) (server : Server) (Listed : ℕ × List ℕ → Type 0) where
-  pub from_quiet : (run : Run) (ticks : List (List Step)) → AreHistories net run.histories → run.waiting ≡ []
-      → EachTick net most_routes most_services (IsBusyTick net most_routes most_services) run ticks
-      → AllByRecursion (AllByRecursion LeavesPorts) ticks → AllByRecursion (AllByRecursion (SaysNoFalse net server)) ticks
-      → AllByRecursion (AllByRecursion (SaysOnly (NamesOnly Listed))) ticks
-      → Rests net laws is most_routes most_services (ups net run.histories) server Listed (length ticks) (ticked net most_routes most_services run ticks)
-  from_quiet run ticks are quiet busy leave say names =
-      rested net laws is most_routes most_services (ups net run.histories) server Listed run ticks are (λ router within. refl) quiet busy leave say names
-
-  -- whatever waits, and whatever is said in the first tick
-  pub from_any : (run : Run) (first : List Step) (ticks : List (List Step)) → AreHistories net run.histories → AllByRecursion (λ w. IsDelivery net w.delivery) run.waiting
-      → EachTick net most_routes most_services (IsBusyTick net most_routes most_services) run (first ∷ ticks)
-      → AllByRecursion (AllByRecursion LeavesPorts) (first ∷ ticks) → AllByRecursion (AllByRecursion (SaysNoFalse net server)) ticks
+  -- whatever waits, and whatever is said before these steps are over
+  pub from_any : (run : Run) (first : List Step) (ticks : List (List Step)) → AreHistories net run.histories
+      → AreTicksOfHostsAfter net most_routes most_services run first ticks → AllByRecursion (AllByRecursion (SaysNoFalse net server)) ticks
       → AllByRecursion (AllByRecursion (SaysOnly (NamesOnly Listed))) ticks
       → Rests net laws is most_routes most_services (ups net run.histories) server Listed (length ticks) (ticked net most_routes most_services run (first ∷ ticks))
-  from_any run first ticks are waits busy leave say names =
+  from_any run first ticks are (rest, leaves, (busy, leave)) say names =
       let next = run_of net most_routes most_services run first in
-      let begins = begins_after net laws is most_routes most_services run are waits first busy.0 leave.0 in
+      let begins = begins_after net laws is most_routes most_services run first are rest leaves in
       rested net laws is most_routes most_services (ups net run.histories) server Listed next ticks begins.are (λ router within. (begins.routers router within).ups) begins.quiet
-      busy.1 leave.1 say names
+      busy leave say names
 
 -- any names
 abbrev pub AnyName : ℕ × List ℕ → Type 0

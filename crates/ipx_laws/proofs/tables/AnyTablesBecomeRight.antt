@@ -1,28 +1,26 @@
--- From where ticks begin that make all tables right: from any tables, from a run in which anything waits, and from real routes.
-use Rattle.std.proofs.Common.{◌≡◌, refl, subst, ℕ, suc, ◌+◌, ◌<◌, ◌≤◌, List, [], ◌∷◌, length, inl, inr, arith}
+-- From where ticks begin that make all tables right: from any tables, whatever waits first, and from real routes.
+use Rattle.std.proofs.Common.{◌≡◌, subst, ℕ, suc, ◌+◌, ◌<◌, ◌≤◌, List, [], ◌∷◌, length, inl, inr, arith}
 use Rattle.std.specs.List.{AllByRecursion}
 use Rattle.std.proofs.lemmas.Bool.{cases_lt}
 use Rattle.ipx_wire.specs.declared.network.Network.{Network}
 use Rattle.ipx_router.specs.Facts.{routes_held, offers}
-use Rattle.ipx_router.specs.History.{History}
-use Rattle.ipx_internet.specs.BusyTick.{IsBusyTick}
 use Rattle.ipx_internet.specs.Internet.{Internet, IsInternet, NodesDiffer, ports_of}
 use Rattle.ipx_internet.specs.Queue.{history_of}
-use Rattle.ipx_internet.specs.Rounds.{IsDelivery}
-use Rattle.ipx_internet.specs.Run.{Step, Run, AreHistories, begun, run_of}
+use Rattle.ipx_internet.specs.Run.{Step, Run, AreHistories, run_of}
 use Rattle.ipx_internet.specs.Ticks.{ticked}
 use Rattle.ipx_internet.proofs.packets.SentOnOrReply.{Layouts}
 use Rattle.ipx_laws.specs.Gone.{most_ticks_gone}
 use Rattle.ipx_laws.specs.Least.{AreCheap, HasRoom, FifteenSuffice}
 use Rattle.ipx_laws.specs.Meanwhile.{LeavesPorts}
 use Rattle.ipx_laws.specs.Real.{IsReal}
+use Rattle.ipx_laws.specs.Setting.{ComesToRest}
 use Rattle.ipx_laws.specs.Ups.{ups}
 use Rattle.ipx_laws.proofs.tables.Given.{Given, given_of}
 use Rattle.ipx_laws.proofs.tables.LeastWays.{ups_within}
 use Rattle.ipx_laws.proofs.tables.RightWithinAMinute.{AtRest, at_first, ticks_rest_right}
-use Rattle.ipx_laws.proofs.ticks.FirstTickClears.{begins_after}
+use Rattle.ipx_laws.proofs.ticks.AfterRest.{begins_after}
 use Rattle.ipx_laws.proofs.ticks.RealFromTheFirst.{rests_at_once}
-use Rattle.ipx_laws.proofs.ticks.TickAfterTick.{CalmTicks, Rests, tick_rests, quiet_rests}
+use Rattle.ipx_laws.proofs.ticks.TickAfterTick.{CalmTicks, Rests, tick_rests}
 
 module _ (given : Given) where
   open given use {net, laws, is, up, most_routes, most_services}
@@ -54,31 +52,20 @@ module _ (given : Given) where
 
 module _ (net : Internet) (laws : Layouts) (is : IsInternet net) (differ : NodesDiffer net) (cheap : AreCheap net) (most_routes most_services : ℕ)
     (room : HasRoom net most_routes) (network : Network) where
-  module _ (histories : List History) (are : AreHistories net histories) (suffice : FifteenSuffice net (ups net histories) network) (ticks : List (List Step))
-      (calm : CalmTicks net most_routes most_services (begun histories) ticks) where
-    -- whatever is held
-    pub from_any : most_ticks_gone ≤ length ticks
-        → AtRest (given_of net laws is differ cheap (ups net histories) (ups_within net histories) most_routes most_services room network suffice) (length ticks)
-        (ticked net most_routes most_services (begun histories) ticks)
-    from_any long =
-        from_none (given_of net laws is differ cheap (ups net histories) (ups_within net histories) most_routes most_services room network suffice) (begun histories) ticks
-        (quiet_rests net laws is most_routes most_services (ups net histories) (begun histories) are (λ router. refl) refl) calm long
+  module _ (run : Run) (are : AreHistories net run.histories) (suffice : FifteenSuffice net (ups net run.histories) network) where
+    abbrev pub here : Given
+    here = given_of net laws is differ cheap (ups net run.histories) (ups_within net run.histories) most_routes most_services room network suffice
 
-    -- where all routes are real
-    pub from_real : ((other : ℕ) → other < length net
-        → AllByRecursion (IsReal net (ups net histories) other) (offers (routes_held (ports_of net other) most_routes (history_of histories other))))
-        → AtRest (given_of net laws is differ cheap (ups net histories) (ups_within net histories) most_routes most_services room network suffice) (length ticks + most_ticks_gone)
-        (ticked net most_routes most_services (begun histories) ticks)
-    from_real real =
-        climbs (given_of net laws is differ cheap (ups net histories) (ups_within net histories) most_routes most_services room network suffice) most_ticks_gone
-        (begun histories) ticks (rests_at_once net laws is most_routes most_services histories are real) calm (omega arith) (omega arith)
+    -- whatever is held, and whatever waits before these steps
+    pub from_any : (first : List Step) (ticks : List (List Step)) → ComesToRest net most_routes most_services run first → AllByRecursion LeavesPorts first
+        → CalmTicks net most_routes most_services (run_of net most_routes most_services run first) ticks → most_ticks_gone ≤ length ticks
+        → AtRest here (length ticks) (ticked net most_routes most_services (run_of net most_routes most_services run first) ticks)
+    from_any first ticks rest leaves calm long =
+        from_none here (run_of net most_routes most_services run first) ticks (begins_after net laws is most_routes most_services run first are rest leaves) calm long
 
-  -- whatever waits: the first tick ends with nothing that waits
-  pub from_run : (run : Run) → AreHistories net run.histories → AllByRecursion (λ w. IsDelivery net w.delivery) run.waiting
-      → (suffice : FifteenSuffice net (ups net run.histories) network) (first : List Step) (ticks : List (List Step)) → IsBusyTick net most_routes most_services run first
-      → AllByRecursion LeavesPorts first → CalmTicks net most_routes most_services (run_of net most_routes most_services run first) ticks → most_ticks_gone ≤ length ticks
-      → AtRest (given_of net laws is differ cheap (ups net run.histories) (ups_within net run.histories) most_routes most_services room network suffice) (length ticks)
-      (ticked net most_routes most_services (run_of net most_routes most_services run first) ticks)
-  from_run run are waits suffice first ticks busy leaves calm long =
-      from_none (given_of net laws is differ cheap (ups net run.histories) (ups_within net run.histories) most_routes most_services room network suffice)
-      (run_of net most_routes most_services run first) ticks (begins_after net laws is most_routes most_services run are waits first busy leaves) calm long
+    -- where all routes are real, and nothing waits
+    pub from_real : (ticks : List (List Step)) → run.waiting ≡ [] → CalmTicks net most_routes most_services run ticks → ((other : ℕ) → other < length net
+        → AllByRecursion (IsReal net (ups net run.histories) other) (offers (routes_held (ports_of net other) most_routes (history_of run.histories other))))
+        → AtRest here (length ticks + most_ticks_gone) (ticked net most_routes most_services run ticks)
+    from_real ticks quiet calm real =
+        climbs here most_ticks_gone run ticks (rests_at_once net laws is most_routes most_services run are quiet real) calm (omega arith) (omega arith)

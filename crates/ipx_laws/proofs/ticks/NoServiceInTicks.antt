@@ -24,7 +24,7 @@ use Rattle.ipx_laws.proofs.ticks.AfterEachStep.{AfterEach, each-append}
 use Rattle.ipx_laws.proofs.ticks.BusyTickAfterTick.{Going, Rests, AlwaysStays, TicksTell, begins, each_goes, tick_rests, ticks_say, told_rest, quiet_rests}
 use Rattle.ipx_laws.proofs.ticks.FineOrSoonEnded.{Abides, IsFineService}
 use Rattle.ipx_laws.proofs.ticks.GoneWhateverHappens.{EveryNetwork, each_always, no_records}
-use Rattle.ipx_laws.proofs.ticks.TickAfterTick.{busy_ticks, all_say_nothing}
+use Rattle.ipx_laws.proofs.ticks.TickAfterTick.{ticks_of_hosts, all_say_nothing}
 
 -- no service is announced, and nothing is said from outside
 abbrev Served : Service → Type 0
@@ -95,19 +95,19 @@ module _ (net : Internet) (laws : Layouts) (is : IsInternet net) (most_routes mo
       → TicksTell EveryNetwork Served net laws is most_routes most_services so_far run ticks
   tells so_far run ticks are =
       ticks_say EveryNetwork Served net laws is most_routes most_services Nothing (λ begun m none. absurd none) so_far run ticks
-      (all_say_nothing net most_routes most_services laws is Nothing run ticks are)
+      (all_say_nothing net most_routes most_services Nothing run ticks are)
 
   pub stays_none : (so_far : ℕ) → most_ticks_gone ≤ so_far → (run : Run) (ticks : List (List Step)) → Rest so_far run → AreTicks net most_routes most_services run ticks
       → ServicesStay net most_routes most_services run.histories run (steps_of ticks)
   stays_none so_far long run ticks rest are =
       none_stays run.histories (none_then so_far long run rest) run (steps_of ticks)
-      (none_in so_far long run ticks rest (busy_ticks net most_routes most_services laws is run ticks are)
+      (none_in so_far long run ticks rest (ticks_of_hosts net most_routes most_services run ticks are).0
       (each_always Served net laws is most_routes most_services run ticks) (tells so_far run ticks are))
 
   rests_on : (so_far : ℕ) (run : Run) (ticks : List (List Step)) → Rest so_far run → AreTicks net most_routes most_services run ticks
       → Rest (length ticks + so_far) (ticked net most_routes most_services run ticks)
   rests_on so_far run ticks rest are =
-      told_rest EveryNetwork Served net laws is most_routes most_services so_far run ticks rest (busy_ticks net most_routes most_services laws is run ticks are)
+      told_rest EveryNetwork Served net laws is most_routes most_services so_far run ticks rest (ticks_of_hosts net most_routes most_services run ticks are).0
       (each_always Served net laws is most_routes most_services run ticks) (tells so_far run ticks are)
 
   -- whatever is held at first

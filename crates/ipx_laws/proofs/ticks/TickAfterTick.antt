@@ -20,16 +20,15 @@ use Rattle.ipx_internet.specs.Internet.{Internet, Place, IsInternet, ports_of, p
 use Rattle.ipx_internet.specs.Queue.{Delivery, Queued, deliveries_of, history_of, with_event, sends_at, queued, settled_one}
 use Rattle.ipx_internet.specs.Rounds.{IsDelivery}
 use Rattle.ipx_internet.specs.Run.{Step, Happens, Settles, IsStep, AreHistories, Run, Waiting, forgotten, stepped, run_of}
-use Rattle.ipx_internet.specs.Ticks.{seconds_of, IsOfTick, IsTick, ticked, AreTicks}
+use Rattle.ipx_internet.specs.Ticks.{seconds_of, IsOfTick, ticked, AreTicks}
 use Rattle.ipx_internet.proofs.deliveries.QueueOfARun.{events, deliveries}
 use Rattle.ipx_internet.proofs.deliveries.WaitsAfterDelivery.{there}
 use Rattle.ipx_internet.proofs.lists.EachElement.{all_of, all_then, all-append}
 use Rattle.ipx_internet.proofs.packets.SentOnOrReply.{Layouts, IsCast}
 use Rattle.ipx_internet.proofs.places.OneReceiverOfANode.{ports_at, receives_is}
 use Rattle.ipx_internet.proofs.rounds.OneRound.{each_delivery}
-use Rattle.ipx_internet.proofs.ticks.TickCanBeHad.{of_tick}
 use Rattle.ipx_internet.proofs.trees.RunIsALog.{histories_more}
-use Rattle.ipx_laws.specs.Meanwhile.{TellsNoRoute, LeavesPorts, SaysOnly, EachTick}
+use Rattle.ipx_laws.specs.Meanwhile.{TellsNoRoute, LeavesPorts, SaysOnly, EachTick, AreTicksOfHosts, AreCalmTicks}
 use Rattle.ipx_laws.specs.Ups.{ups}
 use Rattle.ipx_laws.proofs.packets.BroadcastEachSecond.{all_cast}
 use Rattle.ipx_laws.proofs.packets.RoutesOrSilence.{Silent, IsSpoken, cast_spoken, of_silent, of_own}
@@ -60,67 +59,48 @@ abbrev pub CalmTicks : Internet → ℕ → ℕ → Run → List (List Step) →
 CalmTicks net most_routes most_services = EachTick net most_routes most_services (IsCalmTick net most_routes most_services)
 
 module _ (net : Internet) (most_routes most_services : ℕ) where
-  pub calm_ticks : (run : Run) (ticks : List (List Step)) → EachTick net most_routes most_services (IsBusyTick net most_routes most_services) run ticks
-      → AllByRecursion (AllByRecursion LeavesPorts) ticks → AllByRecursion (AllByRecursion (SaysOnly TellsNoRoute)) ticks
+  pub calm_ticks : (run : Run) (ticks : List (List Step)) → AreCalmTicks net most_routes most_services run ticks
       → CalmTicks net most_routes most_services run ticks
-  calm_ticks run [] busy leave says = tt
-  calm_ticks run (steps ∷ ticks) busy leave says = (
+  calm_ticks run [] ((busy, leave), says) = tt
+  calm_ticks run (steps ∷ ticks) ((busy, leave), says) = (
     record { busy = busy.0; leaves = leave.0; says = says.0 },
-    calm_ticks (run_of net most_routes most_services run steps) ticks busy.1 leave.1 says.1,
+    calm_ticks (run_of net most_routes most_services run steps) ticks ((busy.1, leave.1), says.1),
   )
 
-  -- a step of a tick in which nothing else happens says nothing
-  pub says_nothing : (Says : Heard → Type 0) (step : Step) → IsOfTick net step → SaysOnly Says step
-  says_nothing Says (Happens router Second) is = tt
-  says_nothing Says (Happens router Start) is = tt
-  says_nothing Says (Happens router Stop) is = tt
-  says_nothing Says (Happens router (Packet number bytes)) is = absurd (true≢false (sym is.1))
-  says_nothing Says (Happens router (PortDown number)) is = tt
-  says_nothing Says (Happens router (PortUp number)) is = tt
-  says_nothing Says Settles is = tt
+  -- ---- ticks in which nothing else happens
 
-  leaves_ports : (step : Step) → IsOfTick net step → LeavesPorts step
-  leaves_ports (Happens router Second) is = tt
-  leaves_ports (Happens router Start) is = absurd (true≢false (sym is.1))
-  leaves_ports (Happens router Stop) is = absurd (true≢false (sym is.1))
-  leaves_ports (Happens router (Packet number bytes)) is = tt
-  leaves_ports (Happens router (PortDown number)) is = absurd (true≢false (sym is.1))
-  leaves_ports (Happens router (PortUp number)) is = absurd (true≢false (sym is.1))
-  leaves_ports Settles is = tt
+  -- a step of such a tick is a second or a delivery
+  second_or_delivery : (P : Step → Type 0) → ((router : ℕ) → router < length net → P (Happens router Second)) → P Settles → (step : Step) → IsOfTick net step → P step
+  second_or_delivery P second delivery (Happens router Second) is = second router is.0
+  second_or_delivery P second delivery (Happens router Start) is = absurd (true≢false (sym is.1))
+  second_or_delivery P second delivery (Happens router Stop) is = absurd (true≢false (sym is.1))
+  second_or_delivery P second delivery (Happens router (Packet number bytes)) is = absurd (true≢false (sym is.1))
+  second_or_delivery P second delivery (Happens router (PortDown number)) is = absurd (true≢false (sym is.1))
+  second_or_delivery P second delivery (Happens router (PortUp number)) is = absurd (true≢false (sym is.1))
+  second_or_delivery P second delivery Settles is = delivery
 
-  module _ (laws : Layouts) (is : IsInternet net) where
-    pub busy_tick : (run : Run) (steps : List Step) → IsTick net most_routes most_services run steps → IsBusyTick net most_routes most_services run steps
-    busy_tick run steps tick = record {
-      happens = all_then (IsOfTick net) (IsStep net) (of_tick net laws is most_routes most_services) steps tick.passes;
-      each = tick.each;
-      quiet = tick.quiet;
-    }
+  -- it says nothing
+  says_nothing : (Says : Heard → Type 0) (steps : List Step) → AllByRecursion (IsOfTick net) steps → AllByRecursion (SaysOnly Says) steps
+  says_nothing Says steps are = all_then (IsOfTick net) (SaysOnly Says) (second_or_delivery (SaysOnly Says) (λ router within. tt) tt) steps are
 
-    pub quiet_tick : (run : Run) (steps : List Step) → IsTick net most_routes most_services run steps → IsCalmTick net most_routes most_services run steps
-    quiet_tick run steps tick = record {
-      busy = busy_tick run steps tick;
-      leaves = all_then (IsOfTick net) LeavesPorts leaves_ports steps tick.passes;
-      says = all_then (IsOfTick net) (SaysOnly TellsNoRoute) (says_nothing TellsNoRoute) steps tick.passes;
-    }
+  pub all_say_nothing : (Says : Heard → Type 0) (run : Run) (ticks : List (List Step)) → AreTicks net most_routes most_services run ticks
+      → AllByRecursion (AllByRecursion (SaysOnly Says)) ticks
+  all_say_nothing Says run [] are = tt
+  all_say_nothing Says run (steps ∷ ticks) are =
+      (says_nothing Says steps are.0.passes, all_say_nothing Says (run_of net most_routes most_services run steps) ticks are.1)
 
-    pub quiet_ticks : (run : Run) (ticks : List (List Step)) → AreTicks net most_routes most_services run ticks → CalmTicks net most_routes most_services run ticks
-    quiet_ticks run [] are = tt
-    quiet_ticks run (steps ∷ ticks) are =
-        (quiet_tick run steps are.0, quiet_ticks (run_of net most_routes most_services run steps) ticks are.1)
+  pub ticks_of_hosts : (run : Run) (ticks : List (List Step)) → AreTicks net most_routes most_services run ticks
+      → AreTicksOfHosts net most_routes most_services run ticks
+  ticks_of_hosts run [] are = (tt, tt)
+  ticks_of_hosts run (steps ∷ ticks) are =
+      let (busy, leave) = ticks_of_hosts (run_of net most_routes most_services run steps) ticks are.1 in
+      let happens = all_then (IsOfTick net) (IsStep net) (second_or_delivery (IsStep net) (λ router within. (within, tt, tt)) tt) steps are.0.passes in
+      let leaves = all_then (IsOfTick net) LeavesPorts (second_or_delivery LeavesPorts (λ router within. tt) tt) steps are.0.passes in
+      ((record { happens = happens; each = are.0.each; quiet = are.0.quiet }, busy), (leaves, leave))
 
-    pub busy_ticks : (run : Run) (ticks : List (List Step)) → AreTicks net most_routes most_services run ticks
-        → EachTick net most_routes most_services (IsBusyTick net most_routes most_services) run ticks
-    busy_ticks run [] are = tt
-    busy_ticks run (steps ∷ ticks) are =
-        (busy_tick run steps are.0, busy_ticks (run_of net most_routes most_services run steps) ticks are.1)
-
-    pub all_say_nothing : (Says : Heard → Type 0) (run : Run) (ticks : List (List Step)) → AreTicks net most_routes most_services run ticks
-        → AllByRecursion (AllByRecursion (SaysOnly Says)) ticks
-    all_say_nothing Says run [] are = tt
-    all_say_nothing Says run (steps ∷ ticks) are = (
-      all_then (IsOfTick net) (SaysOnly Says) (says_nothing Says) steps are.0.passes,
-      all_say_nothing Says (run_of net most_routes most_services run steps) ticks are.1,
-    )
+  pub ticks_are_calm : (run : Run) (ticks : List (List Step)) → AreTicks net most_routes most_services run ticks
+      → AreCalmTicks net most_routes most_services run ticks
+  ticks_are_calm run ticks are = (ticks_of_hosts run ticks are, all_say_nothing TellsNoRoute run ticks are)
 
 module _ (net : Internet) (laws : Layouts) (is : IsInternet net) (most_routes most_services : ℕ) (up : ℕ → List ℕ) where
   abbrev pub at : ℕ → ℕ → Place

@@ -61,7 +61,7 @@ pub fn upkeep()
 
 /// When tables stay as they are after each step, as `upkeep` asks. The internet is as for `laws::right`, for every network. From any tables,
 /// once 2,940 ticks have passed, each router has after each step of further ticks the routes that it had then (`stay`), and where every route
-/// is of a real way from the first, once 60 have (`sooner`). Hosts may speak meanwhile, as in `hosts::right_meanwhile`. Services stay as hosts
+/// is of a real way from the first, once 60 have (`sooner`). Hosts may speak meanwhile, as in `laws::real`. Services stay as hosts
 /// announce them: that they do is asked for.
 ///
 /// Where nothing but ticks happens, no router has a service by then, or after any of these steps (`alone`); nor where none had one at first

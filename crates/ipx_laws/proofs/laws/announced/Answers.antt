@@ -1,8 +1,7 @@
-use Rattle.std.proofs.Common.{refl}
-use Rattle.ipx_internet.specs.Run.{begun, run_of}
+use Rattle.ipx_internet.specs.Run.{run_of}
 use Rattle.ipx_internet.proofs.packets.SentOnOrReply.{Layouts}
 use Rattle.ipx_laws.proofs.laws.announced.Goals as goal
-use Rattle.ipx_laws.proofs.ticks.FirstTickClears.{are_after}
+use Rattle.ipx_laws.proofs.ticks.AfterRest.{are_after}
 use Rattle.ipx_laws.proofs.ticks.ServicesWereAnnounced.{announced}
 
 -- the laws of packets and routers
@@ -28,11 +27,9 @@ layouts c = record {
   bytes = c.packets.ensures.bytes;
 }
 
-pub returns-clause-services : goal.returns-clause-services
-returns-clause-services c net most_routes most_services histories ticks router is are busy long within apart =
-    announced net (layouts c) is most_routes most_services (begun histories) are refl ticks busy long router within apart
-
-pub returns-clause-whatever_waits : goal.returns-clause-whatever_waits
-returns-clause-whatever_waits c net most_routes most_services run first ticks router is are waits busy long within apart =
-    announced net (layouts c) is most_routes most_services (run_of net most_routes most_services run first)
-    (are_after net (layouts c) is most_routes most_services run are waits first busy.0) busy.0.quiet ticks busy.1 long router within apart
+pub returns : goal.returns
+returns c = record {
+  services = λ net most_routes most_services run first ticks router is are (rest, busy) long within apart.
+      announced net (layouts c) is most_routes most_services (run_of net most_routes most_services run first)
+      (are_after net (layouts c) is most_routes most_services run first are rest) rest.2 ticks busy long router within apart;
+}

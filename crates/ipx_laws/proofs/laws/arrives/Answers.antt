@@ -1,17 +1,16 @@
-use Rattle.std.proofs.Common.{◌≡◌, refl, subst, ℕ, suc, ◌+◌, ◌≤◌, [], ◌∷◌, length, Some, None, arith}
-use Rattle.ipx_internet.specs.Run.{begun, run_of}
+use Rattle.std.proofs.Common.{◌≡◌, refl, subst, ℕ, suc, ◌+◌, length, Some, None, arith}
+use Rattle.ipx_internet.specs.Run.{run_of}
 use Rattle.ipx_internet.specs.Ticks.{ticked}
 use Rattle.ipx_internet.specs.Traced.{routers_after}
 use Rattle.ipx_internet.specs.Tree.{tree_to}
 use Rattle.ipx_internet.proofs.packets.SentOnOrReply.{Layouts}
-use Rattle.ipx_laws.specs.Least.{ticks_right}
 use Rattle.ipx_laws.specs.Ups.{ups}
 use Rattle.ipx_laws.proofs.laws.arrives.Goals as goal
-use Rattle.ipx_laws.proofs.tables.AnyTablesBecomeRight.{from_any, from_run}
+use Rattle.ipx_laws.proofs.tables.AnyTablesBecomeRight.{from_any}
 use Rattle.ipx_laws.proofs.tables.LeastWays.{ups_within}
 use Rattle.ipx_laws.proofs.tables.PacketsArrive.{goes, one_each, ends, nobody_after}
 use Rattle.ipx_laws.proofs.tables.TablesAreRight.{some_ticks, all_ticks}
-use Rattle.ipx_laws.proofs.ticks.TickAfterTick.{quiet_tick, quiet_ticks}
+use Rattle.ipx_laws.proofs.ticks.TickAfterTick.{calm_ticks}
 
 -- the laws of packets and routers
 layouts : goal.After-packets → Layouts
@@ -37,27 +36,15 @@ layouts c = record {
 }
 
 pub returns-clause-goes : goal.returns-clause-goes
-returns-clause-goes c net most_routes most_services histories ticks place bytes p way (is, differ, suffice, cheap, room, are) passes (there, on, are_bytes, is_packet, of_host, away, least, short, few_control) sure =
-    let to = p.header.destination in
-    let calm = quiet_ticks net most_routes most_services (layouts c) is (begun histories) ticks passes in
-    let long = some_ticks (Some way) (length ticks) sure in
-    goes net (layouts c) is differ cheap (ups net histories) (ups_within net histories) most_routes most_services room to suffice (length ticks)
-    (ticked net most_routes most_services (begun histories) ticks) (from_any net (layouts c) is differ cheap most_routes most_services room to.network histories are suffice ticks calm long) long
-    way.hops place.router place.port 0 None bytes p way there on away are_bytes is_packet refl of_host short few_control least refl (all_ticks way (length ticks) sure)
-
-pub returns-clause-whatever_waits : goal.returns-clause-whatever_waits
-returns-clause-whatever_waits c net most_routes most_services run [] place bytes p way (is, differ, suffice, cheap, room, are) waits passes (there, on, are_bytes, is_packet, of_host, away, least, short, few_control) sure =
-    absurd (omega (arith, sure))
-returns-clause-whatever_waits c net most_routes most_services run (first ∷ ticks) place bytes p way (is, differ, suffice, cheap, room, are) waits passes (there, on, are_bytes, is_packet, of_host, away, least, short, few_control) sure =
+returns-clause-goes c net most_routes most_services run first ticks place bytes p way (is, differ, suffice, cheap, room, are) (rest, leaves, calm) (there, on, are_bytes, is_packet, of_host, away, least, short, few_control) sure =
     let next = run_of net most_routes most_services run first in
     let to = p.header.destination in
-    let calm = quiet_ticks net most_routes most_services (layouts c) is next ticks passes.1 in
-    let once = quiet_tick net most_routes most_services (layouts c) is run first passes.0 in
-    let enough : ticks_right (Some way) ≤ length ticks = omega (arith, sure) in
-    let long = some_ticks (Some way) (length ticks) enough in
+    let long = some_ticks (Some way) (length ticks) sure in
     goes net (layouts c) is differ cheap (ups net run.histories) (ups_within net run.histories) most_routes most_services room to suffice (length ticks)
-    (ticked net most_routes most_services next ticks) (from_run net (layouts c) is differ cheap most_routes most_services room to.network run are waits suffice first ticks once.busy once.leaves calm long) long
-    way.hops place.router place.port 0 None bytes p way there on away are_bytes is_packet refl of_host short few_control least refl (all_ticks way (length ticks) enough)
+    (ticked net most_routes most_services next ticks)
+    (from_any net (layouts c) is differ cheap most_routes most_services room to.network run are suffice first ticks rest leaves
+    (calm_ticks net most_routes most_services next ticks calm) long) long
+    way.hops place.router place.port 0 None bytes p way there on away are_bytes is_packet refl of_host short few_control least refl (all_ticks way (length ticks) sure)
 
 pub returns-clause-one_each : goal.returns-clause-one_each
 returns-clause-one_each c routers to control hops copy arrives =

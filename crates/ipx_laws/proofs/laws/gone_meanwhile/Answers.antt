@@ -1,7 +1,7 @@
-use Rattle.std.proofs.Common.{refl}
-use Rattle.ipx_internet.specs.Run.{begun}
+use Rattle.ipx_internet.specs.Run.{run_of}
 use Rattle.ipx_internet.proofs.packets.SentOnOrReply.{Layouts}
 use Rattle.ipx_laws.proofs.laws.gone_meanwhile.Goals as goal
+use Rattle.ipx_laws.proofs.ticks.AfterRest.{are_after}
 use Rattle.ipx_laws.proofs.ticks.GoneWhateverHappens.{no_route, no_such_service}
 
 -- the laws of packets and routers
@@ -28,9 +28,11 @@ layouts c = record {
 }
 
 pub returns-clause-networks : goal.returns-clause-networks
-returns-clause-networks c net most_routes most_services histories ticks router network is are busy long within gone says =
-    no_route net (layouts c) is most_routes most_services (begun histories) are refl ticks busy long router within network gone says
+returns-clause-networks c net most_routes most_services run first ticks router network is are (rest, busy) long within gone says =
+    no_route net (layouts c) is most_routes most_services (run_of net most_routes most_services run first)
+    (are_after net (layouts c) is most_routes most_services run first are rest) rest.2 ticks busy long router within network gone says
 
 pub returns-clause-services : goal.returns-clause-services
-returns-clause-services c net most_routes most_services histories ticks router key is are busy long within says =
-    no_such_service net (layouts c) is most_routes most_services (begun histories) are refl ticks busy long router within key says
+returns-clause-services c net most_routes most_services run first ticks router key is are (rest, busy) long within says =
+    no_such_service net (layouts c) is most_routes most_services (run_of net most_routes most_services run first)
+    (are_after net (layouts c) is most_routes most_services run first are rest) rest.2 ticks busy long router within key says

@@ -1,13 +1,9 @@
-use Rattle.std.proofs.Common.{refl, ℕ, List, length}
-use Rattle.ipx_router.specs.History.{History}
-use Rattle.ipx_internet.specs.Internet.{Internet, IsInternet}
-use Rattle.ipx_internet.specs.Run.{Step, AreHistories, begun}
-use Rattle.ipx_internet.specs.Ticks.{AreTicks, ticked}
+use Rattle.std.proofs.Common.{◌∷◌, length}
+use Rattle.ipx_internet.specs.Ticks.{ticked}
 use Rattle.ipx_internet.proofs.packets.SentOnOrReply.{Layouts}
-use Rattle.ipx_laws.specs.Ups.{ups}
 use Rattle.ipx_laws.proofs.laws.real.Goals as goal
+use Rattle.ipx_laws.proofs.ticks.AfterRest.{rests_after}
 use Rattle.ipx_laws.proofs.ticks.RoutesBecomeReal.{all_real, all_on, none_over}
-use Rattle.ipx_laws.proofs.ticks.TickAfterTick.{Rests, rested, quiet_ticks}
 
 -- the laws of packets and routers
 layouts : goal.After-packets → Layouts
@@ -32,24 +28,17 @@ layouts c = record {
   bytes = c.packets.ensures.bytes;
 }
 
-module _ (c : goal.After-packets) (net : Internet) (most_routes most_services : ℕ) (histories : List History) (ticks : List (List Step)) (is : IsInternet net)
-    (are : AreHistories net histories) (passes : AreTicks net most_routes most_services (begun histories) ticks) where
-  rests : Rests net (layouts c) is most_routes most_services (ups net histories) (length ticks) (ticked net most_routes most_services (begun histories) ticks)
-  rests =
-      rested net (layouts c) is most_routes most_services (ups net histories) (begun histories) ticks are (λ router. refl) refl
-      (quiet_ticks net most_routes most_services (layouts c) is (begun histories) ticks passes)
-
 pub returns-clause-routes : goal.returns-clause-routes
-returns-clause-routes c net most_routes most_services histories ticks router is are passes long within =
-    all_real net (layouts c) is most_routes most_services histories (length ticks) (ticked net most_routes most_services (begun histories) ticks)
-    (rests c net most_routes most_services histories ticks is are passes) router within long
+returns-clause-routes c net most_routes most_services run first ticks router is are calm long within =
+    all_real net (layouts c) is most_routes most_services run.histories (length ticks) (ticked net most_routes most_services run (first ∷ ticks))
+    (rests_after net (layouts c) is most_routes most_services run first ticks are calm) router within long
 
 pub returns-clause-own_ports : goal.returns-clause-own_ports
-returns-clause-own_ports c net most_routes most_services histories ticks router is are passes within =
-    all_on net (layouts c) is most_routes most_services histories (length ticks) (ticked net most_routes most_services (begun histories) ticks)
-    (rests c net most_routes most_services histories ticks is are passes) router within
+returns-clause-own_ports c net most_routes most_services run first ticks router is are calm within =
+    all_on net (layouts c) is most_routes most_services run.histories (length ticks) (ticked net most_routes most_services run (first ∷ ticks))
+    (rests_after net (layouts c) is most_routes most_services run first ticks are calm) router within
 
 pub returns-clause-down : goal.returns-clause-down
-returns-clause-down c net most_routes most_services histories ticks router place is are passes long within down =
-    none_over net (layouts c) is most_routes most_services histories (length ticks) (ticked net most_routes most_services (begun histories) ticks)
-    (rests c net most_routes most_services histories ticks is are passes) router within long place down
+returns-clause-down c net most_routes most_services run first ticks router place is are calm long within down =
+    none_over net (layouts c) is most_routes most_services run.histories (length ticks) (ticked net most_routes most_services run (first ∷ ticks))
+    (rests_after net (layouts c) is most_routes most_services run first ticks are calm) router within long place down

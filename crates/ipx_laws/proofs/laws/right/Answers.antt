@@ -1,20 +1,15 @@
-use Rattle.std.proofs.Common.{◌≡◌, sym, subst, ◌+◌, ◌≤◌, [], ◌∷◌, ◌++◌, length, arith}
-use Rattle.ipx_router.specs.Facts.{routes_held, offers}
-use Rattle.ipx_router.specs.Outgoing.{route_to}
-use Rattle.ipx_internet.specs.Internet.{ports_of}
-use Rattle.ipx_internet.specs.Queue.{history_of}
-use Rattle.ipx_internet.specs.Run.{Run, begun, run_of}
+use Rattle.std.proofs.Common.{◌≡◌, sym, subst, ◌+◌, ◌≤◌, ◌++◌, length, arith}
+use Rattle.ipx_internet.specs.Run.{Run, run_of}
 use Rattle.ipx_internet.specs.Ticks.{ticked}
 use Rattle.ipx_internet.proofs.packets.SentOnOrReply.{Layouts}
 use Rattle.ipx_laws.specs.Gone.{most_ticks_gone}
 use Rattle.ipx_laws.specs.Least.{least_route, ticks_right}
+use Rattle.ipx_laws.specs.Tables.{route_of}
 use Rattle.ipx_laws.specs.Ups.{ups}
 use Rattle.ipx_laws.proofs.laws.right.Goals as goal
-use Rattle.ipx_laws.proofs.tables.AnyTablesBecomeRight.{from_any, from_real, from_run}
-use Rattle.ipx_laws.proofs.tables.Given.{given_of}
-use Rattle.ipx_laws.proofs.tables.LeastWays.{ups_within}
+use Rattle.ipx_laws.proofs.tables.AnyTablesBecomeRight.{here, from_any, from_real}
 use Rattle.ipx_laws.proofs.tables.TablesAreRight.{some_ticks, soon_enough, table_is, stays, parts_of, ticked_on}
-use Rattle.ipx_laws.proofs.ticks.TickAfterTick.{IsCalmTick, quiet_tick, quiet_ticks}
+use Rattle.ipx_laws.proofs.ticks.TickAfterTick.{IsCalmTick, calm_ticks}
 
 -- the laws of packets and routers
 layouts : goal.After-packets → Layouts
@@ -40,76 +35,47 @@ layouts c = record {
 }
 
 pub returns-clause-tables : goal.returns-clause-tables
-returns-clause-tables c net most_routes most_services histories ticks router network (is, differ, suffice, cheap, room, are) passes inside sure =
-    let calm = quiet_ticks net most_routes most_services (layouts c) is (begun histories) ticks passes in
-    let long = some_ticks (least_route net (ups net histories) router network) (length ticks) sure in
-    table_is (given_of net (layouts c) is differ cheap (ups net histories) (ups_within net histories) most_routes most_services room network suffice) (length ticks)
-    (ticked net most_routes most_services (begun histories) ticks) (from_any net (layouts c) is differ cheap most_routes most_services room network histories are suffice ticks calm long) long router inside sure
+returns-clause-tables c net most_routes most_services run first ticks router network (is, differ, suffice, cheap, room, are) (rest, leaves, calm) inside sure =
+    let next = run_of net most_routes most_services run first in
+    let long = some_ticks (least_route net (ups net run.histories) router network) (length ticks) sure in
+    table_is (here net (layouts c) is differ cheap most_routes most_services room network run are suffice) (length ticks)
+    (ticked net most_routes most_services next ticks)
+    (from_any net (layouts c) is differ cheap most_routes most_services room network run are suffice first ticks rest leaves
+    (calm_ticks net most_routes most_services next ticks calm) long) long router inside sure
 
 pub returns-clause-stay : goal.returns-clause-stay
-returns-clause-stay c net most_routes most_services histories ticks further router network (is, differ, suffice, cheap, room, are) passes inside sure =
-    let long = some_ticks (least_route net (ups net histories) router network) (length ticks) sure in
-    let parts = parts_of net most_routes most_services (IsCalmTick net most_routes most_services) (begun histories) ticks further
-    (quiet_ticks net most_routes most_services (layouts c) is (begun histories) (ticks ++ further) passes) in
+returns-clause-stay c net most_routes most_services run first ticks further router network (is, differ, suffice, cheap, room, are) (rest, leaves, calm) inside sure =
+    let next = run_of net most_routes most_services run first in
+    let long = some_ticks (least_route net (ups net run.histories) router network) (length ticks) sure in
+    let parts = parts_of net most_routes most_services (IsCalmTick net most_routes most_services) next ticks further
+    (calm_ticks net most_routes most_services next (ticks ++ further) calm) in
     subst (λ (later : Run).
-    route_to (offers (routes_held (ports_of net router) most_routes (history_of later.histories router))) network.0
-    ≡ route_to (offers (routes_held (ports_of net router) most_routes
-    (history_of (ticked net most_routes most_services (begun histories) ticks).histories router))) network.0)
-    (sym (ticked_on net most_routes most_services (begun histories) ticks further))
-    (stays (given_of net (layouts c) is differ cheap (ups net histories) (ups_within net histories) most_routes most_services room network suffice) (length ticks) (ticked net most_routes most_services (begun histories) ticks) further
-    (from_any net (layouts c) is differ cheap most_routes most_services room network histories are suffice ticks parts.0 long) parts.1 router inside sure)
+    route_of net most_routes later.histories router network ≡ route_of net most_routes (ticked net most_routes most_services next ticks).histories router network)
+    (sym (ticked_on net most_routes most_services next ticks further))
+    (stays (here net (layouts c) is differ cheap most_routes most_services room network run are suffice) (length ticks)
+    (ticked net most_routes most_services next ticks) further
+    (from_any net (layouts c) is differ cheap most_routes most_services room network run are suffice first ticks rest leaves parts.0 long) parts.1 router inside sure)
 
 pub returns-clause-soon : goal.returns-clause-soon
-returns-clause-soon c net histories router network = soon_enough (least_route net (ups net histories) router network)
-
-pub returns-clause-whatever_waits : goal.returns-clause-whatever_waits
-returns-clause-whatever_waits c net most_routes most_services run [] router network (is, differ, suffice, cheap, room, are) waits passes inside sure = absurd (omega (arith, sure))
-returns-clause-whatever_waits c net most_routes most_services run (first ∷ ticks) router network (is, differ, suffice, cheap, room, are) waits passes inside sure =
-    let next = run_of net most_routes most_services run first in
-    let calm = quiet_ticks net most_routes most_services (layouts c) is next ticks passes.1 in
-    let once = quiet_tick net most_routes most_services (layouts c) is run first passes.0 in
-    let enough : ticks_right (least_route net (ups net run.histories) router network) ≤ length ticks = omega (arith, sure) in
-    let long = some_ticks (least_route net (ups net run.histories) router network) (length ticks) enough in
-    table_is (given_of net (layouts c) is differ cheap (ups net run.histories) (ups_within net run.histories) most_routes most_services room network suffice) (length ticks)
-    (ticked net most_routes most_services next ticks)
-    (from_run net (layouts c) is differ cheap most_routes most_services room network run are waits suffice first ticks once.busy once.leaves calm long) long router inside enough
-
-pub returns-clause-whatever_waits_stay : goal.returns-clause-whatever_waits_stay
-returns-clause-whatever_waits_stay c net most_routes most_services run [] further router network (is, differ, suffice, cheap, room, are) waits passes inside sure =
-    absurd (omega (arith, sure))
-returns-clause-whatever_waits_stay c net most_routes most_services run (first ∷ ticks) further router network (is, differ, suffice, cheap, room, are) waits passes inside sure =
-    let next = run_of net most_routes most_services run first in
-    let once = quiet_tick net most_routes most_services (layouts c) is run first passes.0 in
-    let enough : ticks_right (least_route net (ups net run.histories) router network) ≤ length ticks = omega (arith, sure) in
-    let long = some_ticks (least_route net (ups net run.histories) router network) (length ticks) enough in
-    let parts = parts_of net most_routes most_services (IsCalmTick net most_routes most_services) next ticks further
-    (quiet_ticks net most_routes most_services (layouts c) is next (ticks ++ further) passes.1) in
-    subst (λ (later : Run).
-    route_to (offers (routes_held (ports_of net router) most_routes (history_of later.histories router))) network.0
-    ≡ route_to (offers (routes_held (ports_of net router) most_routes
-    (history_of (ticked net most_routes most_services next ticks).histories router))) network.0)
-    (sym (ticked_on net most_routes most_services next ticks further))
-    (stays (given_of net (layouts c) is differ cheap (ups net run.histories) (ups_within net run.histories) most_routes most_services room network suffice) (length ticks) (ticked net most_routes most_services next ticks) further
-    (from_run net (layouts c) is differ cheap most_routes most_services room network run are waits suffice first ticks once.busy once.leaves parts.0 long) parts.1 router inside enough)
+returns-clause-soon c way = soon_enough way
 
 -- as if that many ticks had passed
 pub returns-clause-sooner : goal.returns-clause-sooner
-returns-clause-sooner c net most_routes most_services histories ticks router network (is, differ, suffice, cheap, room, are) real passes inside sure =
-    let calm = quiet_ticks net most_routes most_services (layouts c) is (begun histories) ticks passes in
-    let enough : ticks_right (least_route net (ups net histories) router network) ≤ length ticks + most_ticks_gone = omega (arith, sure) in
-    table_is (given_of net (layouts c) is differ cheap (ups net histories) (ups_within net histories) most_routes most_services room network suffice) (length ticks + most_ticks_gone)
-    (ticked net most_routes most_services (begun histories) ticks)
-    (from_real net (layouts c) is differ cheap most_routes most_services room network histories are suffice ticks calm real) (omega arith) router inside enough
+returns-clause-sooner c net most_routes most_services run ticks router network (is, differ, suffice, cheap, room, are) real quiet calm inside sure =
+    let enough : ticks_right (least_route net (ups net run.histories) router network) ≤ length ticks + most_ticks_gone = omega (arith, sure) in
+    table_is (here net (layouts c) is differ cheap most_routes most_services room network run are suffice) (length ticks + most_ticks_gone)
+    (ticked net most_routes most_services run ticks)
+    (from_real net (layouts c) is differ cheap most_routes most_services room network run are suffice ticks quiet
+    (calm_ticks net most_routes most_services run ticks calm) real) (omega arith) router inside enough
 
 pub returns-clause-sooner_stay : goal.returns-clause-sooner_stay
-returns-clause-sooner_stay c net most_routes most_services histories ticks further router network (is, differ, suffice, cheap, room, are) real passes inside sure =
-    let enough : ticks_right (least_route net (ups net histories) router network) ≤ length ticks + most_ticks_gone = omega (arith, sure) in
-    let parts = parts_of net most_routes most_services (IsCalmTick net most_routes most_services) (begun histories) ticks further
-    (quiet_ticks net most_routes most_services (layouts c) is (begun histories) (ticks ++ further) passes) in
+returns-clause-sooner_stay c net most_routes most_services run ticks further router network (is, differ, suffice, cheap, room, are) real quiet calm inside sure =
+    let enough : ticks_right (least_route net (ups net run.histories) router network) ≤ length ticks + most_ticks_gone = omega (arith, sure) in
+    let parts = parts_of net most_routes most_services (IsCalmTick net most_routes most_services) run ticks further
+    (calm_ticks net most_routes most_services run (ticks ++ further) calm) in
     subst (λ (later : Run).
-    route_to (offers (routes_held (ports_of net router) most_routes (history_of later.histories router))) network.0
-    ≡ route_to (offers (routes_held (ports_of net router) most_routes
-    (history_of (ticked net most_routes most_services (begun histories) ticks).histories router))) network.0)
-    (sym (ticked_on net most_routes most_services (begun histories) ticks further))
-    (stays (given_of net (layouts c) is differ cheap (ups net histories) (ups_within net histories) most_routes most_services room network suffice) (length ticks + most_ticks_gone) (ticked net most_routes most_services (begun histories) ticks) further
-    (from_real net (layouts c) is differ cheap most_routes most_services room network histories are suffice ticks parts.0 real) parts.1 router inside enough)
+    route_of net most_routes later.histories router network ≡ route_of net most_routes (ticked net most_routes most_services run ticks).histories router network)
+    (sym (ticked_on net most_routes most_services run ticks further))
+    (stays (here net (layouts c) is differ cheap most_routes most_services room network run are suffice) (length ticks + most_ticks_gone)
+    (ticked net most_routes most_services run ticks) further
+    (from_real net (layouts c) is differ cheap most_routes most_services room network run are suffice ticks quiet parts.0 real) parts.1 router inside enough)

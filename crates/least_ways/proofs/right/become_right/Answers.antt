@@ -1,4 +1,4 @@
-use Rattle.std.proofs.Common.{◌≡◌, subst, ◌≤◌, true, List, [], length, arith}
+use Rattle.std.proofs.Common.{◌≡◌, refl, subst, ◌≤◌, true, List, [], length, arith}
 use Rattle.std.proofs.lemmas.Result.{IfOk-weaker}
 use Rattle.ipx_router.specs.Numbers.{most_routers}
 use Rattle.ipx_internet.specs.Moment.{StandsFor, net_at}
@@ -29,10 +29,10 @@ returns g c =
           let after = passed yes (begun histories) stands in
           are_least g.row.R g.row.S old new histories stands c.pass.ensures.net (forgotten (ticked net g.row.R g.row.S (begun histories) after.ticks)) after.stands
           (λ router network within.
-          let soon = c.right.ensures.soon net histories router network in
+          let soon = c.right.ensures.soon (least_route net (ups net histories) router network) in
           let many = after.many in
           let enough : ticks_right (least_route net (ups net histories) router network) ≤ length after.ticks = omega (arith, soon, many) in
-          c.right.ensures.tables net g.row.R g.row.S histories after.ticks router network
+          c.right.ensures.tables net g.row.R g.row.S (begun histories) [] after.ticks router network
           (c.len.ensures.internet, c.len.ensures.nodes, c.fifteen_suffice.ensures.few_routers net histories network c.len.ensures.internet few, cheap, room, past.are)
-          after.are within enough)) c.pass.ensures.ticked;
+          ((tt, tt, refl), tt, c.ticks_are_calm.ensures net g.row.R g.row.S (begun histories) after.ticks after.are) within enough)) c.pass.ensures.ticked;
     }

@@ -1,20 +1,17 @@
-use Rattle.std.proofs.Common.{◌≡◌, sym, ap, subst, ℕ, List, [], map, option_map, arith}
+use Rattle.std.proofs.Common.{subst, ℕ, List, [], map, arith}
 use Rattle.ipx_wire.specs.declared.network.Network.{Network}
 use Rattle.ipx_router.specs.History.{History}
-use Rattle.ipx_router.specs.Outgoing.{route_to}
 use Rattle.ipx_internet.specs.Internet.{Internet, IsInternet}
-use Rattle.ipx_internet.specs.Queue.{Queued}
-use Rattle.ipx_internet.specs.Run.{Step, Run, Waiting, AreHistories, begun, forgotten, run_of}
+use Rattle.ipx_internet.specs.Run.{Step, Run, Waiting, AreHistories, begun, run_of}
 use Rattle.ipx_internet.proofs.packets.SentOnOrReply.{Layouts}
-use Rattle.ipx_laws.specs.Least.{AreCheap, FifteenSuffice, least_route, way_of}
+use Rattle.ipx_laws.specs.Least.{AreCheap, FifteenSuffice, least_route}
 use Rattle.ipx_laws.specs.Losses.{AreLosses}
-use Rattle.ipx_laws.specs.Tables.{AreReal, AreRight, routes_of}
+use Rattle.ipx_laws.specs.Tables.{AreReal, AreRight}
 use Rattle.ipx_laws.specs.Ups.{ups}
 use Rattle.ipx_laws.proofs.laws.changes.losses.Goals as goal
 use Rattle.ipx_laws.proofs.losses.LossesGoOn.{Losing, steps_lose}
 use Rattle.ipx_laws.proofs.losses.RealAfterLosses.{all_real}
 use Rattle.ipx_laws.proofs.losses.TableIsAdvertised.{at_first}
-use Rattle.ipx_laws.proofs.ticks.LogsDontMatter.{same_ticks, same_ticked}
 
 -- the laws of packets and routers
 layouts : goal.After-right → Layouts
@@ -57,16 +54,12 @@ module _ (c : goal.After-right) (net : Internet) (most_routes most_services : �
   real_then : AreReal net most_routes after.histories (ups net after.histories)
   real_then = all_real net (layouts c) is most_routes most_services after.histories losing
 
-  -- without what was received
-  same : forgotten after ≡ forgotten (begun after.histories)
-  same = ap (λ (ws : List Waiting). record { histories = after.histories; queue = map (λ w. w.delivery) ws }) losses.quiet
-
 pub returns-clause-real : goal.returns-clause-real
 returns-clause-real c net most_routes most_services histories steps is suffice cheap are real right losses =
     real_then c net most_routes most_services histories steps is suffice cheap are real right losses
 
 pub returns-clause-right : goal.returns-clause-right
-returns-clause-right c net most_routes most_services histories steps ticks settings real right losses suffice_last enough passes router network inside =
+returns-clause-right c net most_routes most_services histories steps ticks settings real right losses suffice_last enough calm router network inside =
     let is = (settings network).0 in
     let differ = (settings network).1 in
     let suffice : (other : Network) → FifteenSuffice net (ups net histories) other = λ other. (settings other).2 in
@@ -74,12 +67,7 @@ returns-clause-right c net most_routes most_services histories steps ticks setti
     let room = (settings network).4 in
     let are = (settings network).5 in
     let then_run = after c net most_routes most_services histories steps is suffice cheap are real right losses in
-    let last = then_run.histories in
-    let equal = same c net most_routes most_services histories steps is suffice cheap are real right losses in
     let lost = losing c net most_routes most_services histories steps is suffice cheap are real right losses in
-    let soon = c.right.ensures.soon net last router network in
-    subst (λ (hs : List History). option_map way_of (route_to (routes_of net most_routes hs router) network.0) ≡ least_route net (ups net last) router network)
-    (sym (ap (λ (q : Queued). q.histories) (same_ticked net most_routes most_services then_run (begun last) ticks equal)))
-    (c.right.ensures.sooner net most_routes most_services last ticks router network (is, differ, suffice_last network, cheap, room, lost.are)
-    (real_then c net most_routes most_services histories steps is suffice cheap are real right losses)
-    (same_ticks net most_routes most_services then_run (begun last) ticks equal passes) inside (omega (arith, soon, enough)))
+    let soon = c.right.ensures.soon (least_route net (ups net then_run.histories) router network) in
+    c.right.ensures.sooner net most_routes most_services then_run ticks router network (is, differ, suffice_last network, cheap, room, lost.are)
+    (real_then c net most_routes most_services histories steps is suffice cheap are real right losses) losses.quiet calm inside (omega (arith, soon, enough))

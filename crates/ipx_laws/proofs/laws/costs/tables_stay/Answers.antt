@@ -1,4 +1,4 @@
-use Rattle.std.proofs.Common.{◌≡◌, refl, sym, ◌∙◌, subst, ℕ, ◌+◌, ◌<◌, ◌≤◌, true, List, ◌++◌, length, arith}
+use Rattle.std.proofs.Common.{◌≡◌, refl, sym, ◌∙◌, subst, ℕ, ◌+◌, ◌<◌, ◌≤◌, true, List, [], ◌++◌, length, arith}
 use Rattle.std.specs.List.{AllByRecursion}
 use Rattle.ipx_wire.specs.declared.network.Network.{Network}
 use Rattle.ipx_router.specs.History.{History}
@@ -26,7 +26,7 @@ use Rattle.ipx_laws.proofs.tables.LeastWays.{ups_within}
 use Rattle.ipx_laws.proofs.tables.TablesAreRight.{parts_of}
 use Rattle.ipx_laws.proofs.ticks.GoneWhateverHappens.{each_then}
 use Rattle.ipx_laws.proofs.ticks.NoServiceInTicks.{NoService, stays_none, from_any as none_from_any, at_once}
-use Rattle.ipx_laws.proofs.ticks.TickAfterTick.{IsCalmTick, CalmTicks, Rests, calm_ticks, quiet_ticks, rested}
+use Rattle.ipx_laws.proofs.ticks.TickAfterTick.{IsCalmTick, CalmTicks, Rests, calm_ticks, ticks_are_calm, rested}
 use Rattle.ipx_laws.proofs.upkeep.TablesStayInTicks.{tables_stay_in}
 use Rattle.ipx_laws.proofs.upkeep.TicksAreOfUpkeep.{are_of_upkeep, seconds_in}
 
@@ -95,7 +95,8 @@ module _ (c : After-upkeep) (net : Internet) (most_routes most_services : ℕ) (
       let parts = parts_of net most_routes most_services (IsCalmTick net most_routes most_services) (begun histories) ticks further calm in
       tables_stay_in net (layouts c) is differ cheap (ups net histories) (ups_within net histories) most_routes most_services room suffice
       (λ ports history. c.tables.ensures.routes_rise ports most_routes history) (length ticks) long run further
-      (λ network. from_any net (layouts c) is differ cheap most_routes most_services room network histories are (suffice network) ticks parts.0 (omega (arith, long)))
+      (λ network. from_any net (layouts c) is differ cheap most_routes most_services room network (begun histories) are (suffice network) [] ticks (tt, tt, refl) tt parts.0
+      (omega (arith, long)))
       parts.1 services
 
   stay_sooner : AreReal net most_routes histories (ups net histories) → Calm (ticks ++ further) → period ≤ length ticks → Services → Tables
@@ -103,7 +104,7 @@ module _ (c : After-upkeep) (net : Internet) (most_routes most_services : ℕ) (
       let parts = parts_of net most_routes most_services (IsCalmTick net most_routes most_services) (begun histories) ticks further calm in
       tables_stay_in net (layouts c) is differ cheap (ups net histories) (ups_within net histories) most_routes most_services room suffice
       (λ ports history. c.tables.ensures.routes_rise ports most_routes history) (length ticks + most_ticks_gone) (omega (arith, long)) run further
-      (λ network. from_real net (layouts c) is differ cheap most_routes most_services room network histories are (suffice network) ticks parts.0 real)
+      (λ network. from_real net (layouts c) is differ cheap most_routes most_services room network (begun histories) are (suffice network) ticks refl parts.0 real)
       parts.1 services
 
   -- ---- what is sent in a minute
@@ -137,7 +138,7 @@ module _ (c : After-upkeep) (net : Internet) (most_routes most_services : ℕ) (
     parts = parts_of net most_routes most_services (IsTick net most_routes most_services) (begun histories) ticks further passes
 
     calm : Calm (ticks ++ further)
-    calm = quiet_ticks net most_routes most_services (layouts c) is (begun histories) (ticks ++ further) passes
+    calm = calm_ticks net most_routes most_services (begun histories) (ticks ++ further) (ticks_are_calm net most_routes most_services (begun histories) (ticks ++ further) passes)
 
     alone_then : most_ticks_right ≤ length ticks → Tables
     alone_then long =
@@ -153,14 +154,14 @@ module _ (c : After-upkeep) (net : Internet) (most_routes most_services : ℕ) (
     ticks_of_upkeep = are_of_upkeep net most_routes most_services run further parts.1
 
 pub returns-clause-stay : goal.returns-clause-stay
-returns-clause-stay c net most_routes most_services histories ticks further settings ((busy, leave), say) long services =
+returns-clause-stay c net most_routes most_services histories ticks further settings calm long services =
     stay_then c net most_routes most_services histories ticks further settings
-    (calm_ticks net most_routes most_services (begun histories) (ticks ++ further) busy leave say) long services
+    (calm_ticks net most_routes most_services (begun histories) (ticks ++ further) calm) long services
 
 pub returns-clause-sooner : goal.returns-clause-sooner
-returns-clause-sooner c net most_routes most_services histories ticks further settings real ((busy, leave), say) long services =
+returns-clause-sooner c net most_routes most_services histories ticks further settings real calm long services =
     stay_sooner c net most_routes most_services histories ticks further settings real
-    (calm_ticks net most_routes most_services (begun histories) (ticks ++ further) busy leave say) long services
+    (calm_ticks net most_routes most_services (begun histories) (ticks ++ further) calm) long services
 
 pub returns-clause-alone : goal.returns-clause-alone
 returns-clause-alone c net most_routes most_services histories ticks further settings passes long =
@@ -178,8 +179,8 @@ returns-clause-minute c net most_routes most_services histories ticks further ro
     (alone_then c net most_routes most_services histories ticks further settings passes long)
 
 pub returns-clause-minute_meanwhile : goal.returns-clause-minute_meanwhile
-returns-clause-minute_meanwhile c net most_routes most_services histories ticks further router number settings ((busy, leave), say) of_upkeep sixty long on
+returns-clause-minute_meanwhile c net most_routes most_services histories ticks further router number settings calm of_upkeep sixty long on
     services =
-    let all_calm = calm_ticks net most_routes most_services (begun histories) (ticks ++ further) busy leave say in
+    let all_calm = calm_ticks net most_routes most_services (begun histories) (ticks ++ further) calm in
     minute_then c net most_routes most_services histories ticks further settings all_calm router number of_upkeep sixty on
     (stay_then c net most_routes most_services histories ticks further settings all_calm long services)

@@ -1,16 +1,15 @@
-use Rattle.std.proofs.Common.{refl, [], arith}
+use Rattle.std.proofs.Common.{[], arith}
 use Rattle.ipx_router.proofs.port_values.PortOfEachNumber.{ports_up-within}
 use Rattle.ipx_internet.specs.Internet.{ports_of}
 use Rattle.ipx_internet.specs.Queue.{history_of}
-use Rattle.ipx_internet.specs.Run.{begun, run_of}
+use Rattle.ipx_internet.specs.Run.{run_of}
 use Rattle.ipx_internet.proofs.packets.SentOnOrReply.{Layouts}
 use Rattle.ipx_laws.specs.Regular.{IsListedName}
 use Rattle.ipx_laws.specs.Ups.{ups}
 use Rattle.ipx_laws.proofs.laws.services.beside.Goals as goal
 use Rattle.ipx_laws.proofs.services.BesideHosts.{has}
-use Rattle.ipx_laws.proofs.services.HostTickAfterTick.{rested}
 use Rattle.ipx_laws.proofs.services.HostsApart.{hosts_apart}
-use Rattle.ipx_laws.proofs.ticks.FirstTickClears.{begins_after}
+use Rattle.ipx_laws.proofs.services.ServicesBecomeReal.{from_any}
 
 -- the laws of packets and routers
 layouts : goal.After-packets → Layouts
@@ -35,22 +34,13 @@ layouts c = record {
   bytes = c.packets.ensures.bytes;
 }
 
-pub returns-clause-has : goal.returns-clause-has
-returns-clause-has c net most_routes most_services server names histories ticks place which host (is, are, voice, room, listed) (busy, leave) (say, named, in_time) long (inside, on, announces, network, reached, least) =
-    let rests = rested net (layouts c) is most_routes most_services (ups net histories) server (IsListedName names) (begun histories) [] are (λ router within. refl) refl
-    tt tt tt tt in
-    has net (layouts c) is most_routes most_services (ups net histories) server names
-    (hosts_apart net most_routes most_services server (ups net histories) (begun histories) ticks voice in_time (omega (arith, long)))
-    (λ router. ports_up-within (ports_of net router) (history_of histories router)) room listed place inside which host announces reached network on least
-    (begun histories) rests ticks long busy leave say named in_time
-
-pub returns-clause-whatever_waits : goal.returns-clause-whatever_waits
-returns-clause-whatever_waits c net most_routes most_services server names run first ticks place which host (is, are, voice, room, listed) waits (busy, leave) (say, named, in_time) long (inside, on, announces, network, reached, least) =
-    let next = run_of net most_routes most_services run first in
-    let begins = begins_after net (layouts c) is most_routes most_services run are waits first busy.0 leave.0 in
-    let rests = rested net (layouts c) is most_routes most_services (ups net run.histories) server (IsListedName names) next [] begins.are
-    (λ router within. (begins.routers router within).ups) begins.quiet tt tt tt tt in
-    has net (layouts c) is most_routes most_services (ups net run.histories) server names
-    (hosts_apart net most_routes most_services server (ups net run.histories) next ticks voice in_time (omega (arith, long)))
-    (λ router. ports_up-within (ports_of net router) (history_of run.histories router)) room listed place inside which host announces reached network on least
-    next rests ticks long busy.1 leave.1 say named in_time
+pub returns : goal.returns
+returns c = record {
+  has = λ net most_routes most_services server names run first ticks place which host (is, are, voice, room, listed) (rest, leaves, (busy, leave)) (say, named, in_time) long (inside, on, announces, network, reached, least).
+      let next = run_of net most_routes most_services run first in
+      let rests = from_any net (layouts c) is most_routes most_services server (IsListedName names) run first [] are (rest, leaves, (tt, tt)) tt tt in
+      has net (layouts c) is most_routes most_services (ups net run.histories) server names
+      (hosts_apart net most_routes most_services server (ups net run.histories) next ticks voice in_time (omega (arith, long)))
+      (λ router. ports_up-within (ports_of net router) (history_of run.histories router)) room listed place inside which host announces reached network on least
+      next rests ticks long busy leave say named in_time;
+}

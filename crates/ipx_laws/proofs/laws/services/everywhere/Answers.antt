@@ -1,10 +1,10 @@
-use Rattle.std.proofs.Common.{◌≡◌, refl, [], ◌∷◌, ◌++◌, Some, arith}
+use Rattle.std.proofs.Common.{◌≡◌, [], ◌∷◌, ◌++◌, Some, arith}
 use Rattle.std.proofs.lemmas.List.{length-append}
 use Rattle.ipx_router.specs.Facts.{services_held, offers}
 use Rattle.ipx_router.proofs.port_values.PortOfEachNumber.{ports_up-within}
 use Rattle.ipx_internet.specs.Internet.{ports_of}
 use Rattle.ipx_internet.specs.Queue.{history_of}
-use Rattle.ipx_internet.specs.Run.{begun, run_of}
+use Rattle.ipx_internet.specs.Run.{run_of}
 use Rattle.ipx_internet.specs.Ticks.{ticked}
 use Rattle.ipx_internet.proofs.packets.SentOnOrReply.{Layouts}
 use Rattle.ipx_laws.specs.Regular.{IsListedName}
@@ -12,10 +12,9 @@ use Rattle.ipx_laws.specs.Servers.{at_hops, known_of}
 use Rattle.ipx_laws.specs.Ups.{ups}
 use Rattle.ipx_laws.proofs.laws.services.everywhere.Goals as goal
 use Rattle.ipx_laws.proofs.services.HeardAtAStep.{at_prefix}
-use Rattle.ipx_laws.proofs.services.HostTickAfterTick.{rested}
 use Rattle.ipx_laws.proofs.services.HostsApart.{hosts_apart}
 use Rattle.ipx_laws.proofs.services.KnownByFewestHops.{known, known_last}
-use Rattle.ipx_laws.proofs.ticks.FirstTickClears.{begins_after}
+use Rattle.ipx_laws.proofs.services.ServicesBecomeReal.{from_any}
 
 -- the laws of packets and routers
 layouts : goal.After-packets → Layouts
@@ -41,49 +40,23 @@ layouts c = record {
 }
 
 pub returns-clause-has : goal.returns-clause-has
-returns-clause-has c net most_routes most_services server names nearest histories ticks router hops (is, are, voice, room, listed) differ least (busy, leave) (say, named, in_time) long inside near fewest =
-    let start = begun histories in
-    let rests = rested net (layouts c) is most_routes most_services (ups net histories) server (IsListedName names) start [] are (λ k within. refl) refl tt tt tt tt in
-    known_last net (layouts c) is most_routes most_services (ups net histories) server names
-    (hosts_apart net most_routes most_services server (ups net histories) start ticks voice in_time (omega (arith, long))) differ
-    (λ k. ports_up-within (ports_of net k) (history_of histories k)) room listed nearest least start rests hops near ticks long
-    (record { busy = busy; leave = leave; say = say; named = named; in_time = in_time }) router inside fewest
-
-pub returns-clause-meanwhile : goal.returns-clause-meanwhile
-returns-clause-meanwhile c net most_routes most_services server names nearest histories ticks steps rest router hops (is, are, voice, room, listed) differ least (busy, leave) (say, named, in_time) long inside near fewest =
-    let start = begun histories in
-    let rests = rested net (layouts c) is most_routes most_services (ups net histories) server (IsListedName names) start [] are (λ k within. refl) refl tt tt tt tt in
-    at_prefix net most_routes most_services server
-    (λ now. known_of server (offers (services_held (ports_of net router) most_services (history_of now.histories router))) ≡ Some (at_hops server hops))
-    (ticked net most_routes most_services start ticks) steps rest
-    (known net (layouts c) is most_routes most_services (ups net histories) server names
-    (hosts_apart net most_routes most_services server (ups net histories) start (ticks ++ (steps ++ rest) ∷ []) voice in_time
-    (let count = length-append ticks ((steps ++ rest) ∷ []) in omega (arith, count, long))) differ
-    (λ k. ports_up-within (ports_of net k) (history_of histories k)) room listed nearest least start rests hops near ticks (steps ++ rest) long
-    (record { busy = busy; leave = leave; say = say; named = named; in_time = in_time }) router inside fewest)
-
-pub returns-clause-whatever_waits : goal.returns-clause-whatever_waits
-returns-clause-whatever_waits c net most_routes most_services server names nearest run first ticks router hops (is, are, voice, room, listed) differ waits least (busy, leave) (say, named, in_time) long inside near fewest =
+returns-clause-has c net most_routes most_services server names nearest run first ticks router hops (is, are, voice, room, listed) differ least (rest, leaves, (busy, leave)) (say, named, in_time) long inside near fewest =
     let next = run_of net most_routes most_services run first in
-    let begins = begins_after net (layouts c) is most_routes most_services run are waits first busy.0 leave.0 in
-    let rests = rested net (layouts c) is most_routes most_services (ups net run.histories) server (IsListedName names) next [] begins.are
-    (λ k within. (begins.routers k within).ups) begins.quiet tt tt tt tt in
+    let rests = from_any net (layouts c) is most_routes most_services server (IsListedName names) run first [] are (rest, leaves, (tt, tt)) tt tt in
     known_last net (layouts c) is most_routes most_services (ups net run.histories) server names
     (hosts_apart net most_routes most_services server (ups net run.histories) next ticks voice in_time (omega (arith, long))) differ
     (λ k. ports_up-within (ports_of net k) (history_of run.histories k)) room listed nearest least next rests hops near ticks long
-    (record { busy = busy.1; leave = leave.1; say = say; named = named; in_time = in_time }) router inside fewest
+    (record { busy = busy; leave = leave; say = say; named = named; in_time = in_time }) router inside fewest
 
-pub returns-clause-whatever_waits_meanwhile : goal.returns-clause-whatever_waits_meanwhile
-returns-clause-whatever_waits_meanwhile c net most_routes most_services server names nearest run first ticks steps rest router hops (is, are, voice, room, listed) differ waits least (busy, leave) (say, named, in_time) long inside near fewest =
+pub returns-clause-meanwhile : goal.returns-clause-meanwhile
+returns-clause-meanwhile c net most_routes most_services server names nearest run first ticks steps rest_of router hops (is, are, voice, room, listed) differ least (rest, leaves, (busy, leave)) (say, named, in_time) long inside near fewest =
     let next = run_of net most_routes most_services run first in
-    let begins = begins_after net (layouts c) is most_routes most_services run are waits first busy.0 leave.0 in
-    let rests = rested net (layouts c) is most_routes most_services (ups net run.histories) server (IsListedName names) next [] begins.are
-    (λ k within. (begins.routers k within).ups) begins.quiet tt tt tt tt in
+    let rests = from_any net (layouts c) is most_routes most_services server (IsListedName names) run first [] are (rest, leaves, (tt, tt)) tt tt in
     at_prefix net most_routes most_services server
     (λ now. known_of server (offers (services_held (ports_of net router) most_services (history_of now.histories router))) ≡ Some (at_hops server hops))
-    (ticked net most_routes most_services next ticks) steps rest
+    (ticked net most_routes most_services next ticks) steps rest_of
     (known net (layouts c) is most_routes most_services (ups net run.histories) server names
-    (hosts_apart net most_routes most_services server (ups net run.histories) next (ticks ++ (steps ++ rest) ∷ []) voice in_time
-    (let count = length-append ticks ((steps ++ rest) ∷ []) in omega (arith, count, long))) differ
-    (λ k. ports_up-within (ports_of net k) (history_of run.histories k)) room listed nearest least next rests hops near ticks (steps ++ rest) long
-    (record { busy = busy.1; leave = leave.1; say = say; named = named; in_time = in_time }) router inside fewest)
+    (hosts_apart net most_routes most_services server (ups net run.histories) next (ticks ++ (steps ++ rest_of) ∷ []) voice in_time
+    (let count = length-append ticks ((steps ++ rest_of) ∷ []) in omega (arith, count, long))) differ
+    (λ k. ports_up-within (ports_of net k) (history_of run.histories k)) room listed nearest least next rests hops near ticks (steps ++ rest_of) long
+    (record { busy = busy; leave = leave; say = say; named = named; in_time = in_time }) router inside fewest)

@@ -1,10 +1,9 @@
-use Rattle.std.proofs.Common.{refl, ◌∷◌, length}
-use Rattle.ipx_internet.specs.Run.{begun}
+use Rattle.std.proofs.Common.{◌∷◌, length}
 use Rattle.ipx_internet.specs.Ticks.{ticked}
 use Rattle.ipx_internet.proofs.packets.SentOnOrReply.{Layouts}
 use Rattle.ipx_laws.specs.Ups.{ups}
 use Rattle.ipx_laws.proofs.laws.services.served.Goals as goal
-use Rattle.ipx_laws.proofs.services.ServicesBecomeReal.{all_real, all_away, none_known, from_quiet, from_any, AnyName, names_any}
+use Rattle.ipx_laws.proofs.services.ServicesBecomeReal.{all_real, all_away, none_known, from_any, AnyName, names_any}
 
 -- the laws of packets and routers
 layouts : goal.After-packets → Layouts
@@ -30,28 +29,19 @@ layouts c = record {
 }
 
 pub returns-clause-real : goal.returns-clause-real
-returns-clause-real c net most_routes most_services server histories ticks router is are (busy, leave) say long within =
-    all_real net (layouts c) is most_routes most_services (ups net histories) server AnyName (length ticks) (ticked net most_routes most_services (begun histories) ticks)
-    (from_quiet net (layouts c) is most_routes most_services server AnyName (begun histories) ticks are refl busy leave say (names_any net server ticks)) long router within
-
-pub returns-clause-away : goal.returns-clause-away
-returns-clause-away c net most_routes most_services server histories ticks router is are (busy, leave) say long within =
-    all_away net (layouts c) is most_routes most_services (ups net histories) server AnyName (length ticks) (ticked net most_routes most_services (begun histories) ticks)
-    (from_quiet net (layouts c) is most_routes most_services server AnyName (begun histories) ticks are refl busy leave say (names_any net server ticks)) long router within
-
-pub returns-clause-none : goal.returns-clause-none
-returns-clause-none c net most_routes most_services server histories ticks router is are (busy, leave) say long within no_way =
-    none_known net (layouts c) is most_routes most_services (ups net histories) server AnyName (length ticks) (ticked net most_routes most_services (begun histories) ticks)
-    (from_quiet net (layouts c) is most_routes most_services server AnyName (begun histories) ticks are refl busy leave say (names_any net server ticks)) long router within no_way
-
-pub returns-clause-whatever_waits : goal.returns-clause-whatever_waits
-returns-clause-whatever_waits c net most_routes most_services server run first ticks router is are waits (busy, leave) say long within =
+returns-clause-real c net most_routes most_services server run first ticks router is are of_hosts say long within =
     all_real net (layouts c) is most_routes most_services (ups net run.histories) server AnyName (length ticks)
     (ticked net most_routes most_services run (first ∷ ticks))
-    (from_any net (layouts c) is most_routes most_services server AnyName run first ticks are waits busy leave say (names_any net server ticks)) long router within
+    (from_any net (layouts c) is most_routes most_services server AnyName run first ticks are of_hosts say (names_any net server ticks)) long router within
 
-pub returns-clause-whatever_waits_away : goal.returns-clause-whatever_waits_away
-returns-clause-whatever_waits_away c net most_routes most_services server run first ticks router is are waits (busy, leave) say long within =
+pub returns-clause-away : goal.returns-clause-away
+returns-clause-away c net most_routes most_services server run first ticks router is are of_hosts say long within =
     all_away net (layouts c) is most_routes most_services (ups net run.histories) server AnyName (length ticks)
     (ticked net most_routes most_services run (first ∷ ticks))
-    (from_any net (layouts c) is most_routes most_services server AnyName run first ticks are waits busy leave say (names_any net server ticks)) long router within
+    (from_any net (layouts c) is most_routes most_services server AnyName run first ticks are of_hosts say (names_any net server ticks)) long router within
+
+pub returns-clause-none : goal.returns-clause-none
+returns-clause-none c net most_routes most_services server run first ticks router is are of_hosts say long within no_way =
+    none_known net (layouts c) is most_routes most_services (ups net run.histories) server AnyName (length ticks)
+    (ticked net most_routes most_services run (first ∷ ticks))
+    (from_any net (layouts c) is most_routes most_services server AnyName run first ticks are of_hosts say (names_any net server ticks)) long router within no_way

@@ -1,23 +1,21 @@
--- Whatever waits when ticks begin: the first of them ends with nothing that waits, and with the ports as they were.
-use Rattle.std.proofs.Common.{◌≡◌, sym, ◌∙◌, subst, refl, ℕ, ◌+◌, ◌<◌, ◌≤◌, false, List, [], ◌∷◌, length, map, arith}
+-- After steps that end with nothing that waits, whatever waited before: histories are as they should be, and ports as they were.
+use Rattle.std.proofs.Common.{◌≡◌, sym, ◌∙◌, subst, refl, ℕ, ◌+◌, ◌<◌, false, List, [], ◌∷◌, length, map, arith}
 use Rattle.std.specs.List.{AllByRecursion}
 use Rattle.ipx_router.specs.History.{Event, History, Start, Stop, Second, Packet, PortDown, PortUp, is_start, is_stop, takes_down, brings_up, ports_up}
 use Rattle.ipx_router.proofs.histories.OneEventMore.{ports_stay}
-use Rattle.ipx_internet.specs.BusyTick.{IsBusyTick}
 use Rattle.ipx_internet.specs.Internet.{Internet, IsInternet, ports_of}
 use Rattle.ipx_internet.specs.Queue.{Delivery, Queued, history_of, with_event, settled_one}
-use Rattle.ipx_internet.specs.Rounds.{IsDelivery}
 use Rattle.ipx_internet.specs.Run.{Step, Happens, Settles, IsStep, AreHistories, Run, forgotten, stepped, run_of}
-use Rattle.ipx_internet.specs.Ticks.{AreTicks, ticked}
+use Rattle.ipx_internet.specs.Ticks.{ticked}
 use Rattle.ipx_internet.proofs.deliveries.QueueOfARun.{deliveries}
 use Rattle.ipx_internet.proofs.packets.SentOnOrReply.{Layouts}
 use Rattle.ipx_internet.proofs.ticks.TickCanBeHad.{Sound, step_sound, steps_sound, sound_run}
 use Rattle.ipx_internet.proofs.trees.RunIsALog.{router_there}
-use Rattle.ipx_laws.specs.Gone.{most_ticks_gone}
-use Rattle.ipx_laws.specs.Meanwhile.{LeavesPorts}
+use Rattle.ipx_laws.specs.Meanwhile.{LeavesPorts, AreCalmTicksAfter}
+use Rattle.ipx_laws.specs.Setting.{ComesToRest}
 use Rattle.ipx_laws.specs.Ups.{ups}
 use Rattle.ipx_laws.proofs.ticks.BusyTickAfterTick.{each_so}
-use Rattle.ipx_laws.proofs.ticks.TickAfterTick.{Rests, quiet_rests, ticks_rest, quiet_tick, quiet_ticks}
+use Rattle.ipx_laws.proofs.ticks.TickAfterTick.{Rests, quiet_rests, ticks_rest, calm_ticks}
 
 module _ (net : Internet) (laws : Layouts) (is : IsInternet net) (most_routes most_services : ℕ) where
   -- ---- ports
@@ -73,42 +71,26 @@ module _ (net : Internet) (laws : Layouts) (is : IsInternet net) (most_routes mo
           stay = step_stays run step all.0 leave.0 kept;
         })
 
-  module _ (run : Run) (are : AreHistories net run.histories) (waits : AllByRecursion (λ w. IsDelivery net w.delivery) run.waiting) where
+  module _ (run : Run) (first : List Step) (are : AreHistories net run.histories) (rest : ComesToRest net most_routes most_services run first) where
+    abbrev next : Run
+    next = run_of net most_routes most_services run first
+
     begins : Sound net laws is most_routes most_services (forgotten run)
-    begins = sound_run net laws is most_routes most_services run are waits
+    begins = sound_run net laws is most_routes most_services run are rest.0
 
-    -- ---- ticks
+    pub are_after : AreHistories net next.histories
+    are_after = (steps_sound net laws is most_routes most_services run first rest.1 begins).are
 
-    pub begins_after : (first : List Step) → IsBusyTick net most_routes most_services run first → AllByRecursion LeavesPorts first
-        → Rests net laws is most_routes most_services (ups net run.histories) 0 (run_of net most_routes most_services run first)
-    begins_after first busy leaves =
-        let next = run_of net most_routes most_services run first in
-        let kept = steps_keep (ups net run.histories) run first busy.happens leaves (record { sound = begins; stay = λ router. refl }) in
-        quiet_rests net laws is most_routes most_services (ups net run.histories) next kept.sound.are kept.stay busy.quiet
+    pub begins_after : AllByRecursion LeavesPorts first → Rests net laws is most_routes most_services (ups net run.histories) 0 next
+    begins_after leaves =
+        let kept = steps_keep (ups net run.histories) run first rest.1 leaves (record { sound = begins; stay = λ router. refl }) in
+        quiet_rests net laws is most_routes most_services (ups net run.histories) next kept.sound.are kept.stay rest.2
 
-    pub rests_from : (first : List Step) (ticks : List (List Step)) → AreTicks net most_routes most_services run (first ∷ ticks)
-        → Rests net laws is most_routes most_services (ups net run.histories) (length ticks) (ticked net most_routes most_services run (first ∷ ticks))
-    rests_from first ticks passes =
-        let next = run_of net most_routes most_services run first in
-        let calm = quiet_tick net most_routes most_services laws is run first passes.0 in
-        let count : length ticks + 0 ≡ length ticks = omega arith in
-        subst (λ (n : ℕ). Rests net laws is most_routes most_services (ups net run.histories) n (ticked net most_routes most_services next ticks)) count
-        (ticks_rest net laws is most_routes most_services (ups net run.histories) 0 next ticks (begins_after first calm.busy calm.leaves)
-        (quiet_ticks net most_routes most_services laws is next ticks passes.1))
-
-    pub record RestsLong (last : Run) : Type 0 where
-      pub count : ℕ
-      pub long : most_ticks_gone ≤ count
-      pub rests : Rests net laws is most_routes most_services (ups net run.histories) count last
-
-    -- after one tick more than where nothing waits
-    pub rests_later : (ticks : List (List Step)) → AreTicks net most_routes most_services run ticks → most_ticks_gone < length ticks
-        → RestsLong (ticked net most_routes most_services run ticks)
-    rests_later [] passes long = absurd (omega (arith, long))
-    rests_later (first ∷ ticks) passes long = record { count = length ticks; long = omega (arith, long); rests = rests_from first ticks passes }
-
-    -- ---- busy ticks
-
-    pub are_after : (first : List Step) → IsBusyTick net most_routes most_services run first
-        → AreHistories net (run_of net most_routes most_services run first).histories
-    are_after first tick = (steps_sound net laws is most_routes most_services run first tick.happens begins).are
+  pub rests_after : (run : Run) (first : List Step) (ticks : List (List Step)) → AreHistories net run.histories → AreCalmTicksAfter net most_routes most_services run first ticks
+      → Rests net laws is most_routes most_services (ups net run.histories) (length ticks) (ticked net most_routes most_services run (first ∷ ticks))
+  rests_after run first ticks are (rest, leaves, calm) =
+      let next = run_of net most_routes most_services run first in
+      let count : length ticks + 0 ≡ length ticks = omega arith in
+      subst (λ (n : ℕ). Rests net laws is most_routes most_services (ups net run.histories) n (ticked net most_routes most_services next ticks)) count
+      (ticks_rest net laws is most_routes most_services (ups net run.histories) 0 next ticks (begins_after run first are rest leaves)
+      (calm_ticks net most_routes most_services next ticks calm))
