@@ -54,7 +54,7 @@ pub fn horizon()
     ipx_router::laws::no_route_goes_back();
 }
 
-/// Ticks in which nothing else happens are calm, and so ticks of hosts and busy ones: what a law says of those it says of them.
+/// Ticks in which nothing else happens are calm, and so they are ticks of hosts and busy ticks: what a law says of these holds for them.
 pub fn ticks_are_calm()
     ensures { (net : Internet) (most_routes most_services : ℕ) (run : Run) (ticks : List (List Step))
         → AreTicks net most_routes most_services run ticks → AreCalmTicks net most_routes most_services run ticks }

@@ -59,10 +59,10 @@ pub fn upkeep()
     ipx_router::laws::tables();
 }
 
-/// When tables stay as they are after each step, as `upkeep` asks. The internet is as for `laws::right`, for every network. From any tables,
-/// once 2,940 ticks have passed, each router has after each step of further ticks the routes that it had then (`stay`), and where every route
-/// is of a real way from the first, once 60 have (`sooner`). Hosts may speak meanwhile, as in `laws::real`. Services stay as hosts
-/// announce them: that they do is asked for.
+/// When tables stay as they are after each step, as `upkeep` asks. The internet is as for `laws::right`, for every network, and nothing waits
+/// at first. From any tables, once 2,940 ticks have passed, each router has after each step of further ticks the routes that it had then
+/// (`stay`), and where every route is of a real way from the first, once 60 have (`sooner`). Hosts may speak meanwhile, as in `laws::real`.
+/// Services stay as hosts announce them: that they do is asked for.
 ///
 /// Where nothing but ticks happens, no router has a service by then, or after any of these steps (`alone`); nor where none had one at first
 /// (`alone_sooner`). So in any 60 such ticks each port that is up sends once the pages of all that its router advertises there, and nothing

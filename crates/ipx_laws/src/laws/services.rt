@@ -1,4 +1,4 @@
-//! What holds of services while hosts announce them, in every internet.
+//! What holds of services while hosts announce them, in every internet, after steps that leave nothing that waits, whatever waited before.
 ghost use Rattle.std.specs.Prelude.{◌≡◌, ◌≢◌, ℕ, suc, ◌<◌, ◌≤◌, List, [], ◌∷◌, ◌++◌, length, Some};
 ghost use Rattle.std.specs.List.{AllByRecursion};
 ghost use Rattle.ipx_wire.specs.declared.address.Address.{Address};
