@@ -1,5 +1,5 @@
 -- What a router sends where it starts, where a port of it comes up and where a packet of another router comes says what is of real ways.
-use Rattle.std.proofs.Common.{◌≡◌, ◌≢◌, refl, sym, subst, ℕ, ◌<◌, ◌==◌, if◌then◌else◌, Bool, true, false, List, [], ◌∷◌, ◌++◌, length, flat_map, inl, inr, arith}
+use Rattle.std.proofs.Common.{◌≡◌, ◌≢◌, refl, sym, subst, ℕ, ◌<◌, ◌==◌, if◌then◌else◌, Bool, true, false, List, [], ◌∷◌, ◌++◌, length, flat_map, inl, inr, arith, rules}
 use Rattle.std.specs.List.{AllByRecursion}
 use Rattle.std.proofs.lemmas.Bool.{cases_Bool, eqb-false, eqb-true}
 use Rattle.ipx_wire.specs.Rip.{IsEntry}
@@ -13,8 +13,8 @@ use Rattle.ipx_router.specs.Facts.{routes_held, offers}
 use Rattle.ipx_router.specs.Heard.{Heard, HeardRip, HeardSap}
 use Rattle.ipx_router.specs.History.{Event, History, IsOfBytes, ports_up}
 use Rattle.ipx_router.specs.News.{news, news_services}
-use Rattle.ipx_router.specs.Numbers.{rip_socket, sap_socket}
-use Rattle.ipx_router.specs.Port.{Port, IsPort, port_at, is_up, everyone, every_server, own_address, own_services, reply_to}
+use Rattle.ipx_router.specs.Numbers.{rip_socket}
+use Rattle.ipx_router.specs.Port.{Port, IsPort, port_at, is_up, everyone, own_address, own_services, reply_to}
 use Rattle.ipx_router.specs.Relays.{Sent}
 use Rattle.ipx_router.specs.Sends.{Holding, holding, rip_sends, sap_sends, rip_broadcast, sap_broadcast, broadcasts, routes_request, services_query, introduction, port_up_on, news_on, heard_sends, asked, of_kind, nearest_of}
 use Rattle.ipx_router.specs.Told.{told, told_services, told_at, direct_entry, entry_of, dead}
@@ -80,14 +80,11 @@ module _ (net : Internet) (laws : Layouts) (is : IsInternet net) (up : ℕ → L
     rip_said entries written = entries_said (everyone (port_at ports j)) (everyone_is (port_at ports j) (is_port j there)) refl entries written
 
     sap_said : (services : List Service) → AllByRecursion IsTellable services → AllByRecursion IsSaid (sap_broadcast ports j services)
-    sap_said services tellable =
-        services_said (every_server (port_at ports j)) (every_server_is (port_at ports j) (is_port j there)) refl
-        (λ (same : sap_socket ≡ rip_socket). omega (arith, same)) false services tellable
+    sap_said services tellable = grind (arith, services_said, every_server_is, is_port)
 
     both_said : (entries : List RipEntry) (services : List Service) → AllByRecursion (Writable (RealSaid net up (place j))) entries
         → AllByRecursion IsTellable services → AllByRecursion IsSaid (broadcasts ports j entries services)
-    both_said entries services written tellable =
-        all-append IsSaid (rip_broadcast ports j entries) (sap_broadcast ports j services) (rip_said entries written) (sap_said services tellable)
+    both_said entries services written tellable = grind (arith, all-append, rip_said, sap_said)
 
     request_said : AllByRecursion IsSaid (routes_request ports j)
     request_said = ((request_own net up (place j) laws (is_port j there), on), tt)
@@ -208,13 +205,7 @@ module _ (net : Internet) (laws : Layouts) (is : IsInternet net) (up : ℕ → L
         | Request ↦ rip_sends ports number (reply_to (port_at ports number) source) Response (asked entries (told ports before.up before.routes number))
       ])
       rip_answered source Response entries from = all_news
-      rip_answered source Request entries from =
-          let all = told ports before.up before.routes number in
-          entries_said number here (more number on) (reply_to (port_at ports number) source) (reply_is (port_at ports number) source (is_port number here) from) refl
-          (asked entries all)
-          (all-filter (Writable (RealSaid net up (place number))) _ all
-          (all_both IsEntry (RealSaid net up (place number)) all (told_fits ports (ports_at net is router) before.up before.routes number ups fit)
-          (told_real before.up more before.routes real number)))
+      rip_answered source Request entries from = search (rules, entries_said, here, reply_is, is_port, all-filter, Writable, RealSaid, all_both, told_fits, ports_at, ups, fit, told_real)
 
       pub heard_says : (from : Place) (m : Heard) → IsPlaced (source_of m) → FineHeard net up from m → AllByRecursion IsSaid (heard_sends ports before after number m)
       heard_says from (HeardRip source rip) placed fine = rip_answered source rip.operation rip.entries placed

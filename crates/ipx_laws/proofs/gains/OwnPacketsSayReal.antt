@@ -1,13 +1,12 @@
 -- A router's own packets, read again, say what is of real ways: its pages of routes do, and what asks or is about services says nothing of routes.
 use Rattle.std.proofs.Common.{◌≡◌, ◌≢◌, refl, sym, ap, ◌∙◌, subst, ◌==◌, ◌<◌, ℕ, Bool, false, List, [], ◌∷◌, Option, Some, None, Result, Ok, Err, inl, inr, arith, lit<, append-nil}
 use Rattle.std.specs.List.{AllByRecursion}
-use Rattle.std.proofs.lemmas.Bool.{cases_Bool, ne_eqb}
+use Rattle.std.proofs.lemmas.Bool.{cases_Bool}
 use Rattle.ipx_wire.specs.Packet.{Parts, IsPacket, packet_of}
 use Rattle.ipx_wire.specs.Piece.{IsBytes}
 use Rattle.ipx_wire.specs.Rip.{RipParts, IsEntry, IsRip}
 use Rattle.ipx_wire.specs.Sap.{IsSap, sap_of}
 use Rattle.ipx_wire.specs.Write.{packet_bytes, rip_packet, rip_packet_parts, rip_payload, query_packet, query_packet_parts, query_payload}
-use Rattle.ipx_wire.specs.WriteServices.{sap_packet_parts}
 use Rattle.ipx_wire.specs.declared.address.Address.{Address}
 use Rattle.ipx_wire.specs.declared.rip.Operation.{Operation}
 use Rattle.ipx_wire.specs.declared.rip.Operation.TheVariants.{Request, Response}
@@ -26,9 +25,9 @@ use Rattle.ipx_router.specs.Why.{is_propagated}
 use Rattle.ipx_router.proofs.bytes.FieldsAreBytes.{rip_are_bytes, query_are_bytes, parts_bytes}
 use Rattle.ipx_router.proofs.bytes.LawsOfLayouts.{alone}
 use Rattle.ipx_internet.specs.Internet.{Internet, Place, port_of, network_of}
-use Rattle.ipx_internet.proofs.lists.FoundInAList.{nothing, it_is}
+use Rattle.ipx_internet.proofs.lists.FoundInAList.{it_is}
 use Rattle.ipx_internet.proofs.packets.PagesReadAgain.{IsRipPage, IsSapPage, own_is, services_is, everyone_is, every_server_is}
-use Rattle.ipx_internet.proofs.packets.ResponsesAskNothing.{IsAnswering, rip_answers, sap_answers, answering}
+use Rattle.ipx_internet.proofs.packets.ResponsesAskNothing.{IsAnswering, rip_answers, answering}
 use Rattle.ipx_internet.proofs.packets.SentOnOrReply.{Layouts}
 use Rattle.ipx_internet.proofs.rounds.RepliesTellChanges.{page_heard}
 use Rattle.ipx_laws.specs.Real.{IsReal}
@@ -69,10 +68,7 @@ module _ (net : Internet) (up : ℕ → List ℕ) where
     -- a response that the process of SAP reads asks nothing
     as_services : (source : Address) (r : Result Sap SapFault) (m : Heard) → elim r [ Ok sap ↦ Some (HeardSap source sap) | Err fault ↦ None ] ≡ Some m
         → IsAnswering m → FineHeard from m
-    as_services source (Err fault) m e is = nothing e
-    as_services source (Ok (Query nearest kind)) m e is =
-        it_is (λ (x : Heard). IsAnswering x → FineHeard from x) m (HeardSap source (Query nearest kind)) e (λ never. absurd never) is
-    as_services source (Ok (SapResponse nearest entries)) m e is = it_is (FineHeard from) m (HeardSap source (SapResponse nearest entries)) e tt
+    as_services source r m e is = grind arith
 
     pub rip_page_own : (to : Address) (bytes : List ℕ) → to.network ≡ port.network → IsRipPage (RealSaid from) (own_address port) to bytes → IsOwn from bytes
     rip_page_own to bytes home page = record {
@@ -93,16 +89,7 @@ module _ (net : Internet) (up : ℕ → List ℕ) where
 
     pub sap_page_own : (to : Address) (nearest : Bool) (bytes : List ℕ) → to.network ≡ port.network → to.socket.0 ≢ rip_socket
         → IsSapPage AnyService (own_services port) to nearest bytes → IsOwn from bytes
-    sap_page_own to nearest bytes home apart page = record {
-      packet = sap_packet_parts (own_services port) to nearest page.page;
-      read = page.read;
-      plain = refl;
-      home = home;
-      fine = λ m e.
-          let other : (to.socket.0 == rip_socket) ≡ false = ne_eqb to.socket.0 rip_socket apart in
-          as_services (own_services port) (sap_of (sap_packet_parts (own_services port) to nearest page.page).payload) m (rw other at e)
-          (answering (sap_packet_parts (own_services port) to nearest page.page) (sap_answers nearest page.page) m e);
-    }
+    sap_page_own to nearest bytes home apart page = grind arith
 
     module _ (laws : Layouts) (is_port : IsPort port) where
       pub request_own : IsOwn from (rip_packet (own_address port) (everyone port) Request (every_route ∷ []))

@@ -1,7 +1,7 @@
 -- While nothing happens but gains and deliveries each route stays of a real way, over the ports that are up in the end.
 use Rattle.std.proofs.Common.{◌≡◌, refl, sym, ap, ◌∙◌, subst, ◌⊎◌, ℕ, ◌+◌, ◌*◌, ◌<◌, ◌≤◌, ◌&&◌, not, if◌then◌else◌, Bool, true, false, List, [], ◌∷◌, ◌++◌, length, map, flat_map, Option, Some, None, inl, inr, arith, append-nil, get_or-set_same, get_or-set_other}
 use Rattle.std.specs.List.{AllByRecursion}
-use Rattle.std.proofs.lemmas.Bool.{cases_Bool, cases_eq, cases_lt, and_parts, both_ways}
+use Rattle.std.proofs.lemmas.Bool.{cases_eq, cases_lt, and_parts, both_ways}
 use Rattle.std.proofs.lemmas.List.{get_or_past}
 use Rattle.ipx_table.specs.Facts.{Fact}
 use Rattle.ipx_table.specs.declared.held.Held.{Held}
@@ -15,14 +15,13 @@ use Rattle.ipx_wire.specs.declared.rip.Operation.{Operation}
 use Rattle.ipx_wire.specs.declared.rip.Operation.TheVariants.{Request, Response}
 use Rattle.ipx_wire.specs.declared.rip.RipEntry.{RipEntry}
 use Rattle.ipx_table.specs.Alive.{lifetime}
-use Rattle.ipx_router.specs.Facts.{route_offer, route_facts, route_facts_of, routes_offered, routes_heard, heard_after, routes_held, offers}
+use Rattle.ipx_router.specs.Facts.{route_facts, route_facts_of, routes_offered, routes_heard, heard_after, routes_held, offers}
 use Rattle.ipx_router.specs.Heard.{Heard, HeardRip, HeardSap, heard_in, heard_near}
 use Rattle.ipx_router.specs.History.{Event, History, Start, Stop, Second, Packet, PortDown, PortUp, IsOnPort, IsOfBytes, is_stop, takes_down, running, ports_up}
-use Rattle.ipx_router.specs.Port.{Port, port_at, is_up, takes_no_route}
+use Rattle.ipx_router.specs.Port.{Port, port_at, is_up}
 use Rattle.ipx_router.specs.Relays.{Sent}
 use Rattle.ipx_router.specs.Routes.{route_rules, route_reading, network_order}
 use Rattle.ipx_router.specs.Sends.{Holding, holding, introduction, port_up_on}
-use Rattle.ipx_router.specs.Why.{is_near}
 use Rattle.ipx_router.specs.declared.route_offer.RouteOffer.{RouteOffer}
 use Rattle.ipx_router.proofs.bounds.PacketsOfEachEvent.{network_total}
 use Rattle.ipx_router.proofs.bytes.ReadInOneWay.{one_read}
@@ -39,7 +38,6 @@ use Rattle.ipx_internet.specs.Run.{Step, Happens, Settles, AreHistories, Run, be
 use Rattle.ipx_internet.proofs.deliveries.QueueOfARun.{events, deliveries}
 use Rattle.ipx_internet.proofs.deliveries.WaitsAfterDelivery.{there}
 use Rattle.ipx_internet.proofs.lists.EachElement.{all_then, all-append, all-flat_map}
-use Rattle.ipx_internet.proofs.lists.FoundInAList.{nothing}
 use Rattle.ipx_internet.proofs.packets.SentOnOrReply.{Layouts, IsOnward, not_onward, unsaid, said as said_for}
 use Rattle.ipx_internet.proofs.places.OneReceiverOfANode.{ports_at, receives_is}
 use Rattle.ipx_internet.proofs.records.KeptOrOffered.{OffersOf}
@@ -315,10 +313,7 @@ module _ (net : Internet) (laws : Layouts) (is : IsInternet net) (most_routes mo
     here = there net laws is most_routes most_services histories gaining.are d first.delivery
 
     near_in : (p : Parts) (m : Heard) → heard_near (port_at ports_x d.to.port) p ≡ Some m → heard_in p ≡ Some m
-    near_in p m e = elim (cases_Bool (is_near (port_at ports_x d.to.port) p.header)) [
-      | inl local ↦ rw local at e
-      | inr far ↦ nothing (rw far at e)
-    ]
+    near_in p m e = grind arith
 
     -- what is heard is fine
     fine : (m : Heard) → heard_after ports_x history d.to.port d.bytes ≡ Some m → FineHeard net up first.from m
@@ -337,14 +332,7 @@ module _ (net : Internet) (laws : Layouts) (is : IsInternet net) (most_routes mo
     entries_old : is_up (up x) d.to.port ≡ true → (node : Node) → node ≡ (port_of net first.from).node → (es : List RipEntry)
         → AllByRecursion (RealSaid net up first.from) es → AllByRecursion (OffersOf OldOffer) (routes_offered ports_x d.to.port node es)
     entries_old on node same [] all = tt
-    entries_old on node same (e ∷ es) all = elim (cases_Bool (takes_no_route ports_x e.network)) [
-      | inl none ↦ rw none (entries_old on node same es all.1)
-      | inr taken ↦ rw taken (
-        (λ near. inl (subst (λ (n : Node). IsReal net up x (route_offer d.to.port n e)) (sym same)
-            (all.0 near d.to first.reaches (record { up_here = on; wanted = taken })))),
-        entries_old on node same es all.1,
-      )
-    ]
+    entries_old on node same (e ∷ es) all = grind (arith, entries_old on node same es all.1)
 
     rip_old : is_up (up x) d.to.port ≡ true → (source : Address) (operation : Operation) (es : List RipEntry)
         → FineRip net up first.from source operation es

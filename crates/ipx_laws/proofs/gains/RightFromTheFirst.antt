@@ -1,6 +1,6 @@
 -- Where all tables are right and real, and more ports are up in the end: each router has the route of its least way in the end, or, by a neighbour from
 -- which such a way comes, one of their two ports isn't up yet, or the neighbour isn't right for now.
-use Rattle.std.proofs.Common.{◌≡◌, refl, sym, ap, ◌∙◌, subst, ◌⊎◌, ℕ, ◌<◌, ◌==◌, true, false, List, length, Option, None, Some, option_map, inl, inr, arith, is_eq, true≢false}
+use Rattle.std.proofs.Common.{◌≡◌, refl, sym, ap, ◌∙◌, subst, ◌⊎◌, ℕ, ◌<◌, ◌==◌, true, false, List, length, Option, Some, option_map, inl, inr, arith, is_eq, true≢false}
 use Rattle.std.proofs.lemmas.Bool.{cases_Bool}
 use Rattle.ipx_table.specs.declared.held.Held.{Held}
 use Rattle.ipx_router.specs.Facts.{route_facts, routes_held, offers}
@@ -11,7 +11,6 @@ use Rattle.ipx_router.specs.declared.route_offer.RouteOffer.{RouteOffer}
 use Rattle.ipx_internet.specs.Internet.{Place, ports_of}
 use Rattle.ipx_internet.specs.Queue.{history_of}
 use Rattle.ipx_internet.proofs.lists.EachElement.{all_then}
-use Rattle.ipx_internet.proofs.lists.FoundInAList.{nothing, it_is}
 use Rattle.ipx_laws.specs.Gone.{most_ticks_gone}
 use Rattle.ipx_laws.specs.Least.{Way, is_on, is_up_on, least_route, way_of}
 use Rattle.ipx_laws.specs.Real.{IsReal}
@@ -31,8 +30,7 @@ use Rattle.ipx_laws.proofs.tables.SaysWhatItKnows.{wants, found_so}
 
 -- a record of that way, where its offer is found
 held_with : (v : Way) (o : Option (Held RouteOffer)) → option_map way_of (option_map (λ h. h.offer) o) ≡ Some v → (h : Held RouteOffer) × (o ≡ Some h) × (way_of h.offer ≡ v)
-held_with v None e = nothing e
-held_with v (Some h) e = (h, refl, it_is (λ (z : Way). way_of h.offer ≡ z) v (way_of h.offer) e refl)
+held_with v o e = grind arith
 
 module _ (given : Given) (histories : List History)
     (more_up : (router j : ℕ) → is_up (ups given.net histories router) j ≡ true → is_up (given.up router) j ≡ true)

@@ -15,10 +15,7 @@ module _ {X : Type 0} (number : X → ℕ) where
 
   none_below : (n : ℕ) (xs : List X) → AllByRecursion (λ k. n < k) (map number xs) → finds n xs ≡ None
   none_below n [] all = refl
-  none_below n (x ∷ xs) all =
-      let less = all.0 in
-      let off = ne_eqb (number x) n (λ e. omega (arith, e, less)) in
-      rw off (none_below n xs all.1)
+  none_below n (x ∷ xs) all = grind (arith, none_below n xs all.1)
 
   first : (n : ℕ) (x : X) (xs : List X) → number x ≡ n → finds n (x ∷ xs) ≡ Some x
   first n x xs same = let e = eq-eqb (number x) n same in rw e refl

@@ -40,13 +40,8 @@ module _ {X : Type 0} where
   -- a filter keeps what passes
   pub any-filter : (P : X → Type 0) (test : X → Bool) → ((x : X) → P x → test x ≡ true) → (xs : List X) → AnyIs P xs → AnyIs P (filter test xs)
   any-filter P test passes [] any = absurd any
-  any-filter P test passes (x ∷ xs) (inl here) =
-      let e = passes x here in
-      rw e (inl here)
-  any-filter P test passes (x ∷ xs) (inr behind) = elim (cases_Bool (test x)) [
-    | inl e ↦ rw e (inr (any-filter P test passes xs behind))
-    | inr e ↦ rw e (any-filter P test passes xs behind)
-  ]
+  any-filter P test passes (x ∷ xs) (inl here) = grind arith
+  any-filter P test passes (x ∷ xs) (inr behind) = grind (arith, any-filter P test passes xs behind)
 
   -- one that passes a test
   pub any_passes : (test : X → Bool) (xs : List X) → list_any test xs ≡ true → AnyIs (λ x. test x ≡ true) xs
@@ -59,10 +54,7 @@ module _ {X : Type 0} where
   pub passes_any : (test : X → Bool) (xs : List X) → AnyIs (λ x. test x ≡ true) xs → list_any test xs ≡ true
   passes_any test [] any = absurd any
   passes_any test (x ∷ xs) (inl here) = rw here refl
-  passes_any test (x ∷ xs) (inr behind) = elim (cases_Bool (test x)) [
-    | inl e ↦ rw e refl
-    | inr e ↦ rw e (passes_any test xs behind)
-  ]
+  passes_any test (x ∷ xs) (inr behind) = grind (arith, passes_any test xs behind)
 
   -- ---- in order
 

@@ -122,10 +122,7 @@ module _ (net : Internet) (laws : Layouts) (last : List History) (ports : List P
   facts_now event = facts_from-more (route_facts_of ports) [] history event
 
   runs : (j : ℕ) → is_up up j ≡ true → running history ≡ true
-  runs j on = elim (cases_Bool (running history)) [
-    | inl yes_runs ↦ yes_runs
-    | inr stopped ↦ absurd (both_ways false refl (subst (λ (us : List ℕ). is_up us j ≡ true) (none_up ports history stopped) on))
-  ]
+  runs j on = grind (arith, both_ways, none_up)
 
   port_is : (j : ℕ) → is_up up j ≡ true → IsPort (port_at ports j)
   port_is j on = port-all IsPort ports j are (one_up (λ k. k < length ports) up j (ports_up-within ports history) on)
@@ -190,9 +187,7 @@ module _ (net : Internet) (laws : Layouts) (last : List History) (ports : List P
 
   stop_shrinks : (b : Bool) → Shrinks (routes ports most_routes history) (after ports most_routes (facts_at_stop b))
   stop_shrinks true = end_shrinks ports most_routes (route_facts ports history)
-  stop_shrinks false =
-      subst (λ (fs : List (Fact RouteOffer)). Shrinks (routes ports most_routes history) (after ports most_routes fs)) (sym (append-nil (route_facts ports history)))
-      as_held
+  stop_shrinks false = grind (arith, Shrinks, after, append-nil, as_held)
 
   stop_news : (b : Bool) → AllByRecursion (λ s. IsNewsSent IsDead AnyService (port_at ports s.port) s.bytes) (at_stop b)
   stop_news true =
@@ -373,10 +368,7 @@ module _ (net : Internet) (laws : Layouts) (last : List History) (ports : List P
             ]
 
     pub port_down_loses : IsLosing event
-    port_down_loses = elim (cases_Bool (is_up up number)) [
-      | inl on ↦ goes_down on
-      | inr down ↦ down_already down
-    ]
+    port_down_loses = grind (arith, goes_down, down_already)
 
   -- ---- what it hears of losses
 

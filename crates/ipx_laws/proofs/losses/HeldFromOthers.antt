@@ -1,5 +1,5 @@
 -- Nobody hears itself: each route that is held came from another node than that of the port by which it came.
-use Rattle.std.proofs.Common.{◌≡◌, ◌≢◌, refl, sym, ap, ◌∙◌, subst, ℕ, not, Bool, true, false, List, [], ◌∷◌, Option, None, Some, inl, inr, true≢false, is_some}
+use Rattle.std.proofs.Common.{◌≡◌, ◌≢◌, refl, sym, ap, ◌∙◌, subst, ℕ, not, Bool, true, false, List, [], ◌∷◌, Option, None, Some, inl, inr, true≢false, is_some, arith}
 use Rattle.std.specs.List.{AllByRecursion}
 use Rattle.std.proofs.lemmas.Bool.{cases_Bool, both_ways}
 use Rattle.ipx_wire.specs.declared.address.Address.{Address}
@@ -10,7 +10,7 @@ use Rattle.ipx_wire.specs.declared.rip.RipEntry.{RipEntry}
 use Rattle.ipx_router.specs.Facts.{heard_after, routes_offered, routes_heard, routes_held, offers}
 use Rattle.ipx_router.specs.Heard.{Heard, HeardRip, HeardSap, heard}
 use Rattle.ipx_router.specs.History.{History, running, ports_up}
-use Rattle.ipx_router.specs.Port.{Port, port_at, same_node, is_local, takes_no_route}
+use Rattle.ipx_router.specs.Port.{Port, port_at, same_node, is_local}
 use Rattle.ipx_router.specs.Why.{first_of, when, is_near, is_not_neighbour}
 use Rattle.ipx_router.specs.declared.route_offer.RouteOffer.{RouteOffer}
 use Rattle.ipx_router.specs.declared.why.Why.{Why}
@@ -28,8 +28,7 @@ no_check (Some reason ∷ list) e = absurd (true≢false (ap is_some e))
 no_check (None ∷ list) e = (refl, no_check list e)
 
 unmet : (c : Bool) (reason : Why) → when c reason ≡ None → c ≡ false
-unmet true reason e = absurd (true≢false (ap is_some e))
-unmet false reason e = refl
+unmet c reason e = grind arith
 
 -- ---- what is heard
 
@@ -79,15 +78,11 @@ module _ (ports : List Port) where
     all_offered : (node : Node) (entries : List RipEntry) → node ≢ (port_at ports number).node
         → AllByRecursion (OfferIs IsFromOther) (routes_offered ports number node entries)
     all_offered node [] other = tt
-    all_offered node (entry ∷ entries) other = elim (cases_Bool (takes_no_route ports entry.network)) [
-      | inl e ↦ rw e (all_offered node entries other)
-      | inr e ↦ rw e (other, all_offered node entries other)
-    ]
+    all_offered node (entry ∷ entries) other = grind (arith, all_offered node entries other)
 
     by_operation : (operation : Operation) (node : Node) (entries : List RipEntry) → node ≢ (port_at ports number).node
         → AllByRecursion (OfferIs IsFromOther) (elim operation [ Response ↦ routes_offered ports number node entries | Request ↦ [] ])
-    by_operation Response node entries other = all_offered node entries other
-    by_operation Request node entries other = tt
+    by_operation operation node entries other = grind (arith, all_offered)
 
     all_heard : (o : Option Heard) → ((m : Heard) → o ≡ Some m → (source_of m).node ≢ (port_at ports number).node)
         → AllByRecursion (OfferIs IsFromOther) (routes_heard ports number o)

@@ -1,13 +1,12 @@
 -- What a router says of a table that shrinks: that nothing is reached; and it says so of each route that was there, on all ports but the route's own.
-use Rattle.std.proofs.Common.{◌≡◌, ◌≢◌, refl, sym, ap, ◌∙◌, subst, ◌⊎◌, ◌==◌, ℕ, Bool, true, false, not, List, [], ◌∷◌, map, filter, Option, None, Some, inl, inr, arith, is_eq, is_lt}
+use Rattle.std.proofs.Common.{◌≡◌, ◌≢◌, refl, sym, ap, ◌∙◌, subst, ◌⊎◌, ◌==◌, ℕ, Bool, true, false, List, [], ◌∷◌, map, filter, Option, None, Some, inl, inr, arith, is_eq, is_lt}
 use Rattle.std.specs.List.{AllByRecursion, list_any}
 use Rattle.std.proofs.lemmas.Bool.{cases_Bool, both_ways, ne_eqb}
 use Rattle.ipx_wire.specs.declared.network.Network.{Network}
-use Rattle.ipx_router.specs.Changes.{Change, change_at, differs, put_key, put_keys, same_or_none}
+use Rattle.ipx_router.specs.Changes.{Change, change_at, differs, put_key, put_keys}
 use Rattle.ipx_router.specs.News.{route_told, news, same_route}
 use Rattle.ipx_router.specs.Port.{Port}
 use Rattle.ipx_router.specs.Routes.{network_order}
-use Rattle.ipx_router.specs.Told.{dead, entry_of}
 use Rattle.ipx_router.specs.declared.route_offer.RouteOffer.{RouteOffer}
 use Rattle.ipx_router.proofs.bounds.PacketsOfEachEvent.{network_total}
 use Rattle.ipx_router.proofs.changes.KeysThatDiffer.{alike}
@@ -44,10 +43,7 @@ itself_put n keys = elim (cases_Bool (list_any (λ k. is_eq (network_order n k))
 ]
 
 others_stay : (n m : Network) (keys : List Network) → AnyIs (λ k. k ≡ n) keys → AnyIs (λ k. k ≡ n) (put_network m keys)
-others_stay n m keys any = elim (cases_Bool (list_any (λ k. is_eq (network_order m k)) keys)) [
-  | inl known ↦ rw known any
-  | inr new ↦ rw new (any-put (λ k. k ≡ n) (λ a b. is_lt (network_order a b)) m keys (inr any))
-]
+others_stay n m keys any = grind (arith, is_eq, any-put, is_lt)
 
 all_put : (routes : List RouteOffer) (keys : List Network) (n : Network) (r : RouteOffer) → route_at n routes ≡ Some r
     → AnyIs (λ k. k ≡ n) (put_networks routes keys)
@@ -76,14 +72,7 @@ module _ (ports : List Port) (before after : List RouteOffer) (j : ℕ) where
 
   dead_told : (old new : Option RouteOffer) → (new ≡ old) ⊎ (new ≡ None) → changed (record { before = old; after = new }) ≡ true
       → AllByRecursion IsDead (route_told ports j (record { before = old; after = new }))
-  dead_told None None stays e = tt
-  dead_told (Some r) None stays e = unless IsDead (r.port == j) (dead (entry_of r)) (λ other. omega arith)
-  dead_told old (Some r) (inr none) e = nothing (sym none)
-  dead_told old (Some r) (inl same) e =
-      let alike_now : same_or_none key_of network_order same_route old (Some r) ≡ true =
-      subst (λ (o : Option RouteOffer). same_or_none key_of network_order same_route o (Some r) ≡ true) same
-      (alike key_of network_order same_route network_total route-same (Some r)) in
-      absurd (both_ways (changed (record { before = old; after = Some r })) (ap not alike_now) e)
+  dead_told old new stays e = grind (arith, unless, IsDead, nothing, alike, network_total, route-same, both_ways)
 
   -- all of it is dead
   pub news_dead : Shrinks before after → AllByRecursion IsDead (news ports before after j)

@@ -1,13 +1,13 @@
 -- While nothing happens but losses and deliveries: each route that is held came of what its neighbour advertises still, or the neighbour's
 -- word that it isn't reached waits, or the network between them is lost.
-use Rattle.std.proofs.Common.{◌≡◌, ◌≢◌, refl, sym, ap, ◌∙◌, subst, ◌⊎◌, ℕ, ◌<◌, Bool, true, false, List, [], ◌∷◌, ◌++◌, length, map, flat_map, Some, None, inl, inr, arith, is_eq, get_or-set_same, get_or-set_other}
+use Rattle.std.proofs.Common.{◌≡◌, ◌≢◌, refl, sym, ap, ◌∙◌, subst, ◌⊎◌, ℕ, ◌<◌, true, false, List, [], ◌∷◌, ◌++◌, length, map, flat_map, Some, None, inl, inr, arith, is_eq, get_or-set_same, get_or-set_other, rules}
 use Rattle.std.specs.List.{AllByRecursion}
 use Rattle.std.proofs.lemmas.Bool.{cases_Bool, cases_eq, both_ways}
 use Rattle.ipx_table.specs.Facts.{Fact}
 use Rattle.ipx_wire.specs.Piece.{IsBytes}
 use Rattle.ipx_wire.specs.declared.rip.Operation.TheVariants.{Response}
 use Rattle.ipx_router.specs.Facts.{route_facts, route_facts_of, routes_offered, routes_heard, heard_after}
-use Rattle.ipx_router.specs.Heard.{Heard, HeardRip, heard}
+use Rattle.ipx_router.specs.Heard.{Heard, HeardRip}
 use Rattle.ipx_router.specs.History.{Event, History, Start, Stop, Second, Packet, PortDown, PortUp, IsOnPort, IsOfBytes, running, ports_up}
 use Rattle.ipx_router.specs.Port.{Port, port_at, is_up, own_address, everyone, takes_no_route}
 use Rattle.ipx_router.specs.Relays.{Sent}
@@ -27,11 +27,11 @@ use Rattle.ipx_internet.proofs.lists.EachElement.{all-append}
 use Rattle.ipx_internet.proofs.lists.FoundInAList.{nothing}
 use Rattle.ipx_internet.proofs.packets.PagesReadAgain.{IsRipPage}
 use Rattle.ipx_internet.proofs.packets.ResponsesAskNothing.{answering}
-use Rattle.ipx_internet.proofs.packets.SentOnOrReply.{Layouts, IsNewsSent, news_reply}
+use Rattle.ipx_internet.proofs.packets.SentOnOrReply.{Layouts, IsNewsSent}
 use Rattle.ipx_internet.proofs.places.OneReceiverOfANode.{ports_at, port_is, receives_is}
 use Rattle.ipx_internet.proofs.rounds.OneRound.{each_delivery}
 use Rattle.ipx_internet.proofs.rounds.RepliesTellChanges.{heard_says, heard_from, news_told, tells_says}
-use Rattle.ipx_internet.proofs.rounds.SentOnRunsOut.{Calm, reply_moves}
+use Rattle.ipx_internet.proofs.rounds.SentOnRunsOut.{Calm}
 use Rattle.ipx_internet.proofs.trees.RunIsALog.{histories_more}
 use Rattle.ipx_laws.specs.Gone.{IsGone}
 use Rattle.ipx_laws.specs.Losses.{IsLoss, IsOfLosses}
@@ -191,11 +191,7 @@ module _ (net : Internet) (laws : Layouts) (is : IsInternet net) (most_routes mo
                   (subst (λ (k : ℕ). Says (ports_of net k) most_routes (history_of histories k) from.port r) same said_before))
 
       pub event_loses : Losing next
-      event_loses = record {
-        are = histories_more net histories y event losing.are inside on of_bytes;
-        waiting = waiting_now;
-        stems = stem_now;
-      }
+      event_loses = search (rules, histories_more, waiting_now, stem_now)
 
   -- ---- a delivery
 
@@ -219,10 +215,7 @@ module _ (net : Internet) (laws : Layouts) (is : IsInternet net) (most_routes mo
     ]
 
     heard_it : heard_after ports history number bytes ≡ Some told_rip
-    heard_it =
-        subst (λ (b : Bool). heard ports (ports_up ports history) b number bytes ≡ Some told_rip) (sym runs)
-        (heard_page ports (ports_up ports history) number on (port_of net from) (sym one_network)
-        apart (port_is net is from place).node IsDead bytes page)
+    heard_it = search (rules, runs, heard_page, port_is, IsDead)
 
     source_ended : route_at r.network (after ports most_routes (route_facts ports (history ++ Packet number bytes ∷ []))) ≡ Some r → ⊥
     source_ended held =
@@ -246,11 +239,7 @@ module _ (net : Internet) (laws : Layouts) (is : IsInternet net) (most_routes mo
     first = losing.waiting.0
 
     calm : Calm net laws is most_routes most_services d
-    calm = (
-      first.delivery,
-      reply_moves (port_of net first.from) (port_of net d.to) d.bytes first.network
-          (news_reply IsDead AnyService (port_of net first.from) d.bytes first.news),
-    )
+    calm = grind arith
 
     inside : d.to.router < length net
     inside = there net laws is most_routes most_services histories losing.are d first.delivery

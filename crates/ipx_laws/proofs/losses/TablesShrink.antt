@@ -1,8 +1,7 @@
 -- A table that shrinks: each network has the route that it had before, or none. So it is where nothing comes but dead offers, where a port
 -- ends, and where all ends; and a dead offer ends the route that came from its source.
-use Rattle.std.proofs.Common.{◌≡◌, refl, sym, ap, ◌∙◌, subst, ◌⊎◌, ℕ, suc, ◌≤◌, ◌==◌, nat_eq, Bool, true, false, not, List, [], ◌∷◌, ◌++◌, length, map, filter, find, Option, None, Some, option_map, inl, inr, arith, append_assoc, is_eq}
+use Rattle.std.proofs.Common.{◌≡◌, refl, sym, ap, ◌∙◌, subst, ◌⊎◌, ℕ, suc, ◌≤◌, Bool, true, false, List, [], ◌∷◌, ◌++◌, length, map, filter, find, Option, None, Some, option_map, inl, inr, arith, append_assoc, is_eq}
 use Rattle.std.specs.List.{AllByRecursion}
-use Rattle.std.specs.Cmp.Lexicographic.{pointwise}
 use Rattle.std.proofs.lemmas.Bool.{cases_Bool, and_from, both_ways, eq-eqb, le-leb}
 use Rattle.ipx_table.specs.Accepted.{marked}
 use Rattle.ipx_table.specs.Alive.{alive}
@@ -170,33 +169,19 @@ module _ (ports : List Port) (most_routes : ℕ) where
 
   fewer_shrink : (facts later : List (Fact RouteOffer)) (q : Held RouteOffer → Bool) → records later ≡ filter q (records facts)
       → Shrinks (after facts) (after later)
-  fewer_shrink facts later q e = record {
-    each = λ network.
-        let p : Held RouteOffer → Bool = λ h. is_eq (network_order h.offer.network network) in
-        let now : route_at network (after later) ≡ option_map (λ h. h.offer) (find p (filter q (records facts))) =
-        among network later ∙ ap (λ hs. option_map (λ h. h.offer) (find p hs)) e in
-        elim (found_or_none p q (records facts) (few_of network facts)) [
-          | inl same ↦ inl (now ∙ ap (option_map (λ h. h.offer)) same ∙ sym (among network facts))
-          | inr none ↦ inr (now ∙ ap (option_map (λ h. h.offer)) none)
-        ];
-  }
+  fewer_shrink facts later q e = grind (arith, is_eq, option_map, among, found_or_none, few_of)
 
   pub port_end_shrinks : (facts : List (Fact RouteOffer)) (port : ℕ) → Shrinks (after facts) (after (facts ++ PortEnd port ∷ []))
-  port_end_shrinks facts port =
-      fewer_shrink facts (facts ++ PortEnd port ∷ []) (λ h. not (rules.port h.offer == port)) (alive_after-port rules facts port)
+  port_end_shrinks facts port = grind (arith, fewer_shrink, alive_after-port)
 
   pub end_shrinks : (facts : List (Fact RouteOffer)) → Shrinks (after facts) (after (facts ++ End ∷ []))
-  end_shrinks facts = record {
-    each = λ network. inr (among network (facts ++ End ∷ []) ∙ ap (λ hs. option_map (λ h. h.offer) (known network hs)) (alive_after-end rules facts));
-  }
+  end_shrinks facts = grind (arith, among, option_map, alive_after-end)
 
   -- ---- a dead offer of the source
 
   module _ (facts : List (Fact RouteOffer)) (o r : RouteOffer) (down : IsDown o) (network : o.network ≡ r.network) (port : r.port ≡ o.port) (node : r.node ≡ o.node) where
     same_source : one_source (r.port, r.node) (o.port, o.node) ≡ true
-    same_source =
-        and_from (r.port == o.port) _ (eq-eqb r.port o.port port)
-        (subst (λ (n : Node). pointwise nat_eq r.node.0 n.0 ≡ true) node (bytes_same r.node.0))
+    same_source = grind (arith, and_from, eq-eqb, bytes_same)
 
     one_ends : route_at r.network (after (facts ++ Offered o ∷ [])) ≡ Some r → ⊥
     one_ends e = by (known_of rules (records facts) o) refl
@@ -236,10 +221,7 @@ module _ (ports : List Port) (most_routes : ℕ) where
 
     all_down : (es : List RipEntry) → AllByRecursion IsDead es → AllByRecursion (OffersOf IsDown) (routes_offered ports number node es)
     all_down [] all = tt
-    all_down (e ∷ es) all = elim (cases_Bool (takes_no_route ports e.network)) [
-      | inl none ↦ rw none (all_down es all.1)
-      | inr taken ↦ rw taken (le-leb unreachable e.hops all.0, all_down es all.1)
-    ]
+    all_down (e ∷ es) all = grind (arith, all_down es all.1)
 
     pub dead_entries_shrink : (es : List RipEntry) (facts : List (Fact RouteOffer)) → AllByRecursion IsDead es
         → Shrinks (after facts) (after (facts ++ routes_offered ports number node es))

@@ -1,12 +1,11 @@
 -- What is said on a port to all waits for each port of another router on its network.
-use Rattle.std.proofs.Common.{◌≡◌, ◌≢◌, refl, sym, ap, subst, ◌==◌, ◌||◌, ℕ, true, false, List, flat_map}
+use Rattle.std.proofs.Common.{◌≡◌, ◌≢◌, sym, ap, subst, ℕ, true, List, flat_map, arith, rules}
 use Rattle.std.specs.List.{AllByRecursion}
-use Rattle.std.proofs.lemmas.Bool.{ne_eqb, eq-eqb, or_right}
 use Rattle.ipx_wire.specs.declared.network.Network.{Network}
 use Rattle.ipx_wire.specs.declared.node.Node.{Node}
 use Rattle.ipx_wire.specs.declared.rip.RipEntry.{RipEntry}
 use Rattle.ipx_wire.specs.declared.service.Service.{Service}
-use Rattle.ipx_router.specs.Port.{Port, IsPort, broadcast, port_at, is_up, same_node, own_address, everyone}
+use Rattle.ipx_router.specs.Port.{Port, IsPort, broadcast, port_at, is_up, own_address, everyone}
 use Rattle.ipx_router.specs.Relays.{Sent}
 use Rattle.ipx_router.specs.Sends.{broadcasts, rip_broadcast, sap_broadcast}
 use Rattle.ipx_router.proofs.bytes.LawsOfLayouts.{Readings, Rereadings}
@@ -48,13 +47,7 @@ module _ (net : Internet) (network : Network) (P : RipEntry → Type 0) where
 
   module _ (from to : Place) (other : to.router ≢ from.router) (there : IsPlace net to) (one_network : network_of net to ≡ network_of net from) where
     received : (link : Node) → link ≡ broadcast → receives net from link to ≡ true
-    received link all =
-        let off : (to.router == from.router) ≡ false = ne_eqb to.router from.router other in
-        let nets : ((network_of net to).0 == (network_of net from).0) ≡ true =
-        eq-eqb (network_of net to).0 (network_of net from).0 (ap (λ (n : Network). n.0) one_network) in
-        let every : (same_node (port_of net to).node link || same_node link broadcast) ≡ true =
-        or_right (same_node (port_of net to).node link) (same_node link broadcast) (subst (λ (l : Node). same_node l broadcast ≡ true) (sym all) refl) in
-        rw (off, nets, every) refl
+    received link all = grind arith
 
     one_waits : (s : Sent) → TellsOf (ports_of net from.router) network P from.port s → AnyIs (IsWordFor from to) (deliveries_of net from.router s)
     one_waits s tells =
@@ -69,5 +62,4 @@ module _ (net : Internet) (network : Network) (P : RipEntry → Type 0) where
 
     pub word_waits : (sent : List Sent) → AnyIs (TellsOf (ports_of net from.router) network P from.port) sent
         → AnyIs (IsWordFor from to) (flat_map (deliveries_of net from.router) sent)
-    word_waits sent any =
-        any-flat_map (TellsOf (ports_of net from.router) network P from.port) (IsWordFor from to) (deliveries_of net from.router) one_waits sent any
+    word_waits sent any = search (rules, any-flat_map, one_waits)

@@ -1,12 +1,11 @@
 -- A router hears what another one broadcasts on a common network: a page of entries, or of services.
-use Rattle.std.proofs.Common.{◌≡◌, ◌≢◌, refl, ap, ◌∙◌, ℕ, ◌==◌, ◌||◌, true, false, List, [], ◌∷◌, ◌++◌, map, Option, Some, None, Result, Ok, Err, inl, inr}
-use Rattle.std.proofs.lemmas.Bool.{cases_Bool, or_right, eq-eqb}
+use Rattle.std.proofs.Common.{◌≡◌, ◌≢◌, refl, ap, ◌∙◌, ℕ, ◌||◌, true, false, List, [], ◌∷◌, ◌++◌, map, Option, Some, None, Result, Ok, Err, arith, rules}
+use Rattle.std.proofs.lemmas.Bool.{or_right}
 use Rattle.ipx_wire.specs.Packet.{Parts}
 use Rattle.ipx_wire.specs.Rip.{rip_of}
 use Rattle.ipx_wire.specs.Sap.{sap_of}
 use Rattle.ipx_wire.specs.Write.{rip_packet_parts, rip_payload}
 use Rattle.ipx_wire.specs.WriteServices.{entry_of, sap_packet_parts, sap_payload}
-use Rattle.ipx_wire.specs.declared.network.Network.{Network}
 use Rattle.ipx_wire.specs.declared.node.Node.{Node}
 use Rattle.ipx_wire.specs.declared.rip.Operation.TheVariants.{Response}
 use Rattle.ipx_wire.specs.declared.rip.RipEntry.{RipEntry}
@@ -24,37 +23,24 @@ use Rattle.ipx_laws.proofs.records.SameSource.{same_bytes}
 
 -- nodes that differ aren't the same
 pub nodes_apart : (a b : Node) → a ≢ b → same_node a b ≡ false
-nodes_apart a b apart = elim (cases_Bool (same_node a b)) [
-  | inr no_same ↦ no_same
-  | inl same ↦
-      let node : List ℕ → Node = λ bytes. record { 0 = bytes } in
-      absurd (apart (ap node (same_bytes a.0 b.0 same)))
-]
+nodes_apart a b apart = search (rules, same_bytes)
 
 module _ (ports : List Port) (up : List ℕ) (number : ℕ) (on : is_up up number ≡ true) (from : Port)
     (network : from.network ≡ (port_at ports number).network) (other : from.node ≢ (port_at ports number).node) (one : from.node ≢ broadcast) where
   here : is_local (port_at ports number) from.network ≡ true
-  here = or_right (from.network.0 == 0) (from.network.0 == (port_at ports number).network.0)
-      (eq-eqb from.network.0 (port_at ports number).network.0 (ap (λ (n : Network). n.0) network))
+  here = grind arith
 
   for_all : (same_node broadcast (port_at ports number).node || true) ≡ true
   for_all = or_right (same_node broadcast (port_at ports number).node) true refl
 
   near_passes : (page : List RipEntry) → rip_of (rip_payload Response page) ≡ Ok (record { operation = Response; entries = page })
       → first_of (all_checks ports up [] (port_at ports number) number (rip_packet_parts (own_address from) (everyone from) Response page)) ≡ None
-  near_passes page says =
-      let local = here in
-      let all = for_all in
-      let echo = nodes_apart from.node (port_at ports number).node other in
-      let bad = nodes_apart from.node broadcast one in
-      rw (local, echo, bad, all, says, on) refl
+  near_passes page says = search (rules, here, for_all, nodes_apart)
 
   near_heard : (page : List RipEntry) → rip_of (rip_payload Response page) ≡ Ok (record { operation = Response; entries = page })
       → heard_near (port_at ports number) (rip_packet_parts (own_address from) (everyone from) Response page)
       ≡ Some (HeardRip (own_address from) (record { operation = Response; entries = page }))
-  near_heard page says =
-      let local = here in
-      rw (local, says) refl
+  near_heard page says = grind arith
 
   judged_by : Option Why → Parts → Option Heard
   judged_by o p = elim o [ Some reason ↦ None | None ↦ heard_near (port_at ports number) p ]
@@ -79,19 +65,12 @@ module _ (ports : List Port) (up : List ℕ) (number : ℕ) (on : is_up up numbe
 
   services_pass : (page : List Service) → sap_of (sap_payload false page) ≡ Ok (SapResponse false (map entry_of page))
       → first_of (all_checks ports up [] (port_at ports number) number (sap_packet_parts (own_services from) (every_server from) false page)) ≡ None
-  services_pass page says =
-      let local = here in
-      let all = for_all in
-      let echo = nodes_apart from.node (port_at ports number).node other in
-      let bad = nodes_apart from.node broadcast one in
-      rw (local, echo, bad, all, says, on) refl
+  services_pass page says = search (rules, here, for_all, nodes_apart)
 
   services_near : (page : List Service) → sap_of (sap_payload false page) ≡ Ok (SapResponse false (map entry_of page))
       → heard_near (port_at ports number) (sap_packet_parts (own_services from) (every_server from) false page)
       ≡ Some (HeardSap (own_services from) (SapResponse false (map entry_of page)))
-  services_near page says =
-      let local = here in
-      rw (local, says) refl
+  services_near page says = grind arith
 
   -- a page of services
   pub heard_services : (Q : Service → Type 0) (bytes : List ℕ) → (is : IsSapPage Q (own_services from) (every_server from) false bytes)

@@ -1,14 +1,13 @@
 -- What waits for a port while hosts speak: pages of routes that the router that sends them made itself, or bytes that tell of no route. A
 -- router sends nothing else, neither at a second nor for such a packet.
-use Rattle.std.proofs.Common.{◌≡◌, ◌≢◌, refl, sym, ap, subst, ◌⊎◌, ℕ, ◌<◌, ◌==◌, Bool, true, false, List, [], ◌∷◌, ◌++◌, length, map, flat_map, Option, Some, None, Result, Ok, Err, inl, inr, arith, if◌then◌else◌, true≢false}
+use Rattle.std.proofs.Common.{◌≡◌, ◌≢◌, refl, sym, ap, subst, ◌⊎◌, ℕ, ◌<◌, ◌==◌, Bool, true, false, List, [], ◌∷◌, ◌++◌, length, flat_map, Option, Some, None, Result, Ok, Err, inl, inr, arith, if◌then◌else◌}
 use Rattle.std.specs.List.{AllByRecursion}
-use Rattle.std.proofs.lemmas.Bool.{cases_Bool, ne_eqb}
+use Rattle.std.proofs.lemmas.Bool.{cases_Bool}
 use Rattle.ipx_wire.specs.Packet.{Parts, packet_of}
 use Rattle.ipx_wire.specs.Piece.{IsBytes}
 use Rattle.ipx_wire.specs.Rip.{IsEntry}
 use Rattle.ipx_wire.specs.Sap.{sap_of}
 use Rattle.ipx_wire.specs.Write.{rip_packet_parts}
-use Rattle.ipx_wire.specs.WriteServices.{entry_of as sap_entry, sap_packet_parts}
 use Rattle.ipx_wire.specs.declared.address.Address.{Address}
 use Rattle.ipx_wire.specs.declared.rip.Operation.{Operation}
 use Rattle.ipx_wire.specs.declared.rip.Operation.TheVariants.{Request, Response}
@@ -27,7 +26,6 @@ use Rattle.ipx_router.specs.Port.{Port, IsPort, port_at, is_up, own_address, eve
 use Rattle.ipx_router.specs.Relays.{Sent}
 use Rattle.ipx_router.specs.Sends.{Holding, holding, sends, rip_sends, sap_sends, news_on, asked, of_kind, nearest_of}
 use Rattle.ipx_router.specs.Told.{told, told_services}
-use Rattle.ipx_router.specs.Why.{is_near}
 use Rattle.ipx_router.specs.declared.route_offer.RouteOffer.{RouteOffer}
 use Rattle.ipx_router.proofs.bytes.FieldsAreBytes.{IsPlace as IsPlaced, IsTellable}
 use Rattle.ipx_router.proofs.lists.EachElement.{all_both}
@@ -43,10 +41,10 @@ use Rattle.ipx_internet.proofs.lists.FoundInAList.{nothing, it_is}
 use Rattle.ipx_internet.proofs.packets.PagesReadAgain.{IsRipPage, IsSapPage, rip_pages, sap_pages}
 use Rattle.ipx_internet.proofs.packets.ResponsesAskNothing.{IsAnswering, rip_answers, answering}
 use Rattle.ipx_internet.proofs.packets.SentOnOrReply.{Layouts, IsNewsSent, IsCast, IsOnward, rip_reply, no_reply, unsaid, said_so, answered, nearest_fits, either_fits}
-use Rattle.ipx_internet.proofs.rounds.RepliesTellChanges.{page_heard, services_heard_of}
+use Rattle.ipx_internet.proofs.rounds.RepliesTellChanges.{page_heard}
 use Rattle.ipx_internet.proofs.rounds.SentOnRunsOut.{reply_moves}
-use Rattle.ipx_laws.specs.Meanwhile.{message_in, message_of, TellsNoRoute}
-use Rattle.ipx_laws.proofs.packets.SentOnSaysTheSame.{heard_message, of_packet, message_heard, sent_on_message}
+use Rattle.ipx_laws.specs.Meanwhile.{message_of, TellsNoRoute}
+use Rattle.ipx_laws.proofs.packets.SentOnSaysTheSame.{heard_message, sent_on_message}
 
 -- whatever may be heard of the bytes tells of no route
 abbrev pub Silent : List ℕ → Type 0
@@ -67,11 +65,7 @@ IsSpoken up P ports s = ((is_up up s.port ≡ true) × IsOwnPage (P s.port) (por
 -- a service page tells of no route, where it isn't for the process of routes
 pub services_silent : (Q : Service → Type 0) (from to : Address) (nearest : Bool) (bytes : List ℕ) → to.socket.0 ≢ rip_socket → IsSapPage Q from to nearest bytes
     → Silent bytes
-services_silent Q from to nearest bytes apart page m e =
-    let parts = sap_packet_parts from to nearest page.page in
-    let here : message_in parts ≡ Some m = of_packet bytes parts m page.read e in
-    it_is TellsNoRoute m (HeardSap from (SapResponse nearest (map sap_entry page.page)))
-    (services_heard_of Q from to nearest bytes (ne_eqb to.socket.0 rip_socket apart) page parts m page.read (message_heard parts m here)) tt
+services_silent Q from to nearest bytes apart page m e = grind arith
 
 -- what a response of either kind says to the process of services tells of no route
 services_answer : (source : Address) (m : Heard) (r : Result Sap SapFault) → IsAnswering m
@@ -97,10 +91,7 @@ own_heard P port bytes is p m read e = elim (cases_Bool (is.to.socket.0 == rip_s
 
 -- what is near is what is said
 pub near_in : (port : Port) (p : Parts) (m : Heard) → heard_near port p ≡ Some m → heard_in p ≡ Some m
-near_in port p m e = elim (cases_Bool (is_near port p.header)) [
-  | inl here ↦ rw here at e
-  | inr far ↦ nothing (rw far at e)
-]
+near_in port p m e = grind arith
 
 -- nothing is offered
 pub silent_offers : (ports : List Port) (number : ℕ) (m : Heard) → TellsNoRoute m → routes_heard ports number (Some m) ≡ []
@@ -196,9 +187,7 @@ module _ (laws : Layouts) (ports : List Port) (are : AllByRecursion IsPort ports
           | Response ↦ flat_map (news_on ports before after) after.up
           | Request ↦ rip_sends ports number (reply_to (port_at ports number) source) Response (asked wanted (told ports before.up before.routes number))
         ])
-    asked_spoken up_here all_such source from wanted Request e = routes_spoken up_here all_such source from wanted
-    asked_spoken up_here all_such source from wanted Response e =
-        absurd (true≢false (ap (λ (o : Operation). elim o [ Response ↦ true | Request ↦ false ]) e))
+    asked_spoken up_here all_such source from wanted operation e = grind (arith, routes_spoken)
 
     silent_spoken : is_up after.up number ≡ true → (m : Heard) → heard_after ports history number bytes ≡ Some m → IsPlaced (source_of m) → TellsNoRoute m
         → AllByRecursion Spoken sent

@@ -1,5 +1,5 @@
 -- A packet that is sent on says what it said; and what a router hears of bytes is what they say.
-use Rattle.std.proofs.Common.{◌≡◌, refl, sym, ap, ◌∙◌, ◌⊎◌, ℕ, ◌==◌, ◌&&◌, ◌||◌, not, Bool, true, false, if◌then◌else◌, List, [], ◌∷◌, Option, Some, None, Result, Ok, Err, inl, inr, true≢false, is_some}
+use Rattle.std.proofs.Common.{◌≡◌, refl, sym, ap, ◌∙◌, ◌⊎◌, ℕ, ◌==◌, ◌&&◌, ◌||◌, not, Bool, true, false, if◌then◌else◌, List, [], ◌∷◌, Option, Some, None, Result, Ok, Err, inl, inr, true≢false, is_some, arith}
 use Rattle.std.specs.List.{AllByRecursion}
 use Rattle.std.proofs.lemmas.Bool.{cases_Bool, and_parts, not-true}
 use Rattle.ipx_wire.specs.Packet.{Parts, packet_of}
@@ -28,14 +28,11 @@ all_none (Some reason ∷ list) e = absurd (true≢false (ap is_some e))
 all_none (None ∷ list) e = (refl, all_none list e)
 
 unmet : (c : Bool) (reason : Why) → when c reason ≡ None → c ≡ false
-unmet true reason e = absurd (true≢false (ap is_some e))
-unmet false reason e = refl
+unmet c reason e = grind arith
 
 -- what is near and for a process passes as such
 process : (near propagated others : Bool) → near ≡ true → (near && (propagated || not others)) ≡ false → not others ≡ false
-process true true others there e = absurd (true≢false e)
-process true false others there e = e
-process false propagated others there e = absurd (true≢false (sym there))
+process near propagated others there e = grind arith
 
 for_process : (p : Parts) → is_propagated p.header ≡ false → not (is_for_rip p.header || is_for_sap p.header) ≡ false → message_in p ≡ heard_in p
 for_process p plain other = rw (plain, other) refl
@@ -97,24 +94,12 @@ sent_on_message port came sent on m e = ap by on.read ∙ same on.keeps
 -- a message for the process of RIP, and one for that of SAP
 pub for_rip : (p : Parts) (m : Heard) → is_for_rip p.header ≡ true → message_in p ≡ Some m
     → elim (rip_of p.payload) [ Ok rip ↦ Some (HeardRip p.header.source rip) | Err fault ↦ None ] ≡ Some m
-for_rip p m rip e = elim (cases_Bool (is_propagated p.header)) [
-  | inl all ↦ nothing (rw all at e)
-  | inr plain ↦ rw (plain, rip) at e
-]
+for_rip p m rip e = grind arith
 
 pub for_sap : (p : Parts) (m : Heard) → is_for_rip p.header ≡ false → message_in p ≡ Some m
     → (is_for_sap p.header ≡ true) × (elim (sap_of p.payload) [ Ok sap ↦ Some (HeardSap p.header.source sap) | Err fault ↦ None ] ≡ Some m)
-for_sap p m other e = elim (cases_Bool (is_propagated p.header)) [
-  | inl all ↦ nothing (rw all at e)
-  | inr plain ↦ elim (cases_Bool (is_for_sap p.header)) [
-    | inl sap ↦ (sap, rw (plain, other, sap) at e)
-    | inr none ↦ nothing (rw (plain, other, none) at e)
-  ]
-]
+for_sap p m other e = grind arith
 
 -- a message was in its packet
 pub message_heard : (p : Parts) (m : Heard) → message_in p ≡ Some m → heard_in p ≡ Some m
-message_heard p m e = elim (cases_Bool (is_propagated p.header || not (is_for_rip p.header || is_for_sap p.header))) [
-  | inl none ↦ nothing (rw none at e)
-  | inr some ↦ rw some at e
-]
+message_heard p m e = grind arith

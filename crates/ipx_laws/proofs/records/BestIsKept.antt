@@ -1,6 +1,6 @@
 -- What a table keeps of the offers of one key, of whatever kind: one of the best stays while whoever offered it goes on, and one comes where one
 -- is offered. The state of the record is carried from offer to offer and from second to second.
-use Rattle.std.proofs.Common.{◌≡◌, ◌≢◌, refl, sym, ap, ◌∙◌, subst, ◌⊎◌, ℕ, ◌+◌, ◌≤◌, nat_lt, ◌&&◌, Bool, true, false, List, [], ◌∷◌, ◌++◌, filter, find, length, Option, None, Some, inl, inr, append_assoc, append-nil, Ordering, is_eq}
+use Rattle.std.proofs.Common.{◌≡◌, ◌≢◌, refl, sym, ap, ◌∙◌, subst, ◌⊎◌, ℕ, ◌+◌, ◌≤◌, nat_lt, ◌&&◌, Bool, true, false, List, [], ◌∷◌, ◌++◌, filter, find, length, Option, None, Some, inl, inr, append_assoc, append-nil, Ordering, is_eq, arith}
 use Rattle.std.specs.List.{AllByRecursion}
 use Rattle.std.specs.Cmp.{IsTotalOrder}
 use Rattle.std.specs.Ordering.{is_gt}
@@ -122,10 +122,7 @@ module _ {O K S : Type 0} (reading : Reading O K) (order : K → K → Ordering)
           ]
 
           this_same : (h : Held O) → known_in held ≡ Some h → Same h.offer
-          this_same h some = elim state.holds [
-            | inr later ↦ free later h.offer
-            | inl there ↦ it_is (λ (x : Held O). Same x.offer) h there.0 (sym there.2 ∙ some) there.4
-          ]
+          this_same h some = grind arith
 
           of_it : (h : Held O) → known_in held ≡ Some h → (Is : O → Type 0) → Is h.offer → (g : Held O) → known_in held ≡ Some g → Is g.offer
           of_it h some Is is g e = it_is (λ (x : Held O). Is x.offer) g h (sym some ∙ e) is
@@ -211,10 +208,7 @@ module _ {O K S : Type 0} (reading : Reading O K) (order : K → K → Ordering)
     module _ (Late : S → ℕ → Type 0) (Later : Type 0) (facts : List (Fact O)) (o : O) (state : State Fresh Late Later Same (known facts)) where
       offered : (reading.key o ≡ key → State Fresh Late Later Same (known_in (after_offer rules (records facts) o)))
           → State Fresh Late Later Same (known (facts ++ Offered o ∷ []))
-      offered own = elim (cases_Bool (is_eq (order (reading.key o) key))) [
-        | inr apart ↦ subst (λ (k : Option (Held O)). State Fresh Late Later Same k) (sym (other_key facts o apart)) state
-        | inl same ↦ subst (λ (k : Option (Held O)). State Fresh Late Later Same k) (sym (own_key facts o)) (own (one_key (reading.key o) same))
-      ]
+      offered own = grind (arith, is_eq, other_key, own_key)
 
     -- whatever they are, as one may be missing
     pub offers_any : (Late : S → ℕ → Type 0) (Later : Type 0) → Later → (new facts : List (Fact O)) → AllByRecursion (OffersOf (λ o. Unit {0})) new

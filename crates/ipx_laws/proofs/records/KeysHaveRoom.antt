@@ -1,11 +1,11 @@
 -- Where all records are of listed keys, there are no more of them than keys, and fewer where one has none: so there is room.
-use Rattle.std.proofs.Common.{◌≡◌, refl, sym, ap, subst, ℕ, zero, suc, ◌<◌, ◌≤◌, ◌==◌, nat_lt, ◌&&◌, not, Bool, true, false, List, [], ◌∷◌, filter, find, length, None, Some, inl, inr, arith, Ordering, Less, Equal, Greater, is_eq, slice_get}
+use Rattle.std.proofs.Common.{◌≡◌, refl, sym, ap, subst, ℕ, zero, suc, ◌<◌, ◌≤◌, nat_lt, ◌&&◌, not, Bool, true, false, List, [], ◌∷◌, filter, find, length, None, Some, inl, inr, arith, Ordering, Less, Equal, Greater, is_eq, slice_get}
 use Rattle.std.specs.List.{AllByRecursion}
 use Rattle.std.specs.Cmp.{IsTotalOrder}
 use Rattle.std.specs.Ordering.{ordering_reverse, is_lt}
-use Rattle.std.proofs.lemmas.Bool.{cases_Bool, both_ways, not-true, and_from, lt-ltb, or_left, or_right}
+use Rattle.std.proofs.lemmas.Bool.{cases_Bool, not-true, and_from, lt-ltb, or_left, or_right}
 use Rattle.ipx_table.specs.Accepted.{has_share, may_replace}
-use Rattle.ipx_table.specs.Reading.{Reading, Rules, rules_of, count_by, port_of, share_of}
+use Rattle.ipx_table.specs.Reading.{Reading, Rules, rules_of, port_of, share_of}
 use Rattle.ipx_table.specs.declared.held.Held.{Held}
 use Rattle.ipx_table.proofs.Singles.{length-filter, length-filter-filter}
 use Rattle.ipx_internet.proofs.lists.EachElement.{all_passed, all_then, length_parted}
@@ -53,10 +53,7 @@ module _ {O K : Type 0} (reading : Reading O K) (order : K → K → Ordering) (
       equal Greater e = ap is_lt e
 
   behind : (first : K) (keys : List K) (h : Held O) → IsListed (first ∷ keys) (reading.key h.offer) → of_key first h ≡ false → IsListed keys (reading.key h.offer)
-  behind first keys h (zero, is) off =
-      let same : first ≡ reading.key h.offer = it_is (λ (k : K). first ≡ k) (reading.key h.offer) first is refl in
-      absurd (both_ways (of_key first h) off (subst (λ (k : K). is_eq (order (reading.key h.offer) k) ≡ true) (sym same) (itself (reading.key h.offer))))
-  behind first keys h (suc n, is) off = (n, is)
+  behind first keys h given off = grind arith
 
   pub few_held : (keys : List K) (held : List (Held O)) → AreSingle held → AllByRecursion (λ h. IsListed keys (reading.key h.offer)) held → length held ≤ length keys
   few_held [] [] single all = omega arith
@@ -106,20 +103,7 @@ module _ {O K : Type 0} (reading : Reading O K) (order : K → K → Ordering) (
     share = share_of_all (length keys) capacity shares (port_of reading o) room each
 
     pub admits : IsListed keys (reading.key o) → find (of_key (reading.key o)) held ≡ None → (nat_lt (length held) capacity && has_share rules o held) ≡ true
-    admits listed none =
-        let few = fewer_held keys held single all o listed none in
-        let some = length-filter (λ h. port_of reading h.offer == port_of reading o) held in
-        let most = share in
-        and_from (nat_lt (length held) capacity) (has_share rules o held) (lt-ltb (length held) capacity (omega (arith, few, room)))
-        (lt-ltb (count_by (port_of reading) (port_of reading o) held) (share_of capacity shares (port_of reading o)) (omega (arith, few, some, most)))
+    admits listed none = grind (arith, fewer_held, length-filter, share, and_from, lt-ltb)
 
     pub replaces : (h : Held O) → find (of_key (reading.key o)) held ≡ Some h → may_replace rules o held h ≡ true
-    replaces h is_h = elim (cases_Bool (port_of reading h.offer == port_of reading o)) [
-      | inl same ↦ or_left (port_of reading h.offer == port_of reading o) (has_share rules o held) same
-      | inr off ↦
-          let few = few_held keys held single all in
-          let some = left_out (of_key (reading.key o)) (λ x. port_of reading x.offer == port_of reading o) h held is_h off in
-          let most = share in
-          or_right (port_of reading h.offer == port_of reading o) (has_share rules o held)
-          (lt-ltb (count_by (port_of reading) (port_of reading o) held) (share_of capacity shares (port_of reading o)) (omega (arith, few, some, most)))
-    ]
+    replaces h is_h = grind (arith, or_left, few_held, left_out, share, or_right, lt-ltb)

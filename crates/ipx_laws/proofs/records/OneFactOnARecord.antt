@@ -1,12 +1,13 @@
 -- What one fact more leaves of the record of a key: an offer of it renews it, takes its place, ends it or leaves it; a second makes it older
 -- or ends it.
+use Rattle.std.proofs.lemmas.Grind.{common_steps}
 use Rattle.std.proofs.Common.{◌≡◌, refl, sym, ap, ◌∙◌, subst, ◌⊎◌, ℕ, suc, ◌≤◌, ◌&&◌, ◌||◌, nat_lt, Bool, true, false, not, List, [], ◌∷◌, ◌++◌, filter, find, length, drop, take, Option, None, Some, inl, inr, arith, true≢false, append-nil, Ordering, Less, Equal, Greater, is_eq, is_lt}
 use Rattle.std.specs.Ordering.{ordering_reverse}
 use Rattle.std.specs.Cmp.{IsTotalOrder}
 use Rattle.std.proofs.lemmas.Bool.{cases_Bool}
 use Rattle.std.proofs.lemmas.List.Folds.{find-append}
 use Rattle.ipx_table.specs.Accepted.{is_accepted, has_share, may_replace}
-use Rattle.ipx_table.specs.inside.AfterOffer.{fresh, uncut, after_offer}
+use Rattle.ipx_table.specs.inside.AfterOffer.{fresh, after_offer}
 use Rattle.ipx_table.specs.Facts.{Offered}
 use Rattle.ipx_table.specs.Reading.{Rules}
 use Rattle.ipx_table.specs.Stands.{IsDistinct, older, is_last, second_later}
@@ -30,10 +31,7 @@ module _ {O : Type 0} (rules : Rules O) (total : IsTotalOrder rules.by_key) (hel
       equal Greater e = ap is_lt e
 
   taken_in : is_accepted rules held (Offered offer) ≡ true → then_known ≡ Some (fresh offer)
-  taken_in yea =
-      let here = itself in
-      let others = none-find (of_key rules total offer) (uncut rules offer true held) (apart_from rules total offer held) in
-      rw yea (find-append (of_key rules total offer) (uncut rules offer true held) (fresh offer ∷ []) ∙ rw (others, here) refl)
+  taken_in yea = grind (arith, itself, none-find, of_key, apart_from, find-append)
 
   gone : (place : ℕ) (it : Held O) → HeldAt rules total held place it offer → is_accepted rules held (Offered offer) ≡ false
       → rules.same_source it.offer offer ≡ true → then_known ≡ None
@@ -135,8 +133,7 @@ module _ {O : Type 0} (test : O → Bool) where
   of_test h = test h.offer
 
   no_length : {X : Type 0} (xs : List X) → length xs ≤ 0 → xs ≡ []
-  no_length [] few = refl
-  no_length (x ∷ xs) few = absurd (omega (arith, few))
+  no_length xs few = grind (arith, common_steps)
 
   none_older : (xs : List (Held O)) → filter of_test xs ≡ [] → find of_test (second_later xs) ≡ None
   none_older [] none = refl

@@ -1,9 +1,9 @@
 -- How old the records of a table are: each is such as it should be, or as old as the seconds since then and its hops allow.
-use Rattle.std.proofs.Common.{◌≡◌, refl, sym, ◌∙◌, subst, ◌⊎◌, ℕ, suc, ◌+◌, ◌*◌, ◌<◌, ◌≤◌, ◌==◌, ◌||◌, nat_le, Bool, true, false, not, List, [], ◌∷◌, ◌++◌, filter, if◌then◌else◌, inl, inr, arith, append_assoc, append-nil, Ordering, is_lt}
+use Rattle.std.proofs.Common.{◌≡◌, refl, sym, ◌∙◌, subst, ◌⊎◌, ℕ, suc, ◌+◌, ◌*◌, ◌<◌, ◌≤◌, ◌==◌, nat_le, Bool, true, false, not, List, [], ◌∷◌, ◌++◌, filter, if◌then◌else◌, inl, inr, arith, append_assoc, append-nil, Ordering, is_lt}
 use Rattle.std.specs.List.{AllByRecursion}
 use Rattle.std.specs.Cmp.{IsTotalOrder}
-use Rattle.std.proofs.lemmas.Bool.{cases_Bool, and_parts, not-true, leb-false}
-use Rattle.ipx_table.specs.Accepted.{marked, is_accepted, refreshes, replaces, is_new_with_room}
+use Rattle.std.proofs.lemmas.Bool.{cases_Bool, leb-false}
+use Rattle.ipx_table.specs.Accepted.{marked, is_accepted}
 use Rattle.ipx_table.specs.inside.AfterOffer.{fresh, uncut, after_offer}
 use Rattle.ipx_table.specs.Alive.{alive, cuts, lifetime}
 use Rattle.ipx_table.specs.Facts.{Fact, Offered, Second, PortEnd, End}
@@ -52,9 +52,7 @@ module _ {O K : Type 0} (reading : Reading O K) (order : K → K → Ordering) (
 
   -- an offer that is accepted isn't down
   accepted_up : (records : List (Held O)) (offer : O) → is_accepted rules records (Offered offer) ≡ true → reading.is_down offer ≡ false
-  accepted_up records offer e =
-      not-true (reading.is_down offer)
-      (and_parts (not (reading.is_down offer)) (refreshes rules offer records || replaces rules offer records || is_new_with_room rules offer records) e).0
+  accepted_up records offer e = grind arith
 
   -- what holds of the records, and of an offer that comes and isn't down, holds of them after it
   all_after_offer : (P : Held O → Type 0) (records : List (Held O)) (offer : O) → (reading.is_down offer ≡ false → P (fresh offer)) → AllByRecursion P records
@@ -110,8 +108,7 @@ module _ {O K : Type 0} (reading : Reading O K) (order : K → K → Ordering) (
     at_first facts = all_of (IsOld 0) (λ h. inr (omega arith)) (alive_after facts)
 
     pub where_none : (had : ℕ) (facts : List (Fact O)) → AllByRecursion (λ o. ⊥) (offers (held rules facts)) → Aged had facts
-    where_none had facts none =
-        subst (λ (hs : List (Held O)). AllByRecursion (IsOld had) hs) (sym (none_there rules.by_key (alive_after facts) none)) tt
+    where_none had facts none = grind (arith, none_there)
 
     pub after_second : (had : ℕ) (facts : List (Fact O)) → Aged had facts → Aged (suc had) (facts ++ Second ∷ [])
     after_second had facts aged =
@@ -138,9 +135,7 @@ module _ {O K : Type 0} (reading : Reading O K) (order : K → K → Ordering) (
     after_offers had (End ∷ new) facts all aged = absurd all.0
 
     after_port : (had : ℕ) (facts : List (Fact O)) (port : ℕ) → Aged had facts → Aged had (facts ++ PortEnd port ∷ [])
-    after_port had facts port aged =
-        subst (λ (hs : List (Held O)). AllByRecursion (IsOld had) hs) (sym (alive_after-port rules facts port))
-        (all-filter (IsOld had) (λ h. not (rules.port h.offer == port)) (alive_after facts) aged)
+    after_port had facts port aged = grind (arith, alive_after-port, all-filter)
 
     after_end : (had : ℕ) (facts : List (Fact O)) → Aged had (facts ++ End ∷ [])
     after_end had facts = subst (λ (hs : List (Held O)). AllByRecursion (IsOld had) hs) (sym (alive_after-end rules facts)) tt

@@ -1,6 +1,6 @@
 -- A router has a service with its fewest hops after the ticks of any period in which all that say it so were heard, and all routers that
 -- are nearer were right; and at each moment of the tick that follows.
-use Rattle.std.proofs.Common.{◌≡◌, ◌≢◌, refl, sym, ap, ◌∙◌, subst, ◌⊎◌, ℕ, zero, suc, ◌+◌, ◌-◌, ◌*◌, ◌<◌, ◌≤◌, true, List, [], ◌∷◌, ◌++◌, length, Option, None, Some, option_map, inl, inr, arith, append-nil, is_eq, slice_get, get_or-set_same, get_or-set_other}
+use Rattle.std.proofs.Common.{◌≡◌, ◌≢◌, refl, sym, ap, ◌∙◌, subst, ◌⊎◌, ℕ, zero, suc, ◌+◌, ◌-◌, ◌*◌, ◌<◌, ◌≤◌, true, List, [], ◌∷◌, ◌++◌, length, Option, None, Some, option_map, inl, inr, arith, append-nil, is_eq, slice_get, get_or-set_same, get_or-set_other, rules}
 use Rattle.std.specs.List.{AllByRecursion}
 use Rattle.std.proofs.lemmas.Bool.{cases_Bool, cases_eq}
 use Rattle.ipx_table.specs.Facts.{Fact, Offered}
@@ -340,10 +340,7 @@ module _ (net : Internet) (laws : Layouts) (is : IsInternet net) (most_routes mo
                 (among g good (sym (now_is (g.port, g.node) now).0) source.node said.0 entries said.1 said.2) such state)
 
         pub packet_own : Q left After (history ++ Packet number bytes ∷ [])
-        packet_own =
-            subst (λ (fs : List (Fact ServiceOffer)). S (Young top left) After (Missing After) fs)
-            (sym (facts_from-more (service_facts_of ports) [] history (Packet number bytes)))
-            (by_heard (heard_after ports history number bytes) refl)
+        packet_own = search (rules, facts_from-more, by_heard)
 
     -- ---- one step
 
@@ -365,9 +362,7 @@ module _ (net : Internet) (laws : Layouts) (is : IsInternet net) (most_routes mo
       -- an event of its own
       here_now : (histories : List History) (event : Event) → r < length histories → (rest : ℕ) (After : Source → Type 0)
           → Q rest After (history_of histories r ++ event ∷ []) → Q rest After (history_of (with_event histories r event) r)
-      here_now histories event within rest After state =
-          let now = get_or-set_same histories r (history_of histories r ++ event ∷ []) [] within in
-          subst (λ (h : History). Q rest After h) (sym now) state
+      here_now histories event within rest After state = grind (arith, get_or-set_same)
 
       lasted : (left : ℕ → ℕ) (run : Run) → Goes ticks left run → Endures net up server L most_services r (ticks - left r) (history_of run.histories r)
       lasted left run going =
@@ -375,10 +370,7 @@ module _ (net : Internet) (laws : Layouts) (is : IsInternet net) (most_routes mo
           going.routers r (ticks - left r) inside (omega (arith, some_left))
 
       within : (left : ℕ → ℕ) (run : Run) → Goes ticks left run → r < length run.histories
-      within left run going =
-          let each = going.are.each in
-          let there_is = inside in
-          omega (arith, each, there_is)
+      within left run going = grind arith
 
       own_packet : (run : Run) (left : ℕ → ℕ) (number : ℕ) (bytes : List ℕ) → Goes ticks left run → Waits net up server L W ticks (at number) bytes
           → (Before After Now : Source → Type 0) → ((s : Source) → Before s → Now s ⊎ After s)
@@ -395,16 +387,10 @@ module _ (net : Internet) (laws : Layouts) (is : IsInternet net) (most_routes mo
 
       -- what is heard in a step of a router is heard by that router
       hearer : (run : Run) (router : ℕ) (event : Event) (s : Source) → Heard_by run (Happens router event) s → r ≡ router
-      hearer run router (Packet number bytes) s now = sym now.0
-      hearer run router Start s now = absurd now
-      hearer run router Stop s now = absurd now
-      hearer run router Second s now = absurd now
-      hearer run router (PortDown number) s now = absurd now
-      hearer run router (PortUp number) s now = absurd now
+      hearer run router event s now = grind arith
 
       later_of : {A B : Type 0} → (A → ⊥) → A ⊎ B → B
-      later_of none (inl now) = absurd (none now)
-      later_of none (inr later) = later
+      later_of none given = grind arith
 
       own_step : (run : Run) (router : ℕ) → r ≡ router → (event : Event) (rest : List Step) → LeavesPorts (Happens router event)
           → SaysNoFalse net server (Happens router event) → SaysOnly (NamesOnly L) (Happens router event) → Goes ticks (left_of (Happens router event ∷ rest)) run

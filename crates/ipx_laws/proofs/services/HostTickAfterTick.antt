@@ -1,6 +1,6 @@
 -- Ticks, one after the other, in which hosts announce a service and ports stay as they are: what each router has of it is older by as many
 -- seconds as it had, and what waits was said in this tick.
-use Rattle.std.proofs.Common.{◌≡◌, ◌≢◌, refl, sym, subst, ◌⊎◌, ℕ, suc, ◌+◌, ◌-◌, ◌<◌, ◌≤◌, Bool, true, List, [], ◌∷◌, ◌++◌, length, map, flat_map, Option, Some, None, IfSome, inl, inr, arith, if◌then◌else◌, get_or-set_same}
+use Rattle.std.proofs.Common.{◌≡◌, ◌≢◌, refl, sym, subst, ◌⊎◌, ℕ, suc, ◌+◌, ◌-◌, ◌<◌, ◌≤◌, Bool, true, List, [], ◌∷◌, ◌++◌, length, map, flat_map, Option, Some, None, IfSome, inl, inr, arith, if◌then◌else◌, get_or-set_same, rules}
 use Rattle.std.specs.List.{AllByRecursion}
 use Rattle.std.proofs.lemmas.Bool.{cases_eq}
 use Rattle.ipx_wire.specs.Piece.{IsBytes}
@@ -294,11 +294,7 @@ module _ (net : Internet) (laws : Layouts) (is : IsInternet net) (most_routes mo
           sents (all_both (λ s. IsBytes s.bytes) (IsSpoken net up server Listed Speaks ticks router) sents bytes all_spoken)
 
       lasts_as : (count : ℕ) → count + rest router ≡ ticks → Lasts router count now
-      lasts_as count e =
-          let some = (going.few router within).1 in
-          let more = passed_more event had in
-          let all : count ≡ passed event had = omega (arith, own, e, some, more) in
-          subst (λ (n : ℕ). Lasts router n now) (sym all) lasts
+      lasts_as count e = grind (arith, passed_more, passed, lasts)
 
       pub event_goes : Going ticks rest (queued net most_routes most_services (record { histories = histories; queue = queue }) router event)
       event_goes = record {
@@ -328,16 +324,7 @@ module _ (net : Internet) (laws : Layouts) (is : IsInternet net) (most_routes mo
     -- what waited first is what comes
     pub first_waits : (ticks : ℕ) (d : Delivery) → Waits net up server Listed Speaks ticks d.to d.bytes → (number : ℕ) (bytes : List ℕ)
         → Packet d.to.port d.bytes ≡ Packet number bytes → Waits net up server Listed Speaks ticks (at net up server Listed d.to.router number) bytes
-    first_waits ticks d waits number bytes same =
-        let P : Event → Type 0 = λ e. elim e [
-          | Packet n bs ↦ Waits net up server Listed Speaks ticks (at net up server Listed d.to.router n) bs
-          | Start ↦ Unit
-          | Stop ↦ Unit
-          | Second ↦ Unit
-          | PortDown n ↦ Unit
-          | PortUp n ↦ Unit
-        ] in
-        subst P same waits
+    first_waits ticks d waits number bytes same = grind arith
 
     settles_goes : (ticks : ℕ) (left : ℕ → ℕ) (histories : List History) (queue : List Delivery) → Sure histories
         → Sure (settled_one net most_routes most_services (record { histories = histories; queue = queue })).histories
@@ -354,10 +341,7 @@ module _ (net : Internet) (laws : Layouts) (is : IsInternet net) (most_routes mo
     pub step_goes : (ticks : ℕ) (step : Step) (rest : List Step) (run : Run) → IsStep net step → LeavesPorts step → SaysNoFalse net server step → SaysOnly (NamesOnly Listed) step
         → Sure run.histories → Sure (stepped net most_routes most_services run step).histories
         → Going ticks (left_of (step ∷ rest)) (forgotten run) → Going ticks (left_of rest) (forgotten (stepped net most_routes most_services run step))
-    step_goes ticks (Happens router event) rest run (within, on, of_bytes) leaves says names before after going =
-        subst (λ (q : Queued). Going ticks (left_of rest) q) (sym (events net most_routes most_services run router event None))
-        (event_goes ticks run.histories (map (λ w. w.delivery) run.waiting) router event (left_of (Happens router event ∷ rest)) (left_of rest) within on of_bytes leaves
-        (outside_waits ticks router event says names) (own_seconds router event rest) (λ other off. second_there router other event rest off) before after going)
+    step_goes ticks (Happens router event) rest run (within, on, of_bytes) leaves says names before after going = search (rules, events, event_goes, outside_waits, own_seconds, second_there)
     step_goes ticks Settles rest run is_step leaves says names before after going =
         subst (λ (q : Queued). Going ticks (left_of rest) q) (sym (deliveries net most_routes most_services run))
         (settles_goes ticks (left_of rest) run.histories (map (λ w. w.delivery) run.waiting) before
@@ -390,10 +374,7 @@ module _ (net : Internet) (laws : Layouts) (is : IsInternet net) (most_routes mo
   Always histories = Unit {0}
 
   pub any_exact : AreExact net most_services AnyWord Always
-  any_exact = record {
-    told = λ histories sure router within j. all_of (λ s. Unit {0}) (λ s. tt) (told_services (services_of net most_services histories router) j);
-    news = λ histories sure router within before j. all_of (λ s. Unit {0}) (λ s. tt) (news_services before (services_of net most_services histories router) j);
-  }
+  any_exact = grind (arith, all_of, services_of)
 
   steps_go : (ticks : ℕ) (steps : List Step) (run : Run) → AllByRecursion (IsStep net) steps → AllByRecursion LeavesPorts steps
       → AllByRecursion (SaysNoFalse net server) steps → AllByRecursion (SaysOnly (NamesOnly Listed)) steps → Going AnyWord Always any_exact ticks (left_of steps) (forgotten run)

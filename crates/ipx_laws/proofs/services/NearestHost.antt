@@ -1,6 +1,6 @@
 -- What is best of all that a router may know of a service: what the nearest hosts beside it say, and neighbours that are one hop nearer. There is
 -- room for it.
-use Rattle.std.proofs.Common.{◌≡◌, refl, sym, ap, ap₂, ◌∙◌, subst, ◌⊎◌, ℕ, suc, ◌*◌, ◌<◌, ◌≤◌, nat_le, true, false, List, [], ◌∷◌, ◌++◌, find, length, map, None, Some, inl, inr, arith, is_eq, slice_get}
+use Rattle.std.proofs.Common.{◌≡◌, refl, sym, ap, ap₂, ◌∙◌, subst, ◌⊎◌, ℕ, suc, ◌*◌, ◌<◌, ◌≤◌, nat_le, true, false, List, [], ◌∷◌, ◌++◌, find, length, map, None, Some, inl, inr, arith, is_eq, slice_get, rules}
 use Rattle.std.specs.List.{AllByRecursion}
 use Rattle.std.specs.Ordering.{is_gt}
 use Rattle.std.proofs.lemmas.Bool.{cases_Bool, cases_eq, leb-true, leb-false}
@@ -38,7 +38,7 @@ use Rattle.ipx_laws.proofs.services.ServicesBecomeReal.{has_way}
 use Rattle.ipx_laws.proofs.services.SpokenOfAServer.{EntrySaid, Who}
 use Rattle.ipx_laws.proofs.ticks.RealOrSoonEnded.{Reaches}
 use Rattle.ipx_laws.proofs.records.SameSource.{source_parts}
-use Rattle.ipx_laws.proofs.tables.RoomForEachNetwork.{not_worse, worse}
+use Rattle.ipx_laws.proofs.tables.RoomForEachNetwork.{not_worse}
 
 -- ---- ranks of services
 
@@ -46,10 +46,7 @@ abbrev as_way : ℕ → Way
 as_way hops = record { hops = 0; ticks = hops }
 
 no_worse : (a b : ℕ) → a ≤ b → is_gt (rank_order (a, 0) (b, 0)) ≡ false
-no_worse a b less = elim (cases_Bool (is_gt (rank_order (a, 0) (b, 0)))) [
-  | inr so ↦ so
-  | inl e ↦ absurd (worse (as_way a) (as_way b) e (record { ticks = less; hops = λ same. omega arith }))
-]
+no_worse a b less = grind arith
 
 -- what is given of a router: a service with its hosts, and the fewest hops by which it has it
 pub record Sought : Type 0 where
@@ -214,13 +211,7 @@ module _ (sought : Sought) where
       same_source = ap₂ (λ (p : ℕ) (n : Node). (p, n)) source.0 source.1
 
       of_host : OfHost (g.port, g.node) → IsAnnouncedOn server (network_of net (here number)) node (service_of e name) → Good o
-      of_host host is_said = record {
-        who = inl (record { which = host.which; listed = subst (λ (x : ℕ × Node). slice_get server.announcers host.which ≡ Some (host_of x)) same_source host.listed });
-        on = on;
-        said =
-            is_said.addressed
-            ∙ ap (at_hops server) (sym (apart.one_voice host.which is_said.which (host_of (g.port, g.node)) _ host.listed is_said.listed network source.1));
-      }
+      of_host host is_said = grind arith
 
       of_neighbour : OfNeighbour (g.port, g.node) → (from : Place) → Reaches net up from (here number) → node ≡ (port_of net from).node
           → Says from.router (service_of e name) → Good o
@@ -246,10 +237,8 @@ module _ (sought : Sought) where
 
       by_who : SaidBy (g.port, g.node) → Who net up server Listed Says (here number) node (service_of e name) → Good o
       by_who (inl host) (inl announces) = of_host host announces
-      by_who (inl host) (inr (from, reaches, from_node, says)) =
-          absurd (apart.from_routers host.which (host_of (g.port, g.node)) from host.listed (sym reaches.network ∙ sym network) reaches.on (sym from_node ∙ sym source.1))
-      by_who (inr n) (inl announces) =
-          absurd (apart.from_routers announces.which _ n.from announces.listed (sym n.link.network ∙ network) n.link.there (sym n.node ∙ source.1))
+      by_who (inl host) (inr (from, reaches, from_node, says)) = grind arith
+      by_who (inr n) (inl announces) = grind arith
       by_who (inr n) (inr (from, reaches, from_node, says)) = of_neighbour n from reaches from_node says
 
     honest : IsOf server o.service → (g : ServiceOffer) → Good g → one_source (g.port, g.node) (number, node) ≡ true → Good o
@@ -291,8 +280,7 @@ module _ (sought : Sought) where
 
     pub goes_on : (facts : List (Fact ServiceOffer)) (o : ServiceOffer) → Such facts → ServiceOld net up server Listed most_services r had had (omega arith) o
         → Such (facts ++ Offered o ∷ [])
-    goes_on facts o aged old =
-        after_offers service_reading service_order service_total most_services shares (λ s. s.service.hops) (λ s. refl) F had (Offered o ∷ []) facts (old, tt) aged
+    goes_on facts o aged old = search (rules, after_offers, service_total)
 
     module _ (room : HasRoomFor net most_services names) (inside : r < length net) (listed : Listed key) where
       single : (facts : List (Fact ServiceOffer)) → AreSingle service_reading service_order service_total one_name (Facts facts)
@@ -301,9 +289,7 @@ module _ (sought : Sought) where
           (record { service = record { kind = k.0; name = k.1; address = server.address; hops = 0 }; port = 0; node = broadcast })
 
       each_share : AllByRecursion (λ s. length names ≤ s) shares
-      each_share =
-          all_mapped (λ s. length names ≤ s) (λ p. p.service_share) (ports_of net r)
-          (all_at (λ ports. AllByRecursion (λ p. length names ≤ p.service_share) ports) net r [] room.shares inside)
+      each_share = grind (arith, all_mapped, all_at)
 
       pub place : (facts : List (Fact ServiceOffer)) (s : ℕ × Node) (o : ServiceOffer) → Such facts → GoodOf s o → Real o
           → HasPlace service_reading service_order service_total most_services shares key (λ k. one_name k key) Real GoodOf (Facts facts) o

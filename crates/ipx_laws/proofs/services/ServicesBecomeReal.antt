@@ -85,9 +85,7 @@ module _ (net : Internet) (laws : Layouts) (is : IsInternet net) (most_routes mo
 
   -- where there is no such way, it isn't known
   pub none_known : ((hops : ℕ) → IsAway net up server router hops → hops < unreachable → ⊥) → AllByRecursion (λ s. IsOf server s.service → ⊥) Known
-  none_known no_way =
-      all_then (λ s. IsOf server s.service → IsOnWay s) (λ s. IsOf server s.service → ⊥)
-      (λ s away of. let way = away of in no_way s.service.hops way.2 way.1) Known all_away
+  none_known no_way = grind (arith, all_then, all_away)
 
 -- ---- where they begin
 

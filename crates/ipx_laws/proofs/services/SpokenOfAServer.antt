@@ -1,6 +1,6 @@
 -- What waits for a port, of a service that hosts announce: what the router or the host that sends it may say there. A router sends nothing
 -- else, neither at a second nor for such a packet.
-use Rattle.std.proofs.Common.{◌≡◌, ◌≢◌, refl, sym, ap, ◌∙◌, ◌⊎◌, ℕ, ◌*◌, ◌<◌, ◌≤◌, Bool, true, false, not, List, map, Some, None, Result, Ok, Err, inl, inr, arith, true≢false}
+use Rattle.std.proofs.Common.{◌≡◌, ◌≢◌, refl, sym, ap, ◌∙◌, ◌⊎◌, ℕ, ◌*◌, ◌<◌, ◌≤◌, Bool, true, false, not, List, map, Some, None, Result, Ok, Err, inl, inr, arith, true≢false, rules}
 use Rattle.std.specs.List.{AllByRecursion}
 use Rattle.std.proofs.lemmas.Bool.{cases_Bool, and_parts, eqb-true}
 use Rattle.ipx_wire.specs.Packet.{Parts}
@@ -10,7 +10,7 @@ use Rattle.ipx_wire.specs.WriteServices.{entry_of as sap_entry, sap_packet_parts
 use Rattle.ipx_wire.specs.declared.address.Address.{Address}
 use Rattle.ipx_wire.specs.declared.node.Node.{Node}
 use Rattle.ipx_wire.specs.declared.rip.Operation.{Operation}
-use Rattle.ipx_wire.specs.declared.rip.Operation.TheVariants.{Request, Response}
+use Rattle.ipx_wire.specs.declared.rip.Operation.TheVariants.{Response}
 use Rattle.ipx_wire.specs.declared.rip.RipEntry.{RipEntry}
 use Rattle.ipx_wire.specs.declared.rip.RipFault.{RipFault}
 use Rattle.ipx_wire.specs.declared.sap.Sap.TheVariants.{Query, Response as SapResponse}
@@ -41,8 +41,7 @@ use Rattle.ipx_laws.proofs.ticks.RealOrSoonEnded.{Reaches}
 
 -- a response isn't answered at all
 asks_elsewhere : (source : Address) (operation : Operation) → operation ≡ Response → AsksElsewhere source operation
-asks_elsewhere source Response e = tt
-asks_elsewhere source Request e = absurd (true≢false (ap (λ (o : Operation). elim o [ Request ↦ true | Response ↦ false ]) e))
+asks_elsewhere source operation e = grind arith
 
 -- a packet that is for the port's own network, and of which anything may be heard, is sent on by nobody
 here_stays : (port : Port) (came sent : List ℕ) (m : Heard) → message_of came ≡ Some m → IsForHere port came → IsOnward port came sent → ⊥
@@ -140,10 +139,7 @@ module _ (net : Internet) (up : ℕ → List ℕ) (server : Server) (Listed : �
         }) entries (all_both None_of Named entries silent listed)
 
     pub silent_waits : (begun : ℕ) (to : Place) (bytes : List ℕ) → Silent bytes → Waits begun to bytes
-    silent_waits begun to bytes silent = record {
-      tells = λ m e. let all = silent m e in told_silent begun to m all.0 all.1 all.2;
-      onward = λ sent on m e. silent m (sent_on_message (port_of net to) bytes sent on m e);
-    }
+    silent_waits begun to bytes silent = grind (arith, told_silent, sent_on_message)
 
     -- ---- what a host says
 
@@ -227,10 +223,7 @@ module _ (net : Internet) (up : ℕ → List ℕ) (server : Server) (Listed : �
 
       read_as_routes : (m : Heard) (r : Result RipParts RipFault)
           → elim r [ Ok rip ↦ Some (HeardRip parts.header.source rip) | Err fault ↦ None ] ≡ Some m → IsAnswering m → Told begun to m
-      read_as_routes m (Err fault) e answers = nothing e
-      read_as_routes m (Ok rip) e answers =
-          it_is (λ (h : Heard). IsAnswering h → Told begun to h) m (HeardRip parts.header.source rip) e
-          (λ is. asks_elsewhere parts.header.source rip.operation is) answers
+      read_as_routes m r e answers = grind arith
 
       page_tells : (m : Heard) → message_of bytes ≡ Some m → Told begun to m
       page_tells m e =
@@ -247,12 +240,7 @@ module _ (net : Internet) (up : ℕ → List ℕ) (server : Server) (Listed : �
           ]
 
       pub own_waits : Waits begun to bytes
-      own_waits = record {
-        tells = page_tells;
-        onward = λ sent on. absurd (no_reply (port_of net to) bytes sent
-            (reply_moves port (port_of net to) bytes reaches.network
-            (sap_reply (ServiceSaid begun from) port (own_services port) is.to is.nearest bytes is.home is.page)) on);
-      }
+      own_waits = search (rules, page_tells, no_reply, reply_moves, sap_reply)
 
     pub spoken_waits : (begun router : ℕ) (s : Sent) (to : Place) → (is_up (up router) s.port ≡ true → Reaches net up (at router s.port) to) → IsSpoken begun router s
         → Waits begun to s.bytes

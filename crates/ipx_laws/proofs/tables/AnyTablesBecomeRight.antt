@@ -1,5 +1,5 @@
 -- From where ticks begin that make all tables right: from any tables, whatever waits first, and from real routes.
-use Rattle.std.proofs.Common.{◌≡◌, subst, ℕ, suc, ◌+◌, ◌<◌, ◌≤◌, List, [], ◌∷◌, length, inl, inr, arith}
+use Rattle.std.proofs.Common.{◌≡◌, subst, ℕ, suc, ◌+◌, ◌<◌, ◌≤◌, List, [], ◌∷◌, length, inl, inr, arith, rules}
 use Rattle.std.specs.List.{AllByRecursion}
 use Rattle.std.proofs.lemmas.Bool.{cases_lt}
 use Rattle.ipx_wire.specs.declared.network.Network.{Network}
@@ -60,8 +60,7 @@ module _ (net : Internet) (laws : Layouts) (is : IsInternet net) (differ : Nodes
     pub from_any : (first : List Step) (ticks : List (List Step)) → ComesToRest net most_routes most_services run first → AllByRecursion LeavesPorts first
         → CalmTicks net most_routes most_services (run_of net most_routes most_services run first) ticks → most_ticks_gone ≤ length ticks
         → AtRest here (length ticks) (ticked net most_routes most_services (run_of net most_routes most_services run first) ticks)
-    from_any first ticks rest leaves calm long =
-        from_none here (run_of net most_routes most_services run first) ticks (begins_after net laws is most_routes most_services run first are rest leaves) calm long
+    from_any first ticks rest leaves calm long = search (rules, from_none, begins_after)
 
     -- where all routes are real, and nothing waits
     pub from_real : (ticks : List (List Step)) → run.waiting ≡ [] → CalmTicks net most_routes most_services run ticks → ((other : ℕ) → other < length net

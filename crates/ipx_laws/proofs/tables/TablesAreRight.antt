@@ -1,14 +1,14 @@
 -- What a table has for a network once every route is of a real way, and once all are right: the route of the least way, for good.
-use Rattle.std.proofs.Common.{◌≡◌, refl, sym, ap, ◌∙◌, subst, ◌⊎◌, ℕ, suc, ◌+◌, ◌<◌, ◌≤◌, ◌==◌, true, false, List, [], ◌∷◌, ◌++◌, length, map, find, Option, None, Some, option_map, inl, inr, arith, is_eq}
+use Rattle.std.proofs.Common.{◌≡◌, refl, sym, ap, ◌∙◌, subst, ◌⊎◌, ℕ, suc, ◌+◌, ◌<◌, ◌≤◌, true, false, List, [], ◌∷◌, ◌++◌, length, find, Option, None, Some, option_map, inl, inr, arith, is_eq, rules}
 use Rattle.std.specs.List.{AllByRecursion}
-use Rattle.std.proofs.lemmas.Bool.{cases_Bool, ne_eqb, both_ways}
+use Rattle.std.proofs.lemmas.Bool.{cases_Bool, both_ways}
 use Rattle.std.proofs.lemmas.Nat.{mod_below}
 use Rattle.ipx_wire.specs.declared.network.Network.{Network}
 use Rattle.ipx_router.specs.Numbers.{period}
-use Rattle.ipx_router.specs.Facts.{route_facts, routes_held, offers}
+use Rattle.ipx_router.specs.Facts.{routes_held, offers}
 use Rattle.ipx_router.specs.History.{History, seconds_run}
 use Rattle.ipx_router.specs.Outgoing.{route_to}
-use Rattle.ipx_router.specs.Routes.{route_reading, network_order}
+use Rattle.ipx_router.specs.Routes.{network_order}
 use Rattle.ipx_router.specs.declared.route_offer.RouteOffer.{RouteOffer}
 use Rattle.ipx_router.proofs.bounds.PacketsOfEachEvent.{network_total}
 use Rattle.ipx_internet.specs.Internet.{Internet, Place, ports_of, port_of}
@@ -27,7 +27,7 @@ use Rattle.ipx_laws.proofs.tables.Given.{Given}
 use Rattle.ipx_laws.proofs.tables.GoodRoutesStay.{right_way, right_node}
 use Rattle.ipx_laws.proofs.tables.LeastWays.{within, on_or_off, OnOrOff, came, same_some}
 use Rattle.ipx_laws.proofs.tables.NoRouteIsBetter.{there_where_up, real_way, none_beats}
-use Rattle.ipx_laws.proofs.tables.RightWithinAMinute.{find_same, find_none, tied, route_of, AtRest, good_then, tick_rests, route_stays, ticks_rest_right}
+use Rattle.ipx_laws.proofs.tables.RightWithinAMinute.{find_none, route_of, AtRest, good_then, tick_rests, route_stays, ticks_rest_right}
 use Rattle.ipx_laws.proofs.tables.RoomForEachNetwork.{real_wanted, same_where_equal}
 use Rattle.ipx_laws.proofs.tables.SaysWhatItKnows.{Wants, wants, SourceOf, found_there}
 use Rattle.ipx_laws.proofs.ticks.RealOrSoonEnded.{Endures}
@@ -35,27 +35,14 @@ use Rattle.ipx_laws.proofs.ticks.TickAfterTick.{CalmTicks}
 
 -- they are at least those after which every route is of a real way, and no more than stated
 pub some_ticks : (o : Option Way) (ticks : ℕ) → ticks_right o ≤ ticks → most_ticks_gone ≤ ticks
-some_ticks None ticks sure = sure
-some_ticks (Some way) ticks sure = elim (cases_Bool (way.hops == 0)) [
-  | inl none ↦ rw none at sure
-  | inr some ↦
-      let more : most_ticks_gone + period ≤ ticks = rw some at sure in
-      omega (arith, more)
-]
+some_ticks o ticks sure = grind arith
 
 pub soon_enough : (o : Option Way) → ticks_right o ≤ most_ticks_right
-soon_enough None = omega arith
-soon_enough (Some way) = elim (cases_Bool (way.hops == 0)) [
-  | inl none ↦ rw none (omega arith)
-  | inr some ↦ rw some (omega arith)
-]
+soon_enough o = grind arith
 
 -- for a way of a hop or more they are all
 pub all_ticks : (way : Way) (ticks : ℕ) → ticks_right (Some way) ≤ ticks → 1 ≤ way.hops → most_ticks_right ≤ ticks
-all_ticks way ticks sure some =
-    let off : (way.hops == 0) ≡ false = ne_eqb way.hops 0 (λ none. omega (arith, none, some)) in
-    let more : most_ticks_gone + period ≤ ticks = rw off at sure in
-    omega (arith, more)
+all_ticks way ticks sure some = grind arith
 
 module _ (given : Given) where
   open given use {net, is, cheap, up, in_ports, most_routes, most_services, network}
@@ -82,10 +69,7 @@ module _ (given : Given) where
     found = find (λ o. is_eq (network_order o.network network)) routes
 
     all_real : AllByRecursion (IsReal net up router) routes
-    all_real =
-        at_last route_reading network_order network_total most_routes (map (λ p. p.route_share) (ports_of net router)) (λ r. r.hops) (λ r. refl)
-        (IsReal net up router)
-        had (route_facts (ports_of net router) history) long endures.routes
+    all_real = search (rules, at_last, network_total)
 
     none_of : ((r : RouteOffer) → IsReal net up router r → r.network ≡ network → ⊥) → found ≡ None
     none_of never =
@@ -156,8 +140,7 @@ module _ (given : Given) where
 
     -- by its number
     pub by_number : route_to (offers (routes_held (ports_of net router) most_routes history)) network.0 ≡ RouteOf run router
-    by_number = find_same (λ r. r.network.0 == network.0) (λ o. is_eq (network_order o.network network)) (λ r. tied r.network.0 network.0)
-        (offers (routes_held (ports_of net router) most_routes history))
+    by_number = grind arith
 
     pub table_is : ticks_right (least_route net up router network) ≤ ticks
         → option_map way_of (route_to (offers (routes_held (ports_of net router) most_routes history)) network.0) ≡ least_route net up router network
@@ -219,9 +202,7 @@ module _ (net : Internet) (most_routes most_services : ℕ) where
       → EachTick net most_routes most_services Is run ticks
       × EachTick net most_routes most_services Is (ticked net most_routes most_services run ticks) further
   parts_of Is run [] further are = (tt, are)
-  parts_of Is run (steps ∷ ticks) further are =
-      let rest = parts_of Is (run_of net most_routes most_services run steps) ticks further are.1 in
-      ((are.0, rest.0), rest.1)
+  parts_of Is run (steps ∷ ticks) further are = grind (arith, parts_of Is (run_of net most_routes most_services run steps) ticks further are.1)
 
   pub ticked_on : (run : Run) (ticks further : List (List Step)) → ticked net most_routes most_services run (ticks ++ further)
       ≡ ticked net most_routes most_services (ticked net most_routes most_services run ticks) further

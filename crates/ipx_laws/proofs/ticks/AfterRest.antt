@@ -1,11 +1,11 @@
 -- After steps that end with nothing that waits, whatever waited before: histories are as they should be, and ports as they were.
-use Rattle.std.proofs.Common.{◌≡◌, sym, ◌∙◌, subst, refl, ℕ, ◌+◌, ◌<◌, false, List, [], ◌∷◌, length, map, arith}
+use Rattle.std.proofs.Common.{◌≡◌, subst, refl, ℕ, ◌+◌, ◌<◌, false, List, [], ◌∷◌, length, arith, rules}
 use Rattle.std.specs.List.{AllByRecursion}
-use Rattle.ipx_router.specs.History.{Event, History, Start, Stop, Second, Packet, PortDown, PortUp, is_start, is_stop, takes_down, brings_up, ports_up}
+use Rattle.ipx_router.specs.History.{Event, History, is_start, is_stop, takes_down, brings_up}
 use Rattle.ipx_router.proofs.histories.OneEventMore.{ports_stay}
-use Rattle.ipx_internet.specs.Internet.{Internet, IsInternet, ports_of}
-use Rattle.ipx_internet.specs.Queue.{Delivery, Queued, history_of, with_event, settled_one}
-use Rattle.ipx_internet.specs.Run.{Step, Happens, Settles, IsStep, AreHistories, Run, forgotten, stepped, run_of}
+use Rattle.ipx_internet.specs.Internet.{Internet, IsInternet}
+use Rattle.ipx_internet.specs.Queue.{Delivery, Queued, with_event, settled_one}
+use Rattle.ipx_internet.specs.Run.{Step, Happens, IsStep, AreHistories, Run, forgotten, stepped, run_of}
 use Rattle.ipx_internet.specs.Ticks.{ticked}
 use Rattle.ipx_internet.proofs.deliveries.QueueOfARun.{deliveries}
 use Rattle.ipx_internet.proofs.packets.SentOnOrReply.{Layouts}
@@ -27,9 +27,7 @@ module _ (net : Internet) (laws : Layouts) (is : IsInternet net) (most_routes mo
     -- an event that changes no port
     stay_so : (histories : List History) (router : ℕ) (event : Event) → router < length histories → is_start event ≡ false → is_stop event ≡ false
         → ((port : ℕ) → takes_down port event ≡ false) → ((port : ℕ) → brings_up port event ≡ false) → Stay histories → Stay (with_event histories router event)
-    stay_so histories router event listed no_start on untaken unbrought stay other =
-        each_so (λ k h. ports_up (ports_of net k) h ≡ up k) histories router event listed other
-        (λ same. ports_stay (ports_of net router) (history_of histories router) event no_start on untaken unbrought ∙ stay router) (λ off. stay other)
+    stay_so histories router event listed no_start on untaken unbrought stay other = search (rules, each_so, ports_stay)
 
     pub record Kept (q : Queued) : Type 0 where
       pub sound : Sound net laws is most_routes most_services q
@@ -37,30 +35,14 @@ module _ (net : Internet) (laws : Layouts) (is : IsInternet net) (most_routes mo
 
     happens_stay : (histories : List History) (router : ℕ) (event : Event) → AreHistories net histories → router < length net → LeavesPorts (Happens router event)
         → Stay histories → Stay (with_event histories router event)
-    happens_stay histories router Second are within leaves stay =
-        let each = are.each in
-        stay_so histories router Second (omega (arith, each, within)) refl refl (λ port. refl) (λ port. refl) stay
-    happens_stay histories router (Packet number bytes) are within leaves stay =
-        let each = are.each in
-        stay_so histories router (Packet number bytes) (omega (arith, each, within)) refl refl (λ port. refl) (λ port. refl) stay
-    happens_stay histories router Start are within leaves stay = absurd leaves
-    happens_stay histories router Stop are within leaves stay = absurd leaves
-    happens_stay histories router (PortDown number) are within leaves stay = absurd leaves
-    happens_stay histories router (PortUp number) are within leaves stay = absurd leaves
+    happens_stay histories router event are within leaves stay = grind (arith, stay_so)
 
     settles_stay : (histories : List History) (queue : List Delivery) → Kept (record { histories = histories; queue = queue })
         → Stay (settled_one net most_routes most_services (record { histories = histories; queue = queue })).histories
-    settles_stay histories [] kept = kept.stay
-    settles_stay histories (d ∷ queue) kept =
-        let each = kept.sound.are.each in
-        let there = router_there net d.to.router d.to.port kept.sound.waits.0.place in
-        stay_so histories d.to.router (Packet d.to.port d.bytes) (omega (arith, each, there)) refl refl (λ port. refl) (λ port. refl) kept.stay
+    settles_stay histories queue kept = grind (arith, router_there, stay_so)
 
     step_stays : (run : Run) (step : Step) → IsStep net step → LeavesPorts step → Kept (forgotten run) → Stay (stepped net most_routes most_services run step).histories
-    step_stays run (Happens router event) is_step leaves kept = happens_stay run.histories router event kept.sound.are is_step.0 leaves kept.stay
-    step_stays run Settles is_step leaves kept =
-        subst (λ (q : Queued). Stay q.histories) (sym (deliveries net most_routes most_services run))
-        (settles_stay run.histories (map (λ w. w.delivery) run.waiting) kept)
+    step_stays run step is_step leaves kept = grind (arith, happens_stay, deliveries, settles_stay)
 
     pub steps_keep : (run : Run) (steps : List Step) → AllByRecursion (IsStep net) steps → AllByRecursion LeavesPorts steps → Kept (forgotten run)
         → Kept (forgotten (run_of net most_routes most_services run steps))

@@ -1,13 +1,13 @@
 -- Ticks in which anything happens, one after the other: each router's records are fine or older by as many seconds as it had, and what
 -- waits was told in this tick.
-use Rattle.std.proofs.Common.{◌≡◌, ◌≢◌, refl, sym, subst, ◌⊎◌, ℕ, suc, ◌+◌, ◌-◌, ◌<◌, ◌≤◌, true, false, List, [], ◌∷◌, ◌++◌, length, map, flat_map, Option, None, IfSome, inl, inr, arith, get_or-set_same, get_or-set_other}
+use Rattle.std.proofs.Common.{◌≡◌, ◌≢◌, refl, sym, subst, ◌⊎◌, ℕ, suc, ◌+◌, ◌-◌, ◌<◌, ◌≤◌, true, List, [], ◌∷◌, ◌++◌, length, map, flat_map, inl, inr, arith, get_or-set_same, get_or-set_other, rules}
 use Rattle.std.specs.List.{AllByRecursion}
-use Rattle.std.proofs.lemmas.Bool.{cases_eq, eq-eqb}
+use Rattle.std.proofs.lemmas.Bool.{cases_eq}
 use Rattle.ipx_wire.specs.Piece.{IsBytes}
 use Rattle.ipx_wire.specs.declared.network.Network.{Network}
 use Rattle.ipx_wire.specs.declared.service.Service.{Service}
 use Rattle.ipx_router.specs.Heard.{Heard}
-use Rattle.ipx_router.specs.History.{Event, History, Start, Stop, Second, Packet, PortDown, PortUp, IsOnPort, IsOfBytes, is_second, ports_up}
+use Rattle.ipx_router.specs.History.{Event, History, Packet, IsOnPort, IsOfBytes, ports_up}
 use Rattle.ipx_router.specs.Port.{Port, port_at, is_up}
 use Rattle.ipx_router.specs.Relays.{Sent}
 use Rattle.ipx_router.proofs.lists.EachElement.{all_both}
@@ -24,48 +24,27 @@ use Rattle.ipx_internet.proofs.packets.SentOnOrReply.{Layouts}
 use Rattle.ipx_internet.proofs.places.OneReceiverOfANode.{ports_at}
 use Rattle.ipx_internet.proofs.rounds.OneRound.{each_delivery}
 use Rattle.ipx_internet.proofs.trees.RunIsALog.{histories_more}
-use Rattle.ipx_laws.specs.Meanwhile.{IsWith, SaysOnly, EachTick}
+use Rattle.ipx_laws.specs.Meanwhile.{SaysOnly, EachTick}
 use Rattle.ipx_laws.specs.Ups.{ups}
 use Rattle.ipx_laws.proofs.records.RecordsGrowOld.{passed}
 use Rattle.ipx_laws.proofs.ticks.AfterEachStep.{AfterEach}
 use Rattle.ipx_laws.proofs.ticks.FineOrSoonEnded.{Said, Tells, EventTells, Abides, abides_first, event_abides}
 use Rattle.ipx_laws.proofs.ticks.SaysFineOrSoonEnded.{event_tells}
-use Rattle.ipx_laws.proofs.ticks.TickAfterTick.{second_here, second_there}
+use Rattle.ipx_laws.proofs.ticks.TickAfterTick.{second_there}
 
 -- ---- seconds that an event has
 
 pub passed_more : (event : Event) (had : ℕ) → passed event had ≡ passed event 0 + had
-passed_more Start had = omega arith
-passed_more Stop had = omega arith
-passed_more Second had = omega arith
-passed_more (Packet number bytes) had = omega arith
-passed_more (PortDown number) had = omega arith
-passed_more (PortUp number) had = omega arith
-
-no_second : (router : ℕ) (event : Event) (rest : List Step) → is_second event ≡ false → seconds_of router (Happens router event ∷ rest) ≡ seconds_of router rest
-no_second router event rest other = let same = eq-eqb router router refl in rw (same, other) refl
+passed_more event had = grind arith
 
 pub own_seconds : (router : ℕ) (event : Event) (rest : List Step) → seconds_of router (Happens router event ∷ rest) ≡ passed event 0 + seconds_of router rest
-own_seconds router Start rest = let e = no_second router Start rest refl in omega (arith, e)
-own_seconds router Stop rest = let e = no_second router Stop rest refl in omega (arith, e)
-own_seconds router Second rest = let e = second_here router rest in omega (arith, e)
-own_seconds router (Packet number bytes) rest = let e = no_second router (Packet number bytes) rest refl in omega (arith, e)
-own_seconds router (PortDown number) rest = let e = no_second router (PortDown number) rest refl in omega (arith, e)
-own_seconds router (PortUp number) rest = let e = no_second router (PortUp number) rest refl in omega (arith, e)
+own_seconds router event rest = grind arith
 
 -- the histories of all routers, where one had an event
 pub each_so : (P : ℕ → History → Type 0) (histories : List History) (router : ℕ) (event : Event) → router < length histories → (other : ℕ)
     → (other ≡ router → P router (history_of histories router ++ event ∷ [])) → (other ≢ router → P other (history_of histories other))
     → P other (history_of (with_event histories router event) other)
-each_so P histories router event listed other here elsewhere = elim (cases_eq other router) [
-  | inl same ↦
-      let now = get_or-set_same histories router (history_of histories router ++ event ∷ []) [] listed in
-      let Q : ℕ → Type 0 = λ k. P k (history_of (with_event histories router event) k) in
-      subst Q (sym same) (subst (λ (h : History). P router h) (sym now) (here same))
-  | inr off ↦
-      let stays = get_or-set_other histories router other (history_of histories router ++ event ∷ []) [] off in
-      subst (λ (h : History). P other h) (sym stays) (elsewhere off)
-]
+each_so P histories router event listed other here elsewhere = grind (arith, cases_eq, get_or-set_same, get_or-set_other)
 
 module _ (IsFine : Network → Type 0) (IsServed : Service → Type 0) (net : Internet) (laws : Layouts) (is : IsInternet net) (most_routes most_services : ℕ) where
   -- the networks of the ports that are up are fine, now, and before and after each of some steps
@@ -116,9 +95,7 @@ module _ (IsFine : Network → Type 0) (IsServed : Service → Type 0) (net : In
     sents = sends_at net most_routes most_services histories router event
 
     listed : router < length histories
-    listed =
-        let each = going.are.each in
-        omega (arith, each, within)
+    listed = grind arith
 
     lasted : Lasts router had past
     lasted =
@@ -129,9 +106,7 @@ module _ (IsFine : Network → Type 0) (IsServed : Service → Type 0) (net : In
     lasts = event_abides IsFine IsServed ports most_routes most_services had ticks (omega arith) past event tells lasted
 
     fine_now : (number : ℕ) → is_up (ports_up ports (past ++ event ∷ [])) number ≡ true → IsFine (port_at ports number).network
-    fine_now number up =
-        let now = get_or-set_same histories router (past ++ event ∷ []) [] listed in
-        stays_now router number (subst (λ (h : History). is_up (ports_up ports h) number ≡ true) (sym now) up)
+    fine_now number up = grind (arith, get_or-set_same, listed)
 
     all_tell : AllByRecursion (λ s. Tells IsFine IsServed ticks s.bytes) sents
     all_tell =
@@ -151,11 +126,7 @@ module _ (IsFine : Network → Type 0) (IsServed : Service → Type 0) (net : In
         sents (all_both (λ s. IsBytes s.bytes) (λ s. Tells IsFine IsServed ticks s.bytes) sents bytes all_tell)
 
     lasts_as : (count : ℕ) → count + rest router ≡ ticks → Lasts router count (past ++ event ∷ [])
-    lasts_as count e =
-        let some = (going.few router within).1 in
-        let more = passed_more event had in
-        let all : count ≡ passed event had = omega (arith, own, e, some, more) in
-        subst (λ (n : ℕ). Lasts router n (past ++ event ∷ [])) (sym all) lasts
+    lasts_as count e = grind (arith, passed_more, passed, lasts)
 
     event_goes : Going ticks rest (queued net most_routes most_services (record { histories = histories; queue = queue }) router event)
     event_goes = record {
@@ -207,10 +178,7 @@ module _ (IsFine : Network → Type 0) (IsServed : Service → Type 0) (net : In
   step_goes : (ticks : ℕ) (step : Step) (rest : List Step) (run : Run) → IsStep net step → StepTells ticks run step → Stays run.histories
       → Stays (stepped net most_routes most_services run step).histories → Going ticks (left_of (step ∷ rest)) (forgotten run)
       → Going ticks (left_of rest) (forgotten (stepped net most_routes most_services run step))
-  step_goes ticks (Happens router event) rest run (within, on, of_bytes) tells stays now going =
-      subst (λ (q : Queued). Going ticks (left_of rest) q) (sym (events net most_routes most_services run router event None))
-      (event_goes ticks run.histories (map (λ w. w.delivery) run.waiting) router event (left_of (Happens router event ∷ rest)) (left_of rest) within on of_bytes tells
-      (own_seconds router event rest) (λ other off. second_there router other event rest off) stays now going)
+  step_goes ticks (Happens router event) rest run (within, on, of_bytes) tells stays now going = search (rules, events, event_goes, own_seconds, second_there)
   step_goes ticks Settles rest run is_step tells stays now going =
       let same = deliveries net most_routes most_services run in
       subst (λ (q : Queued). Going ticks (left_of rest) q) (sym same)
@@ -269,9 +237,7 @@ module _ (IsFine : Network → Type 0) (IsServed : Service → Type 0) (net : In
   pub told_rest : (so_far : ℕ) (run : Run) (ticks : List (List Step)) → Rests so_far run
       → EachTick net most_routes most_services (IsBusyTick net most_routes most_services) run ticks → EachTick net most_routes most_services AlwaysStays run ticks
       → TicksTell so_far run ticks → Rests (length ticks + so_far) (ticked net most_routes most_services run ticks)
-  told_rest so_far run [] rests busy stay tell =
-      let same : so_far ≡ 0 + so_far = omega arith in
-      subst (λ (n : ℕ). Rests n run) same rests
+  told_rest so_far run [] rests busy stay tell = grind arith
   told_rest so_far run (steps ∷ ticks) rests busy stay tell =
       let next = run_of net most_routes most_services run steps in
       let later = told_rest (suc so_far) next ticks (tick_rests so_far run steps rests busy.0 tell.0 stay.0) busy.1 stay.1 tell.1 in
@@ -281,27 +247,13 @@ module _ (IsFine : Network → Type 0) (IsServed : Service → Type 0) (net : In
   -- ---- packets of hosts that do no harm
 
   module _ (Says : Heard → Type 0) (harmless : (ticks : ℕ) (m : Heard) → Says m → Said IsFine IsServed ticks m) where
-    event_says : (ticks : ℕ) (run : Run) (router : ℕ) (event : Event) → IsWith Says event → StepTells ticks run (Happens router event)
-    event_says ticks run router Start says = tt
-    event_says ticks run router Stop says = tt
-    event_says ticks run router Second says = tt
-    event_says ticks run router (Packet number bytes) says = λ accepted m e. harmless ticks m (subst (λ (o : Option Heard). IfSome o Says) e says)
-    event_says ticks run router (PortDown number) says = tt
-    event_says ticks run router (PortUp number) says = tt
-
-    step_says : (ticks : ℕ) (run : Run) (step : Step) → SaysOnly Says step → StepTells ticks run step
-    step_says ticks run (Happens router event) says = event_says ticks run router event says
-    step_says ticks run Settles says = tt
-
     steps_say : (ticks : ℕ) (run : Run) (steps : List Step) → AllByRecursion (SaysOnly Says) steps → StepsTell ticks run steps
     steps_say ticks run [] says = tt
-    steps_say ticks run (step ∷ steps) says =
-        (step_says ticks run step says.0, steps_say ticks (stepped net most_routes most_services run step) steps says.1)
+    steps_say ticks run (step ∷ steps) says = grind (arith, steps_say ticks (stepped net most_routes most_services run step) steps says.1)
 
     pub ticks_say : (so_far : ℕ) (run : Run) (ticks : List (List Step)) → AllByRecursion (AllByRecursion (SaysOnly Says)) ticks → TicksTell so_far run ticks
     ticks_say so_far run [] says = tt
-    ticks_say so_far run (steps ∷ ticks) says =
-        (steps_say (suc so_far) run steps says.0, ticks_say (suc so_far) (run_of net most_routes most_services run steps) ticks says.1)
+    ticks_say so_far run (steps ∷ ticks) says = grind (arith, ticks_say (suc so_far) (run_of net most_routes most_services run steps) ticks says.1, steps_say)
 
     pub ticks_rest : (so_far : ℕ) (run : Run) (ticks : List (List Step)) → Rests so_far run
         → EachTick net most_routes most_services (IsBusyTick net most_routes most_services) run ticks → EachTick net most_routes most_services AlwaysStays run ticks
@@ -309,8 +261,4 @@ module _ (IsFine : Network → Type 0) (IsServed : Service → Type 0) (net : In
     ticks_rest so_far run ticks rests busy stay says = told_rest so_far run ticks rests busy stay (ticks_say so_far run ticks says)
 
   pub quiet_rests : (run : Run) → AreHistories net run.histories → run.waiting ≡ [] → Rests 0 run
-  quiet_rests run are quiet = record {
-    are = are;
-    routers = λ router within. abides_first IsFine IsServed (ports_of net router) most_routes most_services (history_of run.histories router);
-    quiet = quiet;
-  }
+  quiet_rests run are quiet = search (rules, abides_first)

@@ -1,5 +1,5 @@
 -- Where no router has a service, and nothing but ticks happens, none has one after any step.
-use Rattle.std.proofs.Common.{◌≡◌, refl, sym, ap, ◌∙◌, subst, ℕ, suc, ◌+◌, ◌-◌, ◌<◌, ◌≤◌, List, [], ◌∷◌, length, map, inl, arith}
+use Rattle.std.proofs.Common.{◌≡◌, refl, sym, subst, ℕ, suc, ◌+◌, ◌-◌, ◌<◌, ◌≤◌, List, [], ◌∷◌, length, map, inl, arith, rules}
 use Rattle.std.specs.List.{AllByRecursion}
 use Rattle.ipx_table.specs.declared.held.Held.{Held}
 use Rattle.ipx_wire.specs.declared.service.Service.{Service}
@@ -84,10 +84,7 @@ module _ (net : Internet) (laws : Layouts) (is : IsInternet net) (most_routes mo
   pub none_stays : (old : List History) → NoService old → (run : Run) (steps : List Step)
       → AfterEach net most_routes most_services (λ now. NoService now.histories) run steps → ServicesStay net most_routes most_services old run steps
   none_stays old none run [] each = tt
-  none_stays old none run (step ∷ steps) each = (
-    λ router inside. ap offers (each.0 router inside ∙ sym (none router inside)),
-    none_stays old none (stepped net most_routes most_services run step) steps each.1,
-  )
+  none_stays old none run (step ∷ steps) each = grind (arith, none_stays old none (stepped net most_routes most_services run step) steps each.1)
 
   -- ---- ticks in which nothing else happens
 
@@ -113,8 +110,7 @@ module _ (net : Internet) (laws : Layouts) (is : IsInternet net) (most_routes mo
   -- whatever is held at first
   pub from_any : (histories : List History) → AreHistories net histories → (ticks : List (List Step)) → AreTicks net most_routes most_services (begun histories) ticks
       → Rest (length ticks + 0) (ticked net most_routes most_services (begun histories) ticks)
-  from_any histories are ticks passes =
-      rests_on 0 (begun histories) ticks (quiet_rests EveryNetwork Served net laws is most_routes most_services (begun histories) are refl) passes
+  from_any histories are ticks passes = search (rules, rests_on, quiet_rests, EveryNetwork)
 
   -- ---- where no router has a service at first
 

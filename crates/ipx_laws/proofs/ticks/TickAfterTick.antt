@@ -1,6 +1,6 @@
 -- Ticks, one after the other, in which hosts speak and ports stay as they are: each router's routes are older by as many seconds as it had,
 -- and what waits was said in this tick, or tells of no route.
-use Rattle.std.proofs.Common.{◌≡◌, ◌≢◌, refl, sym, ◌∙◌, subst, ◌⊎◌, ℕ, suc, ◌+◌, ◌-◌, ◌<◌, ◌≤◌, ◌==◌, true, false, List, [], ◌∷◌, ◌++◌, length, map, flat_map, Option, Some, None, IfSome, inl, inr, arith, get_or-set_same, get_or-set_other, true≢false}
+use Rattle.std.proofs.Common.{◌≡◌, ◌≢◌, refl, sym, ◌∙◌, subst, ◌⊎◌, ℕ, suc, ◌+◌, ◌-◌, ◌<◌, ◌≤◌, ◌==◌, true, false, List, [], ◌∷◌, ◌++◌, length, map, flat_map, Option, Some, IfSome, inl, inr, arith, get_or-set_same, get_or-set_other, rules}
 use Rattle.std.specs.List.{AllByRecursion}
 use Rattle.std.proofs.lemmas.Bool.{cases_eq, eq-eqb, ne_eqb}
 use Rattle.ipx_wire.specs.Piece.{IsBytes}
@@ -62,22 +62,13 @@ module _ (net : Internet) (most_routes most_services : ℕ) where
   pub calm_ticks : (run : Run) (ticks : List (List Step)) → AreCalmTicks net most_routes most_services run ticks
       → CalmTicks net most_routes most_services run ticks
   calm_ticks run [] ((busy, leave), says) = tt
-  calm_ticks run (steps ∷ ticks) ((busy, leave), says) = (
-    record { busy = busy.0; leaves = leave.0; says = says.0 },
-    calm_ticks (run_of net most_routes most_services run steps) ticks ((busy.1, leave.1), says.1),
-  )
+  calm_ticks run (steps ∷ ticks) ((busy, leave), says) = grind (arith, calm_ticks (run_of net most_routes most_services run steps) ticks ((busy.1, leave.1), says.1))
 
   -- ---- ticks in which nothing else happens
 
   -- a step of such a tick is a second or a delivery
   second_or_delivery : (P : Step → Type 0) → ((router : ℕ) → router < length net → P (Happens router Second)) → P Settles → (step : Step) → IsOfTick net step → P step
-  second_or_delivery P second delivery (Happens router Second) is = second router is.0
-  second_or_delivery P second delivery (Happens router Start) is = absurd (true≢false (sym is.1))
-  second_or_delivery P second delivery (Happens router Stop) is = absurd (true≢false (sym is.1))
-  second_or_delivery P second delivery (Happens router (Packet number bytes)) is = absurd (true≢false (sym is.1))
-  second_or_delivery P second delivery (Happens router (PortDown number)) is = absurd (true≢false (sym is.1))
-  second_or_delivery P second delivery (Happens router (PortUp number)) is = absurd (true≢false (sym is.1))
-  second_or_delivery P second delivery Settles is = delivery
+  second_or_delivery P second delivery step is = grind arith
 
   -- it says nothing
   says_nothing : (Says : Heard → Type 0) (steps : List Step) → AllByRecursion (IsOfTick net) steps → AllByRecursion (SaysOnly Says) steps
@@ -86,17 +77,12 @@ module _ (net : Internet) (most_routes most_services : ℕ) where
   pub all_say_nothing : (Says : Heard → Type 0) (run : Run) (ticks : List (List Step)) → AreTicks net most_routes most_services run ticks
       → AllByRecursion (AllByRecursion (SaysOnly Says)) ticks
   all_say_nothing Says run [] are = tt
-  all_say_nothing Says run (steps ∷ ticks) are =
-      (says_nothing Says steps are.0.passes, all_say_nothing Says (run_of net most_routes most_services run steps) ticks are.1)
+  all_say_nothing Says run (steps ∷ ticks) are = search (rules, all_say_nothing Says (run_of net most_routes most_services run steps) ticks are.1, says_nothing)
 
   pub ticks_of_hosts : (run : Run) (ticks : List (List Step)) → AreTicks net most_routes most_services run ticks
       → AreTicksOfHosts net most_routes most_services run ticks
   ticks_of_hosts run [] are = (tt, tt)
-  ticks_of_hosts run (steps ∷ ticks) are =
-      let (busy, leave) = ticks_of_hosts (run_of net most_routes most_services run steps) ticks are.1 in
-      let happens = all_then (IsOfTick net) (IsStep net) (second_or_delivery (IsStep net) (λ router within. (within, tt, tt)) tt) steps are.0.passes in
-      let leaves = all_then (IsOfTick net) LeavesPorts (second_or_delivery LeavesPorts (λ router within. tt) tt) steps are.0.passes in
-      ((record { happens = happens; each = are.0.each; quiet = are.0.quiet }, busy), (leaves, leave))
+  ticks_of_hosts run (steps ∷ ticks) are = grind (arith, ticks_of_hosts (run_of net most_routes most_services run steps) ticks are.1, all_then, second_or_delivery)
 
   pub ticks_are_calm : (run : Run) (ticks : List (List Step)) → AreTicks net most_routes most_services run ticks
       → AreCalmTicks net most_routes most_services run ticks
@@ -174,22 +160,15 @@ module _ (net : Internet) (laws : Layouts) (is : IsInternet net) (most_routes mo
         going.routers router had within (omega (arith, some))
 
     pub soon : ticks ≤ had + 1
-    soon =
-        let few = (going.few router within).0 in
-        omega (arith, few)
+    soon = grind arith
 
     module _ (own : left router ≡ passed event 0 + rest router) (more : passed event had ≡ passed event 0 + had) (lasts : Lasts router (passed event had) now)
         (spoken : AllByRecursion (IsSpoken (up router) Told ports) (sends_at net most_routes most_services histories router event)) where
       listed : router < length histories
-      listed =
-          let each = going.are.each in
-          omega (arith, each, within)
+      listed = grind arith
 
       lasts_as : (count : ℕ) → count + rest router ≡ ticks → Lasts router count now
-      lasts_as count e =
-          let some = (going.few router within).1 in
-          let all : count ≡ passed event had = omega (arith, own, e, some, more) in
-          subst (λ (n : ℕ). Lasts router n now) (sym all) lasts
+      lasts_as count e = grind arith
 
       each_lasts : (other count : ℕ) → other < length net → count + rest other ≡ ticks → Lasts other count (history_of (with_event histories router event) other)
       each_lasts other count inside e = elim (cases_eq other router) [
@@ -205,10 +184,7 @@ module _ (net : Internet) (laws : Layouts) (is : IsInternet net) (most_routes mo
       ]
 
       fewer : (other : ℕ) → (left other ≤ 1) × (left other ≤ ticks) → (other ≡ router) ⊎ (other ≢ router) → (rest other ≤ 1) × (rest other ≤ ticks)
-      fewer other (one, some) (inl same) =
-          let own_other : left other ≡ passed event 0 + rest other = subst (λ (k : ℕ). left k ≡ passed event 0 + rest k) (sym same) own in
-          (omega (arith, own_other, one), omega (arith, own_other, some))
-      fewer other (one, some) (inr off) = let same = others other off in (omega (arith, same, one), omega (arith, same, some))
+      fewer other given given_2 = grind arith
 
       pub event_goes : Going ticks rest (queued net most_routes most_services (record { histories = histories; queue = queue }) router event)
       event_goes = record {
@@ -367,8 +343,7 @@ module _ (net : Internet) (laws : Layouts) (is : IsInternet net) (most_routes mo
   module _ (Goes : (ℕ → ℕ) → Queued → Type 0) (kept : IsKept Goes) where
     settles : (left : ℕ → ℕ) (histories : List History) (queue : List Delivery) → Goes left (record { histories = histories; queue = queue })
         → Goes left (settled_one net most_routes most_services (record { histories = histories; queue = queue }))
-    settles left histories [] goes = goes
-    settles left histories (d ∷ queue) goes = kept.delivery histories queue d left goes
+    settles left histories queue goes = grind arith
 
     happens_so : (rest : List Step) (q : Queued) (router : ℕ) (event : Event) → IsStep net (Happens router event) → LeavesPorts (Happens router event)
         → SaysOnly TellsNoRoute (Happens router event) → Goes (left_of (Happens router event ∷ rest)) q
@@ -391,19 +366,14 @@ module _ (net : Internet) (laws : Layouts) (is : IsInternet net) (most_routes mo
 
     pub step_so : (step : Step) (rest : List Step) (run : Run) → IsStep net step → LeavesPorts step → SaysOnly TellsNoRoute step
         → Goes (left_of (step ∷ rest)) (forgotten run) → Goes (left_of rest) (forgotten (stepped net most_routes most_services run step))
-    step_so (Happens router event) rest run is_step leaves says goes =
-        subst (λ (q : Queued). Goes (left_of rest) q) (sym (events net most_routes most_services run router event None))
-        (happens_so rest (forgotten run) router event is_step leaves says goes)
-    step_so Settles rest run is_step leaves says goes =
-        subst (λ (q : Queued). Goes (left_of rest) q) (sym (deliveries net most_routes most_services run))
-        (settles (left_of rest) run.histories (map (λ w. w.delivery) run.waiting) goes)
+    step_so (Happens router event) rest run is_step leaves says goes = search (rules, events, happens_so)
+    step_so Settles rest run is_step leaves says goes = grind (arith, deliveries, settles)
 
     pub steps_so : (steps : List Step) (run : Run) → AllByRecursion (IsStep net) steps → AllByRecursion LeavesPorts steps
         → AllByRecursion (SaysOnly TellsNoRoute) steps → Goes (left_of steps) (forgotten run)
         → Goes (left_of []) (forgotten (run_of net most_routes most_services run steps))
     steps_so [] run all leave say goes = goes
-    steps_so (step ∷ steps) run all leave say goes =
-        steps_so steps (stepped net most_routes most_services run step) all.1 leave.1 say.1 (step_so step steps run all.0 leave.0 say.0 goes)
+    steps_so (step ∷ steps) run all leave say goes = grind (arith, steps_so steps (stepped net most_routes most_services run step) all.1 leave.1 say.1 (step_so step steps run all.0 leave.0 say.0 goes))
 
   pub going_kept : (ticks : ℕ) → IsKept (Going ticks)
   going_kept ticks = record {
@@ -467,9 +437,7 @@ module _ (net : Internet) (laws : Layouts) (is : IsInternet net) (most_routes mo
 
   pub ticks_rest : (so_far : ℕ) (run : Run) (ticks : List (List Step)) → Rests so_far run → CalmTicks net most_routes most_services run ticks
       → Rests (length ticks + so_far) (ticked net most_routes most_services run ticks)
-  ticks_rest so_far run [] rests are =
-      let same : so_far ≡ 0 + so_far = omega arith in
-      subst (λ (n : ℕ). Rests n run) same rests
+  ticks_rest so_far run [] rests are = grind arith
   ticks_rest so_far run (steps ∷ ticks) rests are =
       let next = run_of net most_routes most_services run steps in
       let later = ticks_rest (suc so_far) next ticks (tick_rests so_far run steps rests are.0) are.1 in
@@ -477,11 +445,7 @@ module _ (net : Internet) (laws : Layouts) (is : IsInternet net) (most_routes mo
       subst (λ (n : ℕ). Rests n (ticked net most_routes most_services next ticks)) same later
 
   pub quiet_rests : (run : Run) → AreHistories net run.histories → ((router : ℕ) → ups net run.histories router ≡ up router) → run.waiting ≡ [] → Rests 0 run
-  quiet_rests run are same quiet = record {
-    are = are;
-    routers = λ router within. at_begin net up most_routes router (history_of run.histories router) (same router);
-    quiet = quiet;
-  }
+  quiet_rests run are same quiet = search (rules, at_begin)
 
   -- after ticks from there
   pub rested : (run : Run) (ticks : List (List Step)) → AreHistories net run.histories → ((router : ℕ) → ups net run.histories router ≡ up router)

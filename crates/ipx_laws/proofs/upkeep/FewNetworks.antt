@@ -1,5 +1,5 @@
 -- A router of which every route is real advertises fewer networks than the internet has.
-use Rattle.std.proofs.Common.{◌≡◌, ◌≢◌, refl, sym, ap, subst, ℕ, ◌<◌, true, false, List, [], ◌∷◌, ◌++◌, length, map, arith, length-append}
+use Rattle.std.proofs.Common.{◌≡◌, ◌≢◌, refl, ap, ℕ, ◌<◌, true, false, List, [], ◌∷◌, ◌++◌, length, map, arith, length-append}
 use Rattle.std.specs.List.{AllByRecursion}
 use Rattle.std.specs.List.Sorted.{IsStrictlyIncreasing}
 use Rattle.std.proofs.lemmas.Bool.{both_ways}
@@ -52,9 +52,7 @@ module _ (net : Internet) (is : IsInternet net) (up : ℕ → List ℕ) (in_port
   numbers_same (r ∷ routes) = ap (λ (ns : List ℕ). r.network.0 ∷ ns) (numbers_same routes)
 
   routes_apart : (routes : List RouteOffer) → IsStrictlyIncreasing (map (λ r. r.network.0) routes) → AreDifferent (map (λ (r : RouteOffer). r.network) routes)
-  routes_apart routes rise =
-      differ-unmap (λ (n : Network). n.0) (map (λ (r : RouteOffer). r.network) routes)
-      (subst (λ (ns : List ℕ). AreDifferent ns) (sym (numbers_same routes)) (rising_differ (map (λ r. r.network.0) routes) rise))
+  routes_apart routes rise = grind (arith, differ-unmap, numbers_same, rising_differ)
 
   pub fewer : (routes : List RouteOffer) → IsStrictlyIncreasing (map (λ r. r.network.0) routes) → AllByRecursion (IsReal net up router) routes
       → AreDifferent (up router) → (number : ℕ) → is_up (up router) number ≡ true

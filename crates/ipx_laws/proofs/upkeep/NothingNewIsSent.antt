@@ -1,5 +1,5 @@
 -- What one event sends where the tables are the same after it: at a periodic second all that is advertised, and else nothing.
-use Rattle.std.proofs.Common.{◌≡◌, refl, sym, ap, ◌∙◌, subst, ◌⊎◌, ℕ, ◌<◌, ◌==◌, ◌||◌, Bool, true, false, not, if◌then◌else◌, List, [], ◌∷◌, ◌++◌, length, flat_map, Option, Some, None, inl, inr, true≢false}
+use Rattle.std.proofs.Common.{◌≡◌, refl, sym, ap, ◌∙◌, subst, ◌⊎◌, ℕ, ◌<◌, ◌==◌, ◌||◌, Bool, true, false, not, if◌then◌else◌, List, [], ◌∷◌, ◌++◌, length, flat_map, Option, Some, None, inl, inr, true≢false, arith}
 use Rattle.std.specs.List.{AllByRecursion}
 use Rattle.std.proofs.lemmas.Bool.{cases_Bool, and_parts, both_ways, eq-eqb, or_right}
 use Rattle.ipx_wire.specs.Packet.{Parts, packet_of}
@@ -7,20 +7,17 @@ use Rattle.ipx_wire.specs.Piece.{IsBytes}
 use Rattle.ipx_wire.specs.declared.network.Network.{Network}
 use Rattle.ipx_wire.specs.declared.rip.Operation.{Operation}
 use Rattle.ipx_wire.specs.declared.rip.Operation.TheVariants.{Request, Response}
-use Rattle.ipx_wire.specs.declared.rip.RipEntry.{RipEntry}
 use Rattle.ipx_wire.specs.declared.sap.Sap.TheVariants.{Query, Response as SapResponse}
-use Rattle.ipx_wire.specs.declared.service.Service.{Service}
 use Rattle.ipx_router.specs.Facts.{heard_after}
 use Rattle.ipx_router.specs.Heard.{Heard, HeardRip, HeardSap, heard_in}
 use Rattle.ipx_router.specs.History.{History, Second, Packet, IsOnPort, IsOfBytes, running}
 use Rattle.ipx_router.specs.News.{news, news_services}
 use Rattle.ipx_router.specs.Port.{Port, IsPort, port_at, is_local, reply_to}
 use Rattle.ipx_router.specs.Relays.{Sent}
-use Rattle.ipx_router.specs.Sends.{Holding, holding, sends, is_periodic, second_on, broadcasts, news_on, heard_sends, rip_sends, asked}
-use Rattle.ipx_router.specs.Told.{by_network, by_name, told, told_services}
+use Rattle.ipx_router.specs.Sends.{Holding, holding, sends, is_periodic, second_on, news_on, heard_sends, rip_sends, asked}
+use Rattle.ipx_router.specs.Told.{told}
 use Rattle.ipx_router.specs.Why.{is_propagated, is_far, is_for_rip, is_for_sap}
 use Rattle.ipx_router.specs.declared.route_offer.RouteOffer.{RouteOffer}
-use Rattle.ipx_router.specs.declared.service_offer.ServiceOffer.{ServiceOffer}
 use Rattle.ipx_router.proofs.bytes.ReadInOneWay.{one_read}
 use Rattle.ipx_router.proofs.ended.EndedRises.{told_with, services_with}
 use Rattle.ipx_router.proofs.telling.LawsOfTold.{no_route_news, no_service_news}
@@ -85,25 +82,15 @@ module _ (ports : List Port) (before after : Holding) (routes : after.routes ≡
   no_news j = subst (λ (rs : List RouteOffer). news ports before.routes rs j ≡ []) (sym routes) (no_route_news ports before.routes j)
 
   no_more_services : (j : ℕ) → news_services before.services after.services j ≡ []
-  no_more_services j =
-      subst (λ (ss : List ServiceOffer). news_services before.services ss j ≡ []) (sym services) (no_service_news before.services j)
+  no_more_services j = grind (arith, no_service_news)
 
   -- no news are sent
   pub no_news_on : (j : ℕ) → news_on ports before after j ≡ []
-  no_news_on j =
-      ap (λ (entries : List RipEntry). broadcasts ports j entries (news_services before.services after.services j)) (no_news j)
-      ∙ ap (λ (ss : List Service). broadcasts ports j [] ss) (no_more_services j)
+  no_news_on j = grind (arith, no_news, no_more_services)
 
   -- at a second, all or nothing
   pub second_is : (periodic : Bool) (j : ℕ) → second_on ports before after periodic j ≡ (if periodic then all_pages ports after j else [])
-  second_is false j = no_news_on j
-  second_is true j =
-      let entries = told ports after.up after.routes j in
-      let named = told_services after.services j in
-      ap (λ (es : List RipEntry). broadcasts ports j (by_network (entries ++ es)) (by_name (named ++ news_services before.services after.services j))) (no_news j)
-      ∙ ap (λ (ss : List Service). broadcasts ports j (by_network (entries ++ [])) (by_name (named ++ ss))) (no_more_services j)
-      ∙ ap (λ (es : List RipEntry). broadcasts ports j es (by_name (named ++ []))) (told_with ports after.up after.routes j [])
-      ∙ ap (λ (ss : List Service). broadcasts ports j entries ss) (services_with after.services j [])
+  second_is periodic j = grind (arith, no_news_on, no_news, no_more_services, told_with, services_with)
 
   -- for what asks nothing, nothing
   pub none_for : (number : ℕ) (m : Heard) → AsksNothing m → heard_sends ports before after number m ≡ []

@@ -1,20 +1,18 @@
 -- Step by step, while tables stay: what waits asks nothing, and in a period a router sends once all that it advertises.
-use Rattle.std.proofs.Common.{◌≡◌, ◌≢◌, refl, sym, ap, ◌∙◌, subst, ℕ, suc, ◌+◌, ◌*◌, ◌%◌, ◌<◌, ◌≤◌, ◌==◌, ◌&&◌, nat_lt, Bool, true, false, if◌then◌else◌, List, [], ◌∷◌, ◌++◌, length, map, filter, flat_map, Option, None, inl, inr, arith, true≢false, append-nil, length-append, get_or-set_same, get_or-set_other}
+use Rattle.std.proofs.Common.{◌≡◌, ◌≢◌, refl, sym, ap, ◌∙◌, subst, ℕ, suc, ◌+◌, ◌*◌, ◌%◌, ◌<◌, ◌≤◌, ◌==◌, ◌&&◌, nat_lt, Bool, true, false, if◌then◌else◌, List, [], ◌∷◌, ◌++◌, length, map, filter, flat_map, Option, None, inl, inr, arith, true≢false, append-nil, length-append, get_or-set_same, get_or-set_other, rules}
 use Rattle.std.specs.List.{AllByRecursion}
-use Rattle.std.proofs.lemmas.Bool.{cases_Bool, cases_eq, eq-eqb, ne_eqb, lt-ltb, le-ltb}
+use Rattle.std.proofs.lemmas.Bool.{cases_eq, eq-eqb, ne_eqb, lt-ltb, le-ltb}
 use Rattle.std.proofs.lemmas.List.{map-append}
 use Rattle.std.proofs.lemmas.List.Elements.{filter-append}
 use Rattle.std.proofs.lemmas.Nat.{mod_below}
 use Rattle.ipx_wire.specs.Piece.{IsBytes}
-use Rattle.ipx_wire.specs.declared.rip.Operation.TheVariants.{Response}
 use Rattle.ipx_wire.specs.declared.rip.RipEntry.{RipEntry}
 use Rattle.ipx_wire.specs.declared.service.Service.{Service}
-use Rattle.ipx_router.specs.History.{Event, History, Start, Stop, Second, Packet, PortDown, PortUp, IsOnPort, IsOfBytes, is_second, present_run, seconds_run, running, ports_up}
-use Rattle.ipx_router.specs.Numbers.{entries_a_page, services_a_page, period}
-use Rattle.ipx_router.specs.Pages.{pages}
-use Rattle.ipx_router.specs.Port.{Port, port_at, is_up, everyone, every_server}
+use Rattle.ipx_router.specs.History.{Event, History, Start, Stop, Second, Packet, PortDown, PortUp, IsOnPort, IsOfBytes, seconds_run, running, ports_up}
+use Rattle.ipx_router.specs.Numbers.{period}
+use Rattle.ipx_router.specs.Port.{Port, is_up}
 use Rattle.ipx_router.specs.Relays.{Sent}
-use Rattle.ipx_router.specs.Sends.{Holding, holding, entries_sent, services_sent, rip_broadcast, sap_broadcast, broadcasts, is_periodic}
+use Rattle.ipx_router.specs.Sends.{Holding, holding, broadcasts, is_periodic}
 use Rattle.ipx_router.specs.Told.{told, told_services}
 use Rattle.ipx_router.specs.declared.route_offer.RouteOffer.{RouteOffer}
 use Rattle.ipx_router.specs.declared.service_offer.ServiceOffer.{ServiceOffer}
@@ -51,14 +49,7 @@ on_port number sents = filter (λ s. s.port == number) sents
 
 module _ (ports : List Port) (has : Holding) where
   all_there : (j : ℕ) → AllByRecursion (λ s. s.port ≡ j) (all_pages ports has j)
-  all_there j =
-      let entries = told ports has.up has.routes j in
-      let services = told_services has.services j in
-      all-append (λ s. s.port ≡ j) (rip_broadcast ports j entries) (sap_broadcast ports j services)
-      (all_mapped (λ s. s.port ≡ j) (λ page. entries_sent ports j (everyone (port_at ports j)) Response page) (pages entries_a_page entries)
-      (all_of (λ page. j ≡ j) (λ page. refl) (pages entries_a_page entries)))
-      (all_mapped (λ s. s.port ≡ j) (λ page. services_sent ports j (every_server (port_at ports j)) false page) (pages services_a_page services)
-      (all_of (λ page. j ≡ j) (λ page. refl) (pages services_a_page services)))
+  all_there j = search (rules, all-append, all_mapped, all_of)
 
 here_kept : (number : ℕ) (sents : List Sent) → AllByRecursion (λ s. s.port ≡ number) sents → on_port number sents ≡ sents
 here_kept number [] all = refl
@@ -106,12 +97,7 @@ sent_more router number ds es =
 module _ (router number : ℕ) (routes : List RouteOffer) where
   own_sent : (sents : List Sent) → sent_by router number (map (λ s. record { router = router; sent = s; routes = routes }) sents) ≡ on_port number sents
   own_sent [] = refl
-  own_sent (s ∷ sents) =
-      let here = eq-eqb router router refl in
-      elim (cases_Bool (s.port == number)) [
-        | inl e ↦ rw (here, e) (ap (λ (ss : List Sent). s ∷ ss) (own_sent sents))
-        | inr e ↦ rw (here, e) (own_sent sents)
-      ]
+  own_sent (s ∷ sents) = grind (arith, own_sent sents)
 
   other_sent : (other : ℕ) → other ≢ router → (sents : List Sent)
       → sent_by router number (map (λ s. record { router = other; sent = s; routes = routes }) sents) ≡ []
@@ -150,17 +136,11 @@ all_same ports h k j up routes services =
 
 -- one second more
 one_more : (past : History) → running past ≡ true → seconds_run (past ++ Second ∷ []) ≡ seconds_run past + 1
-one_more past runs =
-    ap (λ (events : List Event). length (filter is_second events)) (present_run-more past Second refl runs)
-    ∙ ap length (filter-append is_second (present_run past) (Second ∷ []))
-    ∙ length-append (filter is_second (present_run past)) (Second ∷ [])
+one_more past runs = grind (arith, events, present_run-more, filter-append, length-append)
 
 -- a clock is at most one further
 mod_step : (n : ℕ) → (n + 1) % period ≤ n % period + 1
-mod_step n = elim (cases_eq (n % period + 1) period) [
-  | inl last ↦ omega (arith, last)
-  | inr other ↦ let below = mod_below n period (omega arith) in omega (arith, other, below)
-]
+mod_step n = grind arith
 
 module _ (net : Internet) (laws : Layouts) (is : IsInternet net) (most_routes most_services : ℕ) (old : List History) where
   abbrev pub Calm : Delivery → Type 0
@@ -212,12 +192,7 @@ module _ (net : Internet) (laws : Layouts) (is : IsInternet net) (most_routes mo
       keeps_next : IsOnPort own event → IsOfBytes event → ports_up own now ≡ ports_up own past → (sents : List Sent)
           → AllByRecursion Calm (flat_map (deliveries_of net x) sents)
           → Keeps (with_event histories x event) (queue ++ flat_map (deliveries_of net x) sents)
-      keeps_next on of_bytes stay sents calm = record {
-        are = histories_more net histories x event keeps.are within on of_bytes;
-        calm = all-append Calm queue (flat_map (deliveries_of net x) sents) keeps.calm calm;
-        same = same;
-        ports = λ other. each_so (λ r h. ports_up (ports_of net r) h ≡ ups net old r) histories x event listed other (λ e. stay ∙ keeps.ports x) (λ off. keeps.ports other);
-      }
+      keeps_next on of_bytes stay sents calm = search (rules, histories_more, all-append, each_so, listed)
 
     -- ---- a second
 
@@ -377,18 +352,10 @@ module _ (net : Internet) (laws : Layouts) (is : IsInternet net) (most_routes mo
 
     -- its clock stands between seconds
     runs_now : (histories : List History) (queue : List Delivery) → Keeps histories queue → running (history_of histories router) ≡ true
-    runs_now histories queue keeps = elim (cases_Bool (running (history_of histories router))) [
-      | inl runs ↦ runs
-      | inr stopped ↦
-          let none = sym (none_up (ports_of net router) (history_of histories router) stopped) ∙ keeps.ports router in
-          absurd (true≢false (sym (subst (λ (us : List ℕ). is_up us number ≡ true) (sym none) on)))
-    ]
+    runs_now histories queue keeps = grind (arith, none_up)
 
     no_second : (x n : ℕ) (bytes : List ℕ) (rest : List Step) → seconds_of router (Happens x (Packet n bytes) ∷ rest) ≡ seconds_of router rest
-    no_second x n bytes rest = elim (cases_Bool (x == router)) [
-      | inl e ↦ rw e refl
-      | inr e ↦ rw e refl
-    ]
+    no_second x n bytes rest = grind arith
 
     -- what is so of the rest of the steps
     abbrev Goes : Run → List Step → Type 0

@@ -14,7 +14,7 @@ use Rattle.ipx_wire.specs.declared.rip.RipEntry.{RipEntry}
 use Rattle.ipx_wire.specs.declared.service.Service.{Service}
 use Rattle.ipx_router.specs.Numbers.{entries_a_page, services_a_page}
 use Rattle.ipx_router.specs.Pages.{pages_from, pages, sheets}
-use Rattle.ipx_router.specs.Port.{Port, IsPort, port_at, own_address, everyone, own_services, every_server}
+use Rattle.ipx_router.specs.Port.{Port, IsPort, port_at, everyone, every_server}
 use Rattle.ipx_router.specs.Relays.{Sent}
 use Rattle.ipx_router.specs.Sends.{entries_sent, services_sent, rip_broadcast, sap_broadcast, broadcasts}
 use Rattle.ipx_router.proofs.lists.ItemsOfPages.{IsPage, all_pages}
@@ -61,32 +61,16 @@ full_pages n page (x ∷ xs) some few = elim (cases_lt (length page) n) [
 ]
 
 fifty : {X : Type 0} (xs : List X) → length (pages entries_a_page xs) ≡ sheets entries_a_page (length xs)
-fifty xs =
-    let both = full_pages 50 [] xs (omega arith) (omega arith) in
-    let most = both.0 in
-    let least = both.1 in
-    omega (arith, most, least)
+fifty xs = omega (arith, full_pages)
 
 seven : {X : Type 0} (xs : List X) → length (pages services_a_page xs) ≡ sheets services_a_page (length xs)
-seven xs =
-    let both = full_pages 7 [] xs (omega arith) (omega arith) in
-    let most = both.0 in
-    let least = both.1 in
-    omega (arith, most, least)
+seven xs = omega (arith, full_pages)
 
 -- ---- broadcasts
 
 pub counted : (ports : List Port) (number : ℕ) (entries : List RipEntry) (services : List Service)
     → length (broadcasts ports number entries services) ≡ upkeep_packets (length entries) (length services)
-counted ports number entries services =
-    let rips = pages entries_a_page entries in
-    let saps = pages services_a_page services in
-    let all : length (broadcasts ports number entries services) ≡ length (rip_broadcast ports number entries) + length (sap_broadcast ports number services) =
-    length-append (rip_broadcast ports number entries) (sap_broadcast ports number services) in
-    let rip : length (rip_broadcast ports number entries) ≡ length rips = length-map rips (entries_sent ports number (everyone (port_at ports number)) Response) in
-    let sap : length (sap_broadcast ports number services) ≡ length saps = length-map saps (services_sent ports number (every_server (port_at ports number)) false) in
-    all ∙ ap (λ n. n + length (sap_broadcast ports number services)) (rip ∙ fifty entries)
-    ∙ ap (λ n. sheets entries_a_page (length entries) + n) (sap ∙ seven services)
+counted ports number entries services = grind (arith, length-append, length-map, fifty, seven)
 
 -- how long each packet is
 pub record Sizes : Type 0 where
@@ -102,22 +86,12 @@ module _ (sizes : Sizes) (ports : List Port) (number : ℕ) (is : IsPort (port_a
   rip_bytes : (ps : List (List RipEntry))
       → sum_by (λ s. length s.bytes) (map (entries_sent ports number (everyone port) Response) ps) ≡ 32 * length ps + 8 * sum_by (λ p. length p) ps
   rip_bytes [] = refl
-  rip_bytes (p ∷ ps) =
-      let here = sizes.rip (own_address port) (everyone port) Response p (own_is port is).ranges (everyone_is port is).ranges in
-      let rest = rip_bytes ps in
-      let first = sum_by-cons (λ (s : Sent). length s.bytes) (entries_sent ports number (everyone port) Response p) (map (entries_sent ports number (everyone port) Response) ps) in
-      let items = sum_by-cons (λ (q : List RipEntry). length q) p ps in
-      omega (arith, here, rest, first, items)
+  rip_bytes (p ∷ ps) = omega (arith, rip_bytes ps, own_is, everyone_is, sum_by-cons)
 
   sap_bytes : (ps : List (List Service)) → AllByRecursion (IsPage services_a_page IsService) ps
       → sum_by (λ s. length s.bytes) (map (services_sent ports number (every_server port) false) ps) ≡ 32 * length ps + 64 * sum_by (λ p. length p) ps
   sap_bytes [] all = refl
-  sap_bytes (p ∷ ps) all =
-      let here = sizes.sap (own_services port) (every_server port) false p (services_is port is).ranges (every_server_is port is).ranges all.0.each in
-      let rest = sap_bytes ps all.1 in
-      let first = sum_by-cons (λ (s : Sent). length s.bytes) (services_sent ports number (every_server port) false p) (map (services_sent ports number (every_server port) false) ps) in
-      let items = sum_by-cons (λ (q : List Service). length q) p ps in
-      omega (arith, here, rest, first, items)
+  sap_bytes (p ∷ ps) all = omega (arith, sap_bytes ps all.1, services_is, every_server_is, sum_by-cons)
 
   pub sized : (entries : List RipEntry) (services : List Service) → AllByRecursion IsService services
       → sum_by (λ s. length s.bytes) (broadcasts ports number entries services) ≡ upkeep_bytes (length entries) (length services)
