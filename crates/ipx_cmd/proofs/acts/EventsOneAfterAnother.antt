@@ -1,11 +1,10 @@
 -- Events that happen to the routers of an internet, one after the other.
-use Rattle.std.proofs.Common.{◌≡◌, ℕ, suc, ◌+◌, ◌≤◌, List, [], ◌∷◌, ◌++◌, length, map, replicate, refl, sym, ap, subst, ◌∙◌, arith, append-nil, Result, Ok, Err, OnOk}
-use Rattle.std.proofs.lemmas.Grind.{flat_map-append}
+use Rattle.std.proofs.Common.{◌≡◌, ℕ, suc, ◌+◌, ◌≤◌, List, [], ◌∷◌, ◌++◌, length, replicate, refl, sym, ap, subst, arith, append-nil, Result, OnOk, rules}
+use Rattle.std.proofs.lemmas.Grind.{flat_map-append, common_steps}
 use Rattle.std.proofs.lemmas.List.{length-map, map-append, replicate_more}
 use Rattle.std.specs.List.{flat_map}
 use Rattle.ipx_router.specs.History.{Event, Second}
 use Rattle.ipx_router.specs.Port.{numbers}
-use Rattle.ipx_router.specs.Stands.{State}
 use Rattle.ipx_internet.specs.Internet.{Internet}
 use Rattle.ipx_internet.specs.Moment.{Moment, StandsFor, net_at}
 use Rattle.ipx_internet.specs.Queue.{Queued, queued}
@@ -25,12 +24,7 @@ pub nothing_happened : (m : Moment) → HappenedTo m m []
 nothing_happened m = record { net = refl; stands = λ q stands. stands }
 
 pub happened_then : (old mid now : Moment) (before after : List (ℕ × Event)) → HappenedTo old mid before → HappenedTo mid now after → HappenedTo old now (before ++ after)
-happened_then old mid now before after one other = record {
-  net = other.net ∙ one.net;
-  stands = λ q stands. subst (StandsFor most_routes most_services now)
-      (ap (λ (net : Internet). happens net (happens (net_at old) q before) after) one.net ∙ sym (happens_append (net_at old) q before after))
-      (other.stands (happens (net_at old) q before) (one.stands q stands));
-}
+happened_then old mid now before after one other = grind (arith, happens_append)
 
 -- ---- a second of each router
 
@@ -45,15 +39,12 @@ abbrev pub seconds_to : ℕ → List (ℕ × Event)
 seconds_to count = every_second count
 
 seconds_more : (router : ℕ) → seconds_to (router + 1) ≡ seconds_to router ++ (router, Second) ∷ []
-seconds_more router =
-    ap (map at_second) (numbers_more router) ∙ map-append at_second (numbers router) (router ∷ [])
+seconds_more router = grind (arith, numbers_more, map-append)
 
 pub second_more : (old mid now : Moment) (router : ℕ) → HappenedTo old mid (seconds_to router) → net_at now ≡ net_at mid
     → ((q : Queued) → StandsFor most_routes most_services mid q → StandsFor most_routes most_services now (queued (net_at mid) most_routes most_services q router Second))
     → HappenedTo old now (seconds_to (router + 1))
-second_more old mid now router so net stands =
-    subst (HappenedTo old now) (sym (seconds_more router))
-    (happened_then old mid now (seconds_to router) ((router, Second) ∷ []) so (record { net = net; stands = stands }))
+second_more old mid now router so net stands = search (rules, seconds_more, happened_then)
 
 -- ---- several seconds of all routers
 
@@ -61,10 +52,7 @@ abbrev pub rounds : ℕ → ℕ → List (ℕ × Event)
 rounds routers count = flat_map (λ second. second) (replicate count (every_second routers))
 
 rounds_more : (routers count : ℕ) → rounds routers (count + 1) ≡ rounds routers count ++ every_second routers
-rounds_more routers count =
-    ap (flat_map (λ second. second)) (sym (replicate_more count (every_second routers)))
-    ∙ flat_map-append (λ second. second) (replicate count (every_second routers)) (every_second routers ∷ [])
-    ∙ ap (λ (l : List (ℕ × Event)). rounds routers count ++ l) (append-nil (every_second routers))
+rounds_more routers count = grind (arith, common_steps, replicate_more, flat_map-append, append-nil)
 
 pub round_more : (old mid now : Moment) (count : ℕ) → HappenedTo old mid (rounds (length (net_at old)) count) → net_at now ≡ net_at mid
     → ((q : Queued) → StandsFor most_routes most_services mid q → StandsFor most_routes most_services now (happens (net_at mid) q (every_second (length (net_at mid)))))
@@ -79,16 +67,11 @@ round_more old mid now count so net stands =
 -- all of them
 pub all_seconds : (old now : Moment) (router : ℕ) → router ≤ length old.routers → length old.routers ≤ router → HappenedTo old now (seconds_to router)
     → HappenedTo old now (every_second (length (net_at old)))
-all_seconds old now router few many so =
-    let count : router ≡ length (net_at old) = (let same : router ≡ length old.routers = omega (arith, few, many) in same) ∙ sym (length-map old.routers (λ (s : State). s.ports)) in
-    subst (λ (n : ℕ). HappenedTo old now (seconds_to n)) count so
+all_seconds old now router few many so = grind (arith, length-map)
 
 pub all_rounds : (old now : Moment) (count k : ℕ) → k ≤ count → count ≤ k → HappenedTo old now (rounds (length (net_at old)) k) → HappenedTo old now (rounds (length (net_at old)) count)
-all_rounds old now count k few many so =
-    let same : k ≡ count = omega (arith, few, many) in
-    subst (λ (n : ℕ). HappenedTo old now (rounds (length (net_at old)) n)) same so
+all_rounds old now count k few many so = grind arith
 
 -- what holds anyway holds where an answer is good
 pub where_ok : {T E X : Type 0} (r : Result T E) → X → OnOk r X
-where_ok (Ok t) x = x
-where_ok (Err fault) x = tt
+where_ok r x = grind arith

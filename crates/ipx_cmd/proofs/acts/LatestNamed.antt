@@ -1,5 +1,5 @@
 -- The latest of the routers that were named.
-use Rattle.std.proofs.Common.{◌≡◌, ℕ, suc, ◌-◌, List, [], ◌∷◌, ◌++◌, length, map, slice_get, Option, None, Some, is_some, refl, sym, ap, ◌∙◌, arith}
+use Rattle.std.proofs.Common.{◌≡◌, ℕ, suc, ◌-◌, List, [], ◌∷◌, ◌++◌, length, map, slice_get, Option, None, Some, is_some, refl, ap, ◌∙◌, arith}
 use Rattle.std.proofs.lemmas.Bool.{true≢false}
 use Rattle.std.proofs.lemmas.List.{map-append}
 use Rattle.ipx_router.specs.Port.{Port}
@@ -24,9 +24,7 @@ latest_seen f front last = ap latest (map-append f front (last ∷ [])) ∙ late
 -- the last one has one port more
 pub with_port_seen : {V : Type 0} (f : V → List Port) (all front : List V) (last now : V) (port : Port) → all ≡ front ++ last ∷ [] → f now ≡ f last ++ port ∷ []
     → map f (front ++ now ∷ []) ≡ with_port (map f all) port
-with_port_seen f all front last now port e more =
-    map-append f front (now ∷ []) ∙ ap (λ (l : List Port). map f front ++ l ∷ []) more
-    ∙ sym (ap (λ (l : Internet). with_port l port) (ap (map f) e ∙ map-append f front (last ∷ [])) ∙ with_port_is (map f front) (f last) port)
+with_port_seen f all front last now port e more = grind (arith, map-append, with_port_is)
 
 -- the last one, as it is found by its place
 abbrev ports_got : {V : Type 0} (f : V → List Port) → Option V → List Port
@@ -42,5 +40,4 @@ less_one n = omega (arith)
 
 pub latest_at : {V : Type 0} (f : V → List Port) (all : List V) (last : V) → Some last ≡ slice_get all (length all - 1) → latest (map f all) ≡ f last
 latest_at f [] last got = absurd (true≢false (ap is_some got))
-latest_at f (first ∷ more) last got =
-    latest_got f first more ∙ sym (ap (λ (k : ℕ). ports_got f (slice_get (first ∷ more) k)) (less_one (length more))) ∙ sym (ap (ports_got f) got)
+latest_at f (first ∷ more) last got = grind (arith, latest_got, slice_get, less_one)

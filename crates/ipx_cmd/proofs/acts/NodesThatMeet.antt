@@ -1,10 +1,10 @@
 -- When ports of two routers have one network and one node.
-use Rattle.std.proofs.Common.{◌≡◌, ℕ, zero, suc, ◌<◌, ◌==◌, nat_eq, Bool, true, false, List, [], ◌∷◌, ◌++◌, length, refl, sym, ap, inl, inr, arith, get_or}
-use Rattle.std.proofs.lemmas.Bool.{cases_Bool, true≢false, and_parts, or_cases, or_from, or_left, or_parts, or_right, eq-eqb, eqb-true}
+use Rattle.std.proofs.lemmas.Grind.{common_steps}
+use Rattle.std.proofs.Common.{◌≡◌, ℕ, suc, ◌<◌, ◌==◌, nat_eq, Bool, true, false, List, [], ◌∷◌, ◌++◌, length, refl, sym, ap, inl, inr, arith, get_or, rules}
+use Rattle.std.proofs.lemmas.Bool.{true≢false, and_parts, or_cases, or_from, or_left, or_parts, or_right, eq-eqb, eqb-true}
 use Rattle.std.proofs.lemmas.List.Folds.{list_any_at}
 use Rattle.std.specs.Cmp.Lexicographic.{pointwise, same_text}
 use Rattle.std.specs.List.{list_any}
-use Rattle.ipx_wire.specs.declared.network.Network.{Network}
 use Rattle.ipx_router.specs.Port.{Port, port_at, same_node}
 use Rattle.ipx_internet.specs.Internet.{Internet, ports_of}
 use Rattle.ipx_internet.specs.Moment.{SharesNode}
@@ -13,14 +13,10 @@ use Rattle.ipx_cmd.specs.InternetMachine.{is_same, nodes_meet, share_node}
 -- ---- lists
 
 any_joined : {X : Type 0} (f : X → Bool) (xs ys : List X) → list_any f xs ≡ false → list_any f ys ≡ false → list_any f (xs ++ ys) ≡ false
-any_joined f [] ys none others = others
-any_joined f (x ∷ xs) ys none others =
-    let parts = or_parts (f x) (list_any f xs) none in
-    or_from (f x) (list_any f (xs ++ ys)) parts.0 (any_joined f xs ys parts.1 others)
+any_joined f xs ys none others = grind (arith, common_steps, or_parts, or_from)
 
 any_behind : {X : Type 0} (f : X → Bool) (xs ys : List X) (y : X) → f y ≡ true → list_any f (xs ++ y ∷ ys) ≡ true
-any_behind f [] ys y fits = or_left (f y) (list_any f ys) fits
-any_behind f (x ∷ xs) ys y fits = or_right (f x) (list_any f (xs ++ y ∷ ys)) (any_behind f xs ys y fits)
+any_behind f xs ys y fits = grind (arith, common_steps, or_left, or_right)
 
 -- a place where a test holds
 record Found {X : Type 0} (f : X → Bool) (xs : List X) (other : X) : Type 0 where
@@ -40,12 +36,10 @@ found f (x ∷ xs) other any = elim (or_cases (f x) (list_any f xs) any) [
 -- ---- ports
 
 same_bytes : (bytes : List ℕ) → pointwise nat_eq bytes bytes ≡ true
-same_bytes [] = refl
-same_bytes (byte ∷ bytes) = rw (eq-eqb byte byte refl, same_bytes bytes) refl
+same_bytes bytes = search (rules, eq-eqb)
 
 same_if : (p q : Port) → p.network ≡ q.network → p.node ≡ q.node → is_same p q ≡ true
-same_if p q networks nodes =
-    rw (eq-eqb p.network.0 q.network.0 (ap (λ (n : Network). n.0) networks), sym nodes, same_bytes p.node.0) refl
+same_if p q networks nodes = grind (arith, eq-eqb, same_bytes)
 
 -- ---- a router and those before it
 
@@ -70,20 +64,10 @@ meet_one (first ∷ net) rest ports shares = elim (or_cases (share_node first po
 ]
 
 router_below : (net : Internet) (router port : ℕ) → port < length (ports_of net router) → router < length net
-router_below [] router port there = absurd (omega (arith, there))
-router_below (ports ∷ net) zero port there = omega arith
-router_below (ports ∷ net) (suc router) port there = let below = router_below net router port there in omega (arith, below)
+router_below net router port there = grind (arith, common_steps)
 
 pub shares_true : (net : Internet) (ports : List Port) → SharesNode net ports → shares_any net ports ≡ true
-shares_true net ports (number, below, has) =
-    let router = has.place.router in
-    let first : is_same (port_at (ports_of net router) has.place.port) (port_at ports number) ≡ true =
-    same_if (port_at (ports_of net router) has.place.port) (port_at ports number) has.network has.node in
-    let one : list_any (is_same (port_at (ports_of net router) has.place.port)) ports ≡ true =
-    list_any_at (is_same (port_at (ports_of net router) has.place.port)) ports number _ below first in
-    let other : share_node (ports_of net router) ports ≡ true =
-    list_any_at (λ (p : Port). list_any (is_same p) ports) (ports_of net router) has.place.port _ has.there one in
-    list_any_at (λ (others : List Port). share_node others ports) net router [] (router_below net router has.place.port has.there) other
+shares_true net ports given = grind (arith, same_if, list_any_at, router_below)
 
 shares_node : (net : Internet) (ports : List Port) → shares_any net ports ≡ true → SharesNode net ports
 shares_node net ports shares =
@@ -104,7 +88,4 @@ shares_node net ports shares =
     )
 
 pub shares_false : (net : Internet) (ports : List Port) → (SharesNode net ports → ⊥) → shares_any net ports ≡ false
-shares_false net ports apart = elim (cases_Bool (shares_any net ports)) [
-  | inl shares ↦ absurd (apart (shares_node net ports shares))
-  | inr none ↦ none
-]
+shares_false net ports apart = grind (arith, shares_node)

@@ -1,5 +1,6 @@
 -- Routers that are made and added, one after the other.
-use Rattle.std.proofs.Common.{◌≡◌, ◌⊎◌, ℕ, zero, suc, ◌+◌, ◌<◌, ◌≤◌, false, List, [], ◌∷◌, ◌++◌, length, map, take, drop, slice_get, slice_index_or, Option, None, Some, is_some, Result, is_ok, Ok, Err, OnOk, IfErr, refl, sym, ap, subst, ◌∙◌, inl, inr, append_assoc}
+use Rattle.std.proofs.lemmas.Grind.{common_steps}
+use Rattle.std.proofs.Common.{◌≡◌, ◌⊎◌, ℕ, zero, suc, ◌+◌, ◌<◌, ◌≤◌, false, List, [], ◌∷◌, ◌++◌, length, map, take, drop, slice_get, slice_index_or, Option, None, Some, is_some, Result, Ok, Err, OnOk, IfErr, refl, sym, ap, subst, ◌∙◌, inl, inr, append_assoc, arith, rules}
 use Rattle.std.proofs.lemmas.Bool.{true≢false}
 use Rattle.std.proofs.lemmas.List.{map-append, take_all, take_more, take-append-drop, length-append}
 use Rattle.ipx_router.specs.History.{History}
@@ -15,14 +16,12 @@ use Rattle.ipx_cmd.specs.Line.{◌>>=◌, Stops}
 use Rattle.ipx_cmd.specs.Making.{named_router}
 use Rattle.ipx_cmd.specs.declared.lines.fault.LineFault.{LineFault}
 use Rattle.ipx_cmd.specs.declared.lines.halt.Halt.{Halt}
-use Rattle.ipx_cmd.specs.declared.lines.halt.Halt.TheVariants.{Line, Run}
 use Rattle.ipx_cmd.proofs.acts.NodesThatMeet.{meet_none, meet_one, shares_false, shares_true}
 
 -- ---- lists, item by item
 
 pub taken_more : {X Y : Type 0} (f : X → Y) (xs : List X) (k : ℕ) (x : X) → k < length xs → x ≡ slice_index_or xs k x → map f (take (k + 1) xs) ≡ map f (take k xs) ++ f x ∷ []
-taken_more f xs k x below e =
-    ap (map f) (take_more xs k x below ∙ ap (λ y. take k xs ++ y ∷ []) (sym e)) ∙ map-append f (take k xs) (x ∷ [])
+taken_more f xs k x below e = grind (arith, common_steps, take_more, map-append)
 
 pub parted : {X Y : Type 0} (f : X → Y) (xs : List X) (k : ℕ) (x : X) → k < length xs → x ≡ slice_index_or xs k x
     → map f xs ≡ map f (take k xs) ++ f x ∷ map f (drop (k + 1) xs)
@@ -33,8 +32,7 @@ parted f xs k x below e =
 -- ---- routers that can be made
 
 both_ok : {A B : Type 0} (x : Result A LineFault) (y : Result B LineFault) (b : B) → (x >>= (λ a. y)) ≡ Ok b → (a : A) × (x ≡ Ok a) × (y ≡ Ok b)
-both_ok (Ok a) y b e = (a, refl, e)
-both_ok (Err fault) y b e = absurd (true≢false (sym (ap is_ok e)))
+both_ok x y b e = grind arith
 
 pub made_more : (net : Internet) (ports : List Port) → named_routers net ≡ Ok tt → named_router ports ≡ Ok ports → named_routers (net ++ ports ∷ []) ≡ Ok tt
 made_more [] ports all is = ap (λ (r : Result (List Port) LineFault). r >>= (λ made. named_routers [])) is
@@ -49,9 +47,7 @@ made_until (first ∷ net) rest ports fault all is =
     ap (λ (r : Result (List Port) LineFault). r >>= (λ made. named_routers (net ++ ports ∷ rest))) parts.1 ∙ made_until net rest ports fault parts.2 is
 
 pub made_each : (net rest : Internet) (ports : List Port) (fault : LineFault) → named_routers (net ++ ports ∷ rest) ≡ Ok tt → named_router ports ≡ Err fault → ⊥
-made_each [] rest ports fault all is =
-    let parts = both_ok (named_router ports) (named_routers rest) tt all in
-    true≢false (ap is_ok (sym parts.1 ∙ is))
+made_each [] rest ports fault all is = grind arith
 made_each (first ∷ net) rest ports fault all is =
     let parts = both_ok (named_router first) (named_routers (net ++ ports ∷ rest)) tt all in
     made_each net rest ports fault parts.2 is
@@ -60,9 +56,7 @@ made_each (first ∷ net) rest ports fault all is =
 module _ {V : Type 0} (f : V → List Port) (all : List V) where
   pub made_step : (k : ℕ) (item : V) (seen : List Port) → k < length all → item ≡ slice_index_or all k item → seen ≡ f item → named_router seen ≡ Ok seen
       → named_routers (map f (take k all)) ≡ Ok tt → named_routers (map f (take (k + 1) all)) ≡ Ok tt
-  made_step k item seen below is same made before =
-      ap named_routers (taken_more f all k item below is)
-      ∙ made_more (map f (take k all)) (f item) before (subst (λ (l : List Port). named_router l ≡ Ok l) same made)
+  made_step k item seen below is same made before = grind (arith, common_steps, taken_more, made_more)
 
   pub made_stop : (k : ℕ) (item : V) (seen : List Port) (fault : LineFault) → k < length all → item ≡ slice_index_or all k item → seen ≡ f item → named_router seen ≡ Err fault
       → named_routers (map f (take k all)) ≡ Ok tt → named_routers (map f all) ≡ Err fault
@@ -82,14 +76,10 @@ got_more (z ∷ xs) x y zero e = inl e
 got_more (z ∷ xs) x y (suc k) e = elim (got_more xs x y k e) [ inl before ↦ inl before | inr last ↦ inr (ap suc last.0, last.1) ]
 
 history_kept : (histories : List History) (k : ℕ) → history_of (histories ++ [] ∷ []) k ≡ history_of histories k
-history_kept [] zero = refl
-history_kept [] (suc k) = refl
-history_kept (h ∷ histories) zero = refl
-history_kept (h ∷ histories) (suc k) = history_kept histories k
+history_kept histories k = grind (arith, common_steps)
 
 history_past : (histories : List History) → history_of histories (length histories) ≡ []
-history_past [] = refl
-history_past (h ∷ histories) = history_past histories
+history_past histories = grind (arith, common_steps)
 
 -- an internet with a router more, to which nothing happened
 abbrev pub with_router : Queued → Queued
@@ -119,9 +109,7 @@ untouched_more net ports = ap (λ (l : List History). record { histories = l; qu
 -- why one of them isn't added is why no internet is made
 pub not_made : (net rest : Internet) (ports : List Port) (all : Internet) (halt : Halt) → all ≡ net ++ ports ∷ rest → named_routers all ≡ Ok tt → IsNotAdded net ports halt
     → IsUnmade all halt
-not_made net rest ports all (Line fault) e made (inl unmade) = absurd (made_each net rest ports fault (ap named_routers (sym e) ∙ made) unmade)
-not_made net rest ports all (Line fault) e made (inr shared) = (shared.0, ap nodes_meet e ∙ meet_one net rest ports (shares_true net ports shared.1))
-not_made net rest ports all (Run why) e made unmade = unmade
+not_made net rest ports all halt e made unmade = search (rules, made_each, meet_one, shares_true)
 
 -- with the last of them
 pub apart_more : (net : Internet) (ports : List Port) → nodes_meet net ≡ false → (SharesNode net ports → ⊥) → nodes_meet (net ++ ports ∷ []) ≡ false
@@ -136,8 +124,7 @@ pub unmade_stops : (net : Internet) (fault : LineFault) → named_routers net �
 unmade_stops net fault made = rw made refl
 
 pub unadded_stops : (net : Internet) (halt : Halt) → named_routers net ≡ Ok tt → IsUnmade net halt → Stops (internet_made net) halt
-unadded_stops net (Line fault) made (is, meet) = rw (made, meet, is) refl
-unadded_stops net (Run why) made is = is
+unadded_stops net halt made is = grind arith
 
 -- ---- some were added
 
@@ -148,15 +135,7 @@ pub record AddedSoFar (done : Internet) (now : Moment) : Type 0 where
   pub stands : StandsFor most_routes most_services now (untouched done)
 
 pub none_added : (now : Moment) → now.routers ≡ [] → now.queue ≡ [] → AddedSoFar [] now
-none_added now routers queue = record {
-  net = ap (map (λ (s : State). s.ports)) routers;
-  apart = refl;
-  stands = record {
-    each = ap length (sym routers);
-    routers = λ number s there. absurd (true≢false (sym (ap is_some (ap (λ (l : List State). slice_get l number) (sym routers) ∙ there))));
-    queue = queue;
-  };
-}
+none_added now routers queue = grind arith
 
 pub one_added : (done : Internet) (ports : List Port) (old new : Moment) → AddedSoFar done old → net_at new ≡ net_at old ++ ports ∷ [] → (SharesNode (net_at old) ports → ⊥)
     → ((q : Queued) → StandsFor most_routes most_services old q → StandsFor most_routes most_services new (with_router q)) → AddedSoFar (done ++ ports ∷ []) new
@@ -170,9 +149,7 @@ module _ {V : Type 0} (f : V → List Port) (all : List V) where
   pub added_step : (k : ℕ) (item : V) (seen : List Port) (old new : Moment) → k < length all → item ≡ slice_index_or all k item → seen ≡ f item → AddedSoFar (map f (take k all)) old
       → net_at new ≡ net_at old ++ seen ∷ [] → (SharesNode (net_at old) seen → ⊥)
       → ((q : Queued) → StandsFor most_routes most_services old q → StandsFor most_routes most_services new (with_router q)) → AddedSoFar (map f (take (k + 1) all)) new
-  added_step k item seen old new below is same so net fresh stands =
-      subst (λ (n : Internet). AddedSoFar n new) (ap (λ (l : List Port). map f (take k all) ++ l ∷ []) same ∙ sym (taken_more f all k item below is))
-      (one_added (map f (take k all)) seen old new so net fresh stands)
+  added_step k item seen old new below is same so net fresh stands = grind (arith, taken_more, one_added)
 
   pub added_stop : (k : ℕ) (item : V) (seen : List Port) (old : Moment) (halt : Halt) → k < length all → item ≡ slice_index_or all k item → seen ≡ f item
       → AddedSoFar (map f (take k all)) old → named_routers (map f all) ≡ Ok tt → IsNotAdded (net_at old) seen halt → IsUnmade (map f all) halt
@@ -188,9 +165,7 @@ module _ {V : Type 0} (f : V → List Port) (all : List V) where
 
 -- what the adding of all routers answers, where each of them is made
 pub then_made : {T : Type 0} (net : Internet) (r : Result T Halt) → named_routers net ≡ Ok tt → OnOk r (nodes_meet net ≡ false) → OnOk r (internet_made net ≡ Ok (untouched net))
-then_made net (Ok t) made apart = internet_is net made apart
-then_made net (Err halt) made apart = tt
+then_made net r made apart = grind arith
 
 pub then_unmade : {T : Type 0} (net : Internet) (r : Result T Halt) → named_routers net ≡ Ok tt → IfErr r (IsUnmade net) → IfErr r (Stops (internet_made net))
-then_unmade net (Ok t) made unmade = tt
-then_unmade net (Err halt) made unmade = unadded_stops net halt made unmade
+then_unmade net r made unmade = grind arith

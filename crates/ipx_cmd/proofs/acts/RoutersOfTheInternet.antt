@@ -1,9 +1,8 @@
 -- The routers of an internet that stands for what happened to them.
-use Rattle.std.proofs.Common.{◌≡◌, ℕ, zero, suc, ◌+◌, ◌<◌, ◌≤◌, Bool, List, [], ◌∷◌, ◌++◌, length, map, take, slice_get, Option, None, Some, option_map, refl, sym, ap, subst, ◌∙◌, arith}
+use Rattle.std.proofs.Common.{◌≡◌, ℕ, zero, suc, ◌+◌, ◌<◌, ◌≤◌, List, [], ◌∷◌, ◌++◌, length, map, take, slice_get, Option, None, Some, option_map, refl, sym, ap, subst, ◌∙◌, arith}
 use Rattle.std.proofs.lemmas.List.{length-map, map-append, take_all}
 use Rattle.std.proofs.lemmas.Option.{get_or_from_slice_get, slice_get-map}
-use Rattle.ipx_router.specs.Facts.{offers}
-use Rattle.ipx_router.specs.History.{History, ports_up, running}
+use Rattle.ipx_router.specs.History.{History}
 use Rattle.ipx_router.specs.Port.{Port, numbers}
 use Rattle.ipx_router.specs.Stands.{State, StandsFor as RouterStandsFor}
 use Rattle.ipx_internet.specs.Internet.{ports_of}
@@ -44,12 +43,7 @@ pub ports_at : (m : Moment) (number : ℕ) (s : State) → slice_get m.routers n
 ports_at m number s there = get_or_from_slice_get (net_at m) number s.ports [] (mapped_at (λ (r : State). r.ports) m.routers number s there)
 
 same_router : (s : State) (ports : List Port) (h : History) → ports ≡ s.ports → RouterStandsFor most_routes most_services s h → router_of s ≡ router_now ports most_routes h
-same_router s ports h is stands =
-    let here : router_of s ≡ router_now s.ports most_routes h =
-    ap (λ (runs : Bool). record { ports = s.ports; running = runs; up = s.up; routes = offers s.routes }) stands.runs
-    ∙ ap (λ (up : List ℕ). record { ports = s.ports; running = running h; up = up; routes = offers s.routes }) stands.ups
-    ∙ ap (λ routes. record { ports = s.ports; running = running h; up = ports_up s.ports h; routes = offers routes }) stands.routes_stand in
-    here ∙ ap (λ (l : List Port). router_now l most_routes h) (sym is)
+same_router s ports h is stands = grind arith
 
 pub routers_are : (m : Moment) (q : Queued) → StandsFor most_routes most_services m q → routers_of m.routers ≡ routers_now (net_at m) q
 routers_are m q stands =

@@ -1,5 +1,5 @@
 -- A router between two seconds of a line.
-use Rattle.std.proofs.Common.{◌≡◌, ℕ, ◌+◌, ◌<◌, false, List, [], ◌∷◌, ◌++◌, refl, sym, subst, ◌∙◌, replicate, append-nil, Err}
+use Rattle.std.proofs.Common.{◌≡◌, ℕ, ◌+◌, ◌<◌, false, List, [], ◌∷◌, ◌++◌, sym, subst, ◌∙◌, replicate, append-nil, Err, arith}
 use Rattle.ipx_wire.specs.Ends.{Output}
 use Rattle.ipx_router.specs.History.{History, Second}
 use Rattle.ipx_router.specs.Port.{Port}
@@ -19,12 +19,7 @@ pub record SoFar (before now : State) (from to : Output) (old new : List ℕ) (k
   pub added : (h : History) → StandsFor most_routes most_services before h → Added from to old new (events_text before.ports h (replicate k Second))
 
 pub none_yet : (s : State) (o : Output) (text : List ℕ) → o.failed ≡ false → SoFar s s o o text text 0
-none_yet s o text fine = record {
-  ports = refl;
-  fine = fine;
-  stands = λ h stands. subst (StandsFor most_routes most_services s) (sym (append-nil h)) stands;
-  added = λ h stands. added_kept o text text [] fine (sym (append-nil text));
-}
+none_yet s o text fine = grind (arith, append-nil, added_kept)
 
 pub one_more : (before mid now : State) (from between to : Output) (old text new : List ℕ) (k : ℕ) → SoFar before mid from between old text k
     → now.ports ≡ mid.ports → to.failed ≡ false

@@ -1,7 +1,6 @@
 -- When values make a port, and ports a router.
-use Rattle.std.proofs.Common.{◌≡◌, ◌≢◌, ℕ, ◌<◌, ◌≤◌, ◌==◌, ◌||◌, nat_le, nat_lt, Bool, true, false, if◌then◌else◌, List, [], ◌∷◌, length, refl, sym, ap, subst, ◌∙◌, inl, inr, arith, Result, Ok, Err, is_ok}
-use Rattle.std.proofs.lemmas.Bool.{cases_Bool, lt-ltb, le-ltb, le-leb, lt-leb, eq-eqb, ne_eqb, or_from, or_parts, eqb-false, true≢false}
-use Rattle.std.specs.Cmp.Lexicographic.{same_text}
+use Rattle.std.proofs.Common.{◌≡◌, ◌≢◌, ℕ, ◌<◌, ◌≤◌, ◌==◌, ◌||◌, nat_le, nat_lt, Bool, true, false, if◌then◌else◌, List, [], ◌∷◌, length, refl, ap, inl, inr, arith, Result, Ok, Err, rules}
+use Rattle.std.proofs.lemmas.Bool.{cases_Bool, lt-ltb, le-ltb, le-leb, eq-eqb, ne_eqb, or_from, or_parts, eqb-false}
 use Rattle.std.specs.List.{AllByRecursion, list_any}
 use Rattle.ipx_router.specs.Numbers.{default_route, least_longest, whole_share}
 use Rattle.ipx_router.specs.Port.{Port, IsPort, IsNoPort, AreApart, broadcast, same_node}
@@ -9,7 +8,6 @@ use Rattle.ipx_router.specs.RouterOf.{IsNoRouter}
 use Rattle.ipx_router.specs.declared.port.PortFault.{PortFault}
 use Rattle.ipx_router.specs.declared.port.PortFault.TheVariants.{Longest, Cost, Network as BadNetwork, Node as BadNode}
 use Rattle.ipx_router.specs.declared.ports_fault.PortsFault.{PortsFault}
-use Rattle.ipx_router.specs.declared.ports_fault.PortsFault.TheVariants.{NoPort, TooMany, SameNetwork}
 use Rattle.ipx_wire.specs.declared.node.Node.{Node}
 use Rattle.ipx_cmd.specs.Making.{is_reserved, named_port, meet, named_router, worded}
 use Rattle.ipx_cmd.specs.PortWord.{port_fault, ports_fault}
@@ -26,51 +24,29 @@ failed b p q e = rw e refl
 -- ---- ports
 
 not_reserved : (network : ℕ) → 0 < network → network < default_route → is_reserved network ≡ false
-not_reserved network some ordinary =
-    or_from (network == 0) (nat_le default_route network) (ne_eqb network 0 (λ e. omega (arith, e, some))) (lt-leb default_route network ordinary)
+not_reserved network some ordinary = grind arith
 
 not_all : (node : Node) → node ≢ broadcast → same_node node broadcast ≡ false
-not_all node other = elim (cases_Bool (same_node node broadcast)) [
-  | inl same ↦ absurd (other (ap (λ bytes. record { 0 = bytes }) (same_text node.0 broadcast.0 (sym same))))
-  | inr differs ↦ differs
-]
+not_all node other = search (rules)
 
 -- the values make a port
 pub port_ok : (values : Port) → least_longest ≤ values.longest → 0 < values.cost → 0 < values.network.0 → values.network.0 < default_route → values.node ≢ broadcast
     → named_port values ≡ Ok values
-port_ok values long cost some ordinary other =
-    ap (worded port_fault) (
-    passed (nat_lt values.longest least_longest) _ _ (Ok values) (le-ltb values.longest least_longest long)
-    (passed (values.cost == 0) _ _ (Ok values) (ne_eqb values.cost 0 (λ e. omega (arith, e, cost)))
-    (passed (is_reserved values.network.0) _ _ (Ok values) (not_reserved values.network.0 some ordinary)
-    (passed (same_node values.node broadcast) _ _ (Ok values) (not_all values.node other) refl)))
-    )
-
--- a port that is made has those values
-past_fault : (b : Bool) (fault : PortFault) (rest : Result Port PortFault) (made : Port) → Ok made ≡ worded port_fault (if b then Err fault else rest) → Ok made ≡ worded port_fault rest
-past_fault true fault rest made e = absurd (true≢false (ap is_ok e))
-past_fault false fault rest made e = e
+port_ok values long cost some ordinary other = grind (arith, passed, le-ltb, ne_eqb, not_reserved, not_all)
 
 abbrev made_or : Port → Result Port LineFault → Port
 made_or other (Ok made) = made
 made_or other (Err fault) = other
 
 pub port_is : (values made : Port) → Ok made ≡ named_port values → made ≡ values
-port_is values made e =
-    ap (made_or values) (
-    past_fault (same_node values.node broadcast) BadNode _ made
-    (past_fault (is_reserved values.network.0) BadNetwork _ made
-    (past_fault (values.cost == 0) Cost _ made
-    (past_fault (nat_lt values.longest least_longest) Longest _ made e)))
-    )
+port_is values made e = grind arith
 
 -- and here they don't
 reserved : (network : ℕ) → (network == 0) ≡ true → is_reserved network ≡ true
 reserved network e = rw e refl
 
 or_second : (a b : Bool) → b ≡ true → (a || b) ≡ true
-or_second true b e = refl
-or_second false b e = e
+or_second a b e = grind arith
 
 pub port_bad : (values : Port) (fault : PortFault) → IsNoPort values.network values.node values.cost values.longest fault → named_port values ≡ Err (port_fault fault)
 port_bad values Longest short = ap (worded port_fault) (failed (nat_lt values.longest least_longest) _ _ (lt-ltb values.longest least_longest short))
@@ -100,9 +76,7 @@ port_bad values BadNode (long, cost, some, ordinary, all) =
 
 any_apart : (p : Port) (ports : List Port) → AllByRecursion (λ q. q.network ≢ p.network) ports → list_any (λ q. q.network.0 == p.network.0) ports ≡ false
 any_apart p [] others = refl
-any_apart p (q ∷ ports) others =
-    or_from (q.network.0 == p.network.0) (list_any (λ r. r.network.0 == p.network.0) ports)
-    (ne_eqb q.network.0 p.network.0 (λ e. others.0 (ap (λ n. record { 0 = n }) e))) (any_apart p ports others.1)
+any_apart p (q ∷ ports) others = grind (arith, any_apart p ports others.1)
 
 apart_any : (p : Port) (ports : List Port) → list_any (λ q. q.network.0 == p.network.0) ports ≡ false → AllByRecursion (λ q. q.network ≢ p.network) ports
 apart_any p [] none = tt
@@ -124,32 +98,13 @@ not_apart_meet : (ports : List Port) → (AreApart ports → ⊥) → meet ports
 not_apart_meet ports together = elim (cases_Bool (meet ports)) [ inl same ↦ same | inr none ↦ absurd (together (meet_apart ports none)) ]
 
 pub router_ok : (ports : List Port) → 1 ≤ length ports → length ports ≤ 8 → AreApart ports → named_router ports ≡ Ok ports
-router_ok ports some few apart =
-    ap (worded ports_fault) (
-    passed (length ports == 0) _ _ (Ok ports) (ne_eqb (length ports) 0 (λ e. omega (arith, e, some)))
-    (passed (nat_lt 8 (length ports)) _ _ (Ok ports) (le-ltb 8 (length ports) few)
-    (passed (meet ports) _ _ (Ok ports) (apart_meet ports apart) refl))
-    )
+router_ok ports some few apart = grind (arith, passed, ne_eqb, le-ltb, apart_meet)
 
 pub router_bad : (ports : List Port) (fault : PortsFault) → IsNoRouter 8 ports fault → named_router ports ≡ Err (ports_fault fault)
-router_bad ports NoPort none = ap named_router none
-router_bad ports TooMany many =
-    ap (worded ports_fault) (
-    passed (length ports == 0) _ _ (Err TooMany) (ne_eqb (length ports) 0 (λ e. omega (arith, e, many)))
-    (failed (nat_lt 8 (length ports)) _ _ (lt-ltb 8 (length ports) many))
-    )
-router_bad ports SameNetwork (some, few, together) =
-    ap (worded ports_fault) (
-    passed (length ports == 0) _ _ (Err SameNetwork) (ne_eqb (length ports) 0 (λ e. omega (arith, e, some)))
-    (passed (nat_lt 8 (length ports)) _ _ (Err SameNetwork) (le-ltb 8 (length ports) few)
-    (failed (meet ports) _ _ (not_apart_meet ports together)))
-    )
+router_bad ports fault none = grind (arith, passed, ne_eqb, failed, lt-ltb, le-ltb, not_apart_meet)
 
 -- what was made of the values with whole shares has the shares that are named
 pub port_answer : (values made shared : Port)
     → made ≡ record { network = values.network; node = values.node; cost = values.cost; longest = values.longest; route_share = whole_share; service_share = whole_share }
     → IsPort made → shared ≡ record made { route_share = values.route_share; service_share = values.service_share } → Ok shared ≡ named_port values
-port_answer values made shared e is shares =
-    let fits = subst IsPort e is in
-    ap Ok (shares ∙ ap (λ (p : Port). record p { route_share = values.route_share; service_share = values.service_share }) e)
-    ∙ sym (port_ok values fits.longest fits.cost fits.some_network fits.ordinary_network fits.node)
+port_answer values made shared e is shares = grind (arith, port_ok)

@@ -1,5 +1,5 @@
 -- What the parser makes of the words that ask for a run.
-use Rattle.std.proofs.Common.{◌≡◌, ◌==◌, ℕ, Bool, true, false, not, List, [], ◌∷◌, Option, Some, None, sym, refl, subst, inl, inr, codes, option_map, bytes_eq, eqb-true, ap, unwrap_or, ◌∙◌}
+use Rattle.std.proofs.Common.{◌≡◌, ◌==◌, ℕ, Bool, true, false, not, List, [], ◌∷◌, Option, Some, None, sym, refl, subst, inl, inr, codes, option_map, bytes_eq, eqb-true, ap, unwrap_or, arith}
 use Rattle.clap.specs.Walk.{Row, Text, first_of}
 use Rattle.clap.specs.Simple.{is_simple, subcommand_of}
 use Rattle.clap.specs.Lexer.{long_of, short_of}
@@ -7,7 +7,6 @@ use Rattle.clap.specs.Takes.{takes}
 use Rattle.clap.proofs.OnLiterals.{clap_on_literals}
 use Rattle.ipx_cmd.specs.Chosen.{IsAsked, command_line, is_plain, word_of}
 use Rattle.ipx_cmd.specs.declared.chosen.Run.{Run}
-use Rattle.ipx_cmd.specs.declared.chosen.Run.TheVariants.{Replay, Internet, Decode}
 
 -- the file in a subcommand's matches
 abbrev pub file_of : Option (Text × List Row) → Option (Option Text)
@@ -28,34 +27,24 @@ simple = refl
 
 reads-none : (run : Run) → Reads run (word_of run ∷ []) None
 unfolding clap_on_literals
-reads-none Replay = (refl, refl, refl)
-reads-none Decode = (refl, refl, refl)
-reads-none Internet = (refl, refl, refl)
+reads-none run = grind arith
 
 reads-after : (run : Run) → (file : Text) → Reads run (word_of run ∷ codes "--" ∷ file ∷ []) (Some file)
 unfolding clap_on_literals
-reads-after Replay file = (refl, refl, refl)
-reads-after Decode file = (refl, refl, refl)
-reads-after Internet file = (refl, refl, refl)
+reads-after run file = grind arith
 
 reads-empty : (run : Run) → Reads run (word_of run ∷ [] ∷ []) (Some [])
 unfolding clap_on_literals
-reads-empty Replay = (refl, refl, refl)
-reads-empty Decode = (refl, refl, refl)
-reads-empty Internet = (refl, refl, refl)
+reads-empty run = grind arith
 
 reads-hyphen : (run : Run) → Reads run (word_of run ∷ codes "-" ∷ []) (Some (codes "-"))
 unfolding clap_on_literals
-reads-hyphen Replay = (refl, refl, refl)
-reads-hyphen Decode = (refl, refl, refl)
-reads-hyphen Internet = (refl, refl, refl)
+reads-hyphen run = grind arith
 
 reads-plain : (run : Run) → (file : Text) → bytes_eq file (codes "--") ≡ false → long_of file ≡ None → short_of file ≡ None
     → Reads run (word_of run ∷ file ∷ []) (Some file)
 unfolding clap_on_literals
-reads-plain Replay file other long short = (rw (other, long, short) refl, rw (other, long, short) refl, refl)
-reads-plain Decode file other long short = (rw (other, long, short) refl, rw (other, long, short) refl, refl)
-reads-plain Internet file other long short = (rw (other, long, short) refl, rw (other, long, short) refl, refl)
+reads-plain run file other long short = grind arith
 
 no_option : (run : Run) → (first : ℕ) (more : Text) → (first == 45) ≡ false → Reads run (word_of run ∷ (first ∷ more) ∷ []) (Some (first ∷ more))
 no_option run first more other = reads-plain run (first ∷ more) (rw other refl) (rw other refl) (rw other refl)
@@ -65,8 +54,7 @@ alone run first true e = subst (λ (x : ℕ). Reads run (word_of run ∷ (x ∷ 
 alone run first false e = no_option run first [] e
 
 unhyphened : (first : Bool) → not first ≡ true → first ≡ false
-unhyphened true plain = absurd cc
-unhyphened false plain = refl
+unhyphened first plain = grind arith
 
 named : (run : Run) → (file : Text) → is_plain file ≡ true → Reads run (word_of run ∷ file ∷ []) (Some file)
 named run [] plain = reads-empty run
@@ -82,15 +70,11 @@ reads run words (Some file) (inr e) = subst (λ (ws : List Text). Reads run ws (
 -- the file that stands in the rows of the subcommand that was met
 pub found : (rows : List Row) (met : Option (Text × List Row)) (file : Option Text) → Some rows ≡ option_map (λ p. p.1) met
     → file_of met ≡ Some file → first_of (codes "file") rows ≡ file
-found rows None file same is = absurd cc
-found rows (Some p) file same is =
-    let both : Some (first_of (codes "file") rows) ≡ Some file = ap (option_map (first_of (codes "file"))) same ∙ is in
-    ap (λ known. unwrap_or known file) both
+found rows met file same is = grind arith
 
 -- the word that stands in the subcommand that was met
 pub verb_first : {A : Type 0} {B : Type 0} {C : Type 0} (f : A → B) (g : A → C) (o : Option A) → option_map f o ≡ option_map (λ (p : B × C). p.0) (option_map (λ (a : A). (f a, g a)) o)
-verb_first f g None = refl
-verb_first f g (Some a) = refl
+verb_first f g o = grind arith
 
 pub some_same : {X : Type 0} (x y : X) → Some x ≡ Some y → x ≡ y
 some_same x y e = ap (λ o. unwrap_or o x) e

@@ -1,4 +1,4 @@
-use Rattle.std.proofs.Common.{◌≡◌, ◌<◌, nat_lt, ℕ, Bool, true, false, List, ◌∷◌, ◌++◌, ◌-◌, suc, subst, length, take, drop, get_or, Option, Some, None, refl, sym, ap, ◌∙◌, arith}
+use Rattle.std.proofs.Common.{◌≡◌, ◌<◌, nat_lt, ℕ, Bool, true, false, List, ◌∷◌, ◌++◌, ◌-◌, length, take, drop, Option, Some, None, refl, ap, ◌∙◌, arith}
 use Rattle.std.proofs.Math.Seq.{drop-cons}
 use Rattle.std.proofs.lemmas.Bool.{eqb-true}
 use Rattle.std.proofs.lemmas.List.{get_or-take, length-take-le, take-append-drop, take_all}
@@ -11,8 +11,7 @@ use Rattle.ipx_cmd.specs.Lines.{is_line_feed, line_feed}
 
 -- what isn't true
 not_true : (b : Bool) → (b ≡ true → ⊥) → b ≡ false
-not_true true bad = absurd (bad refl)
-not_true false bad = refl
+not_true b bad = grind arith
 
 -- the first byte that passes a test stands at its first position
 pub is_position : (test : ℕ → Bool) (xs : List ℕ) (r : Option ℕ) → IsFirstByte test xs r → r ≡ position test xs
@@ -20,10 +19,7 @@ is_position test xs None none =
     let at = position_or_len_is test xs (length xs) 0 (omega arith) (λ k below. not_true _ (none k (omega arith) below)) (λ below. absurd (omega (arith, below))) in
     let past : nat_lt (position_or_len test xs) (length xs) ≡ false = grind (arith, at) in
     rw past refl
-is_position test xs (Some k) found =
-    let at = position_or_len_is test xs k 0 (omega (arith, found.0.high)) (λ j below. not_true _ (found.0.before j (omega arith) below)) (λ below. found.1) in
-    let here : nat_lt (position_or_len test xs) (length xs) ≡ true = grind (arith, at, found.0.high) in
-    rw (here, at) refl
+is_position test xs (Some k) found = grind (arith, position_or_len_is, not_true)
 
 -- where no byte is a line feed
 pub no_line_end : (xs : List ℕ) → IsFirstByte (is_byte line_feed) xs None → IsOneLine xs
@@ -41,14 +37,4 @@ before_line_end xs k found =
 pub line_parts : (xs front behind : List ℕ) (k : ℕ) → IsFirstByte (is_byte line_feed) xs (Some k)
     → front ≡ take k xs → behind ≡ drop k xs
     → IsOneLine front × (xs ≡ front ++ line_feed ∷ take (length behind - 1) (drop 1 behind))
-line_parts xs front behind k found is_front is_behind =
-    let more = drop (suc k) xs in
-    let here : get_or xs k 0 ≡ line_feed = eqb-true (get_or xs k 0) line_feed found.1 in
-    let cut : drop k xs ≡ line_feed ∷ more = drop-cons xs k 0 found.0.high ∙ ap (λ (b : ℕ). b ∷ more) here in
-    let count : length (line_feed ∷ more) - 1 ≡ length more = omega arith in
-    let rest : take (length behind - 1) (drop 1 behind) ≡ more =
-    ap (λ (b : List ℕ). take (length b - 1) (drop 1 b)) (is_behind ∙ cut) ∙ ap (λ (n : ℕ). take n more) count ∙ take_all (length more) more (omega arith) in (
-      subst IsOneLine (sym is_front) (before_line_end xs k found),
-      sym (take-append-drop k xs) ∙ ap (λ (f : List ℕ). f ++ drop k xs) (sym is_front)
-          ∙ ap (λ (b : List ℕ). front ++ b) (cut ∙ ap (λ (r : List ℕ). line_feed ∷ r) (sym rest)),
-    )
+line_parts xs front behind k found is_front is_behind = grind (arith, eqb-true, drop-cons, take_all, before_line_end, take-append-drop)

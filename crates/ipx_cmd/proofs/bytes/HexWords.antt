@@ -1,4 +1,4 @@
-use Rattle.std.proofs.Common.{◌≡◌, ℕ, ◌<◌, true, List, refl, sym, ap, arith, None, Result, Ok, Err}
+use Rattle.std.proofs.Common.{◌≡◌, ℕ, ◌<◌, true, List, sym, ap, arith, None, Result}
 use Rattle.std.proofs.lemmas.Bool.Decides.{nat_tests}
 use Rattle.std.proofs.lemmas.List.Elements.{All-weaker}
 use Rattle.std.proofs.lemmas.Str.{IsUtf8-from_ascii}
@@ -19,13 +19,11 @@ digit_is_ascii b e = grind (arith, nat_tests)
 
 -- so they are text
 digits_are_text : (word : List ℕ) → AllPass is_hex_digit word → IsUtf8 word
-digits_are_text word digits =
-    IsUtf8-from_ascii word (IsAscii-from_all word (All-weaker (λ b. is_hex_digit b ≡ true) (λ b. b < 128) digit_is_ascii word digits))
+digits_are_text word digits = grind (arith, IsUtf8-from_ascii, IsAscii-from_all, All-weaker, digit_is_ascii)
 
 -- what isn't read
 refused : (d : Result (List ℕ) FromHexError) → (is_ok d ≡ true → ⊥) → result_ok d ≡ None
-refused (Ok bytes) bad = absurd (bad refl)
-refused (Err e) bad = refl
+refused d bad = grind arith
 
 -- a word that is no text names no bytes
 pub no_bytes : (count : ℕ) (word : List ℕ) → ¬ (IsUtf8 word) → bytes_of_digits count word ≡ None

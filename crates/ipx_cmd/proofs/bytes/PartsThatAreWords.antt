@@ -1,6 +1,5 @@
-use Rattle.std.proofs.Common.{◌≡◌, ℕ, suc, ◌+◌, ◌<◌, ◌≤◌, ◌==◌, nat_lt, Bool, true, false, not, List, [], ◌∷◌, length, get_or, drop, refl, sym, ap, subst, ◌∙◌, inl, inr, arith, Some, None, filter}
-use Rattle.std.proofs.lemmas.Bool.{cases_Bool, cases_lt, ne_eqb}
-use borrow.Author.Tests.{ltb-true, ltb-false}
+use Rattle.std.proofs.Common.{◌≡◌, ℕ, suc, ◌+◌, ◌<◌, ◌≤◌, ◌==◌, Bool, true, false, not, List, [], ◌∷◌, length, get_or, drop, refl, sym, ap, subst, ◌∙◌, inl, inr, arith, Some, None, filter}
+use Rattle.std.proofs.lemmas.Bool.{cases_Bool, cases_lt}
 use Rattle.std.proofs.lemmas.List.{drop_all, take_all, length-take-le}
 use Rattle.std.proofs.Math.Seq.{drop-cons}
 use Rattle.std.proofs.lemmas.List.Quantifiers.{position-Some}
@@ -17,9 +16,7 @@ is_word part = not (length part == 0)
 
 -- a part that isn't empty is kept
 kept : (part : List ℕ) (parts : List (List ℕ)) → 0 < length part → filter is_word (part ∷ parts) ≡ part ∷ filter is_word parts
-kept part parts some =
-    let filled : (length part == 0) ≡ false = ne_eqb (length part) 0 (λ none. absurd (omega arith)) in
-    rw filled refl
+kept part parts some = grind arith
 
 -- a blank in front divides no word
 words-blank : (b : ℕ) (line : List ℕ) → is_blank b ≡ true → words (b ∷ line) ≡ words line
@@ -40,21 +37,11 @@ words-blanks (b ∷ line) =
 
 -- where an item that passes stands first
 position_found : (p : ℕ → Bool) (xs : List ℕ) (i : ℕ) → position p xs ≡ Some i → (position_or_len p xs ≡ i) × (i < length xs)
-position_found p xs i found =
-    elim (cases_Bool (nat_lt (position_or_len p xs) (length xs))) [
-      | inl below ↦
-          let at : position_or_len p xs ≡ i = cc (rw below at found) in
-          (at, omega (arith, at, ltb-true _ _ below))
-      | inr beyond ↦ absurd (cc (rw beyond at found))
-    ]
+position_found p xs i found = grind arith
 
 -- where none passes
 position_missed : (p : ℕ → Bool) (xs : List ℕ) → position p xs ≡ None → length xs ≤ position_or_len p xs
-position_missed p xs missed =
-    elim (cases_Bool (nat_lt (position_or_len p xs) (length xs))) [
-      | inl below ↦ absurd (cc (rw below at missed))
-      | inr beyond ↦ ltb-false _ _ beyond
-    ]
+position_missed p xs missed = grind arith
 
 -- only blanks are no words
 pub words-none : (line : List ℕ) → position (λ b. not (is_blank b)) line ≡ None → words line ≡ []
@@ -84,8 +71,7 @@ words-cut text long some =
 
 -- what is not true
 flipped : (b : Bool) → not b ≡ true → b ≡ false
-flipped true e = sym e
-flipped false e = refl
+flipped b e = grind arith
 
 -- a text whose first byte is no blank
 words-begun : (b : ℕ) (rest : List ℕ) → is_blank b ≡ false
@@ -108,6 +94,4 @@ words-next line text start found e =
 
 -- one item and others
 pub only_two-cons : {X : Type 0} (a : X) (more : List X) → only_two (a ∷ more) ≡ option_map (λ b. (a, b)) (only_one more)
-only_two-cons a [] = refl
-only_two-cons a (b ∷ []) = refl
-only_two-cons a (b ∷ c ∷ more) = refl
+only_two-cons a more = grind arith

@@ -1,4 +1,4 @@
-use Rattle.std.proofs.Common.{◌≡◌, ◌<◌, ◌≤◌, ◌+◌, ◌*◌, ◌/◌, ◌%◌, ℕ, zero, suc, true, false, List, [], ◌∷◌, length, take, drop, get_or, slice_index, Some, None, Result, Ok, Err, refl, sym, ap, subst, ◌∙◌, arith}
+use Rattle.std.proofs.Common.{◌≡◌, ◌<◌, ◌≤◌, ◌+◌, ◌*◌, ◌/◌, ◌%◌, ℕ, zero, suc, true, false, List, [], ◌∷◌, length, take, drop, get_or, slice_index, Some, None, Result, Ok, Err, refl, sym, ap, ◌∙◌, arith}
 use Rattle.std.proofs.lemmas.List.{get_or-drop, length-drop}
 use Rattle.std.proofs.lemmas.List.Elements.{All-get_or}
 use Rattle.std.proofs.lemmas.List.Sums.{list_all-from_AllPass}
@@ -8,20 +8,15 @@ use Rattle.std.specs.Result.{result_ok}
 use Rattle.std.specs.Simd.{first_chunks}
 use Rattle.hex.proofs.HexLemmas.{decode_of-ok}
 use Rattle.hex.specs.declared.error.FromHexError.{FromHexError}
-use Rattle.hex.specs.Hex.{decode_of, digit_or_error, hex_digit_value, is_hex_digit, pair_value, value_at}
+use Rattle.hex.specs.Hex.{decode_of, hex_digit_value, is_hex_digit, pair_value}
 
 -- two digits
 pub pair_read : (a b i h l : ℕ) → hex_digit_value a ≡ Some h → hex_digit_value b ≡ Some l → pair_value a b i ≡ Ok (h * 16 + l)
-pair_read a b i h l high low =
-    let first : value_at a i ≡ Ok h = ap (digit_or_error a i) high in
-    let second : value_at b (i + 1) ≡ Ok l = ap (digit_or_error b (i + 1)) low in
-    rw (first, second) refl
+pair_read a b i h l high low = grind arith
 
 -- the first two items
 first_two : (xs : List ℕ) → 1 < length xs → take 2 xs ≡ slice_index xs 0 ∷ slice_index xs 1 ∷ []
-first_two [] long = absurd (omega (arith, long))
-first_two (a ∷ []) long = absurd (omega (arith, long))
-first_two (a ∷ b ∷ xs) long = refl
+first_two xs long = grind arith
 
 -- the pair at a place
 pair_at : (n : ℕ) (xs : List ℕ) (i : ℕ) (d : List ℕ) → i < n → 2 * n ≤ length xs
@@ -48,11 +43,7 @@ two_bytes a b small_a small_b = record { low_byte = omega (arith, small_a, small
 pub pair_bytes : (s : List ℕ) (n i number : ℕ) (pairs : List (List ℕ)) (d : List ℕ) → ((k : ℕ) → get_or s k 0 < 256)
     → i < n → 2 * n ≤ length s → pairs ≡ first_chunks 2 n s → number ≡ from_le_bytes w16 (get_or pairs i d)
     → HasBytes number (slice_index s (2 * i)) (slice_index s (2 * i + 1))
-pair_bytes s n i number pairs d small below room chunks is =
-    let read : number ≡ from_le_bytes w16 (slice_index s (2 * i) ∷ slice_index s (2 * i + 1) ∷ []) =
-    is ∙ ap (λ (ps : List (List ℕ)). from_le_bytes w16 (get_or ps i d)) chunks ∙ ap (from_le_bytes w16) (pair_at n s i d below room) in
-    subst (λ (m : ℕ). HasBytes m (slice_index s (2 * i)) (slice_index s (2 * i + 1))) (sym read)
-    (two_bytes (slice_index s (2 * i)) (slice_index s (2 * i + 1)) (small (2 * i)) (small (2 * i + 1)))
+pair_bytes s n i number pairs d small below room chunks is = grind (arith, slice_index, pair_at, two_bytes)
 
 -- a byte of digits alone is a digit
 pub digit_at : (s : List ℕ) (k digit : ℕ) → AllPass is_hex_digit s → k < length s → digit ≡ slice_index s k → is_hex_digit digit ≡ true

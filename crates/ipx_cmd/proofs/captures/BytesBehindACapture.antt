@@ -8,7 +8,7 @@ use Rattle.ipx_capture.specs.Calls.{ending}
 use Rattle.ipx_capture.specs.Header.{header_of}
 use Rattle.ipx_capture.specs.Records.{Record, Contents, records, records_from, from_front, behind_header, first_record, behind, kept_count}
 use Rattle.ipx_capture.specs.declared.capture_fault.CaptureFault.{CaptureFault}
-use Rattle.ipx_capture.specs.declared.capture_fault.CaptureFault.TheVariants.{CutHeader, Magic, Version, Link, RecordLong, CutRecord, Read, Memory}
+use Rattle.ipx_capture.specs.declared.capture_fault.CaptureFault.TheVariants.{CutHeader, RecordLong, CutRecord}
 use Rattle.ipx_capture.specs.declared.order.Order.{Order}
 use Rattle.ipx_capture.proofs.Calling.{header_append}
 use Rattle.ipx_capture.proofs.First.{first_none, first_cut_header, first_long, first_cut, first_whole, first_size, long_append}
@@ -29,18 +29,9 @@ pub record Parsed (order : Order) (n : ℕ) (bytes : List ℕ) (c : Contents) : 
 parsed_by : (most : ℕ) (order : Order) (n : ℕ) (bytes : List ℕ) (first : Result (Option Record) CaptureFault) → first_record order n bytes ≡ first
     → ((r : Record) → first_record order n bytes ≡ Ok (Some r) → Parsed order (n + 1) (behind r bytes) (records_from most order (n + 1) (behind r bytes)))
     → Parsed order n bytes (from_front first (λ s. records_from most order (n + 1) (behind s bytes)))
-parsed_by most order n bytes (Ok None) told later =
-    record { rest = bytes; rows = refl; end = ap (λ (k : ℕ). first_record order k bytes) (let none : n + 0 ≡ n = omega arith in none) ∙ told }
-parsed_by most order n bytes (Err fault) told later =
-    record { rest = bytes; rows = refl; end = ap (λ (k : ℕ). first_record order k bytes) (let none : n + 0 ≡ n = omega arith in none) ∙ told }
-parsed_by most order n bytes (Ok (Some r)) told later =
-    let p = later r told in
-    let c = records_from most order (n + 1) (behind r bytes) in
-    record {
-      rest = p.rest;
-      rows = (told, p.rows);
-      end = ap (λ (k : ℕ). first_record order k p.rest) (let number : n + suc (length c.records) ≡ n + 1 + length c.records = omega arith in number) ∙ p.end;
-    }
+parsed_by most order n bytes (Ok None) told later = grind arith
+parsed_by most order n bytes (Err fault) told later = grind arith
+parsed_by most order n bytes (Ok (Some r)) told later = grind arith
 
 parsed : (most : ℕ) (order : Order) (n : ℕ) (bytes : List ℕ) → length bytes < most → Parsed order n bytes (records_from most order n bytes)
 parsed zero order n bytes few = absurd (omega arith)
@@ -67,43 +58,18 @@ two_faults order n b fault told =
 -- a header that isn't cut stays as it is
 header_stays : (bytes more : List ℕ) → (header_of bytes ≡ Err CutHeader) ⊎ ((24 ≤ length bytes) × (header_of (bytes ++ more) ≡ header_of bytes))
 unfolding header_of
-header_stays bytes more = elim (cases_lt (length bytes) 24) [
-  | inl few ↦ inl (rw (lt-ltb (length bytes) 24 few) refl)
-  | inr enough ↦ inr (enough, header_append bytes more enough)
-]
+header_stays bytes more = grind (arith, cases_lt, lt-ltb, header_append)
 
 -- the text so far is a prefix of the whole, and with a fault that no bytes take back it is all
 front_at : (text : List ℕ) (n : ℕ) (fault : Option CaptureFault) → IsFront (text ++ ending_text n (settled fault)) (text ++ ending_text n fault)
-front_at text n None = record { rest = []; is = sym (append-nil (text ++ [])) }
-front_at text n (Some Magic) = record { rest = []; is = sym (append-nil (text ++ ending_text n (Some Magic))) }
-front_at text n (Some Version) = record { rest = []; is = sym (append-nil (text ++ ending_text n (Some Version))) }
-front_at text n (Some Link) = record { rest = []; is = sym (append-nil (text ++ ending_text n (Some Link))) }
-front_at text n (Some RecordLong) = record { rest = []; is = sym (append-nil (text ++ ending_text n (Some RecordLong))) }
-front_at text n (Some CutHeader) = record { rest = ending_text n (Some CutHeader); is = ap (λ (x : List ℕ). x ++ ending_text n (Some CutHeader)) (sym (append-nil text)) }
-front_at text n (Some CutRecord) = record { rest = ending_text n (Some CutRecord); is = ap (λ (x : List ℕ). x ++ ending_text n (Some CutRecord)) (sym (append-nil text)) }
-front_at text n (Some Read) = record { rest = ending_text n (Some Read); is = ap (λ (x : List ℕ). x ++ ending_text n (Some Read)) (sym (append-nil text)) }
-front_at text n (Some Memory) = record { rest = ending_text n (Some Memory); is = ap (λ (x : List ℕ). x ++ ending_text n (Some Memory)) (sym (append-nil text)) }
+front_at text n fault = grind (arith, append-nil)
 
 settled_is : (fault : Option CaptureFault) → is_some_fault (settled fault) ≡ true → (settled fault ≡ fault) × (ended_by fault ≡ BadInput)
-settled_is None e = absurd cc
-settled_is (Some Magic) e = (refl, refl)
-settled_is (Some Version) e = (refl, refl)
-settled_is (Some Link) e = (refl, refl)
-settled_is (Some RecordLong) e = (refl, refl)
-settled_is (Some CutHeader) e = absurd cc
-settled_is (Some CutRecord) e = absurd cc
-settled_is (Some Read) e = absurd cc
-settled_is (Some Memory) e = absurd cc
+settled_is fault e = grind arith
 
 -- the same records and the same end
 same_records : (bytes more : List ℕ) (c : Contents) → records bytes ≡ c → records (bytes ++ more) ≡ c → Continues bytes more
-same_records bytes more c e f =
-    let front = front_at (flat_map record_text c.records) (length c.records) c.fault in
-    record {
-      front = record { rest = front.rest; is = shown_by (bytes ++ more) c f ∙ front.is ∙ ap (λ (x : List ℕ). x ++ front.rest) (sym (sofar_by bytes c e)) };
-      whole = λ is. shown_by (bytes ++ more) c f ∙ ap (contents_text c) (sym (settled_is c.fault (sym (judged_by bytes c e) ∙ is)).0) ∙ sym (sofar_by bytes c e);
-      bad = λ is. end_by (bytes ++ more) c f ∙ (settled_is c.fault (sym (judged_by bytes c e) ∙ is)).1;
-    }
+same_records bytes more c e f = grind (arith, front_at, shown_by, sofar_by, settled_is, judged_by, end_by)
 
 -- further records behind those of bytes that end well, or too soon
 longer : (bytes more : List ℕ) (c d : Contents) → records bytes ≡ c → settled c.fault ≡ None → records (bytes ++ more) ≡ prepend c.records d → Continues bytes more

@@ -1,5 +1,5 @@
 -- Records that stand at the front of bytes, one behind another.
-use Rattle.std.proofs.Common.{◌≡◌, ℕ, zero, suc, ◌+◌, ◌<◌, List, [], ◌∷◌, ◌++◌, length, sym, ap, subst, ◌∙◌, arith, Option, Some, None, Ok, append-nil, length-drop}
+use Rattle.std.proofs.Common.{◌≡◌, ℕ, zero, suc, ◌+◌, ◌<◌, List, [], ◌∷◌, ◌++◌, length, sym, ap, subst, ◌∙◌, arith, Option, Some, Ok, append-nil, length-drop}
 use Rattle.ipx_capture.specs.Records.{Record, Contents, records_from, from_front, first_record, behind, before}
 use Rattle.ipx_capture.specs.Calls.{ending}
 use Rattle.ipx_capture.specs.declared.capture_fault.CaptureFault.{CaptureFault}
@@ -23,9 +23,7 @@ rows_append order (r ∷ rs) n bytes rest more (first, later) = (
 -- one record more
 pub rows_more : (order : Order) (rs : List Record) (n m : ℕ) (bytes rest : List ℕ) (r : Record) → Rows order n bytes rs rest → m ≡ n + length rs
     → first_record order m rest ≡ Ok (Some r) → Rows order n bytes (rs ++ r ∷ []) (behind r rest)
-rows_more order [] n m bytes rest r e same first =
-    let at : m ≡ n = omega (arith, same) in
-    (subst (λ (x : List ℕ). first_record order n x ≡ Ok (Some r)) e (subst (λ (k : ℕ). first_record order k rest ≡ Ok (Some r)) at first), ap (behind r) e)
+rows_more order [] n m bytes rest r e same first = grind arith
 rows_more order (q ∷ rs) n m bytes rest r (told, later) same first =
     (told, rows_more order rs (n + 1) m (behind q bytes) rest r later (omega (arith, same)) first)
 
@@ -61,8 +59,7 @@ rows_split order (r ∷ rs) (suc most) n bytes rest (first, later) few =
 -- the end or the fault behind them is that of the bytes
 met : (order : Order) (most m : ℕ) (rest : List ℕ) (fault : Option CaptureFault) → first_record order m rest ≡ ending fault
     → records_from (suc most) order m rest ≡ record { records = []; fault = fault }
-met order most m rest None told = ap (λ x. from_front x (λ s. records_from most order (m + 1) (behind s rest))) told
-met order most m rest (Some fault) told = ap (λ x. from_front x (λ s. records_from most order (m + 1) (behind s rest))) told
+met order most m rest fault told = grind arith
 
 pub rows_end : (order : Order) (rs : List Record) (most n m : ℕ) (bytes rest : List ℕ) (fault : Option CaptureFault) → Rows order n bytes rs rest → length bytes < most
     → m ≡ n + length rs → first_record order m rest ≡ ending fault → records_from most order n bytes ≡ record { records = rs; fault = fault }

@@ -1,5 +1,5 @@
 -- Texts that are added one after the other, and prefixes of them.
-use Rattle.std.proofs.Common.{◌≡◌, ℕ, zero, suc, ◌+◌, false, List, [], ◌∷◌, ◌++◌, length, take, drop, refl, sym, ap, subst, ◌∙◌, Result, Ok, Err, append_assoc, append-nil, take-add, take_at, drop_at}
+use Rattle.std.proofs.Common.{◌≡◌, ℕ, zero, suc, ◌+◌, false, List, [], ◌∷◌, ◌++◌, length, take, refl, sym, ap, subst, ◌∙◌, Result, Ok, Err, append_assoc, append-nil, take-add, take_at, drop_at, arith}
 use Rattle.std.proofs.KnownBytes.{Appends-nil, Appends-trans}
 use Rattle.std.specs.Io.KnownBytes.{Appends}
 use Rattle.ipx_wire.specs.Ends.{Output}
@@ -15,22 +15,11 @@ added_kept o old new said fine e = record { gone = []; written = Appends-nil o.w
 
 -- all was written
 pub added_written : (o to : Output) (old text said new : List ℕ) → o.failed ≡ false → text ≡ old ++ said → WroteAll o to text → new ≡ [] → Added o to old new said
-added_written o to old text said new fine e all none = record {
-  gone = text;
-  written = all.written;
-  all = sym e ∙ sym (append-nil text) ∙ ap (λ (x : List ℕ). text ++ x) (sym none);
-  fine = all.fine ∙ fine;
-}
+added_written o to old text said new fine e all none = grind (arith, append-nil)
 
 -- one text and then another
 pub added_then : (from mid to : Output) (old text new a b : List ℕ) → Added from mid old text a → Added mid to text new b → Added from to old new (a ++ b)
-added_then from mid to old text new a b x y = record {
-  gone = x.gone ++ y.gone;
-  written = Appends-trans from.written mid.written to.written x.gone y.gone x.written y.written;
-  all = sym (append_assoc old a b) ∙ ap (λ (l : List ℕ). l ++ b) x.all ∙ append_assoc x.gone text b ∙ ap (λ (l : List ℕ). x.gone ++ l) y.all
-      ∙ sym (append_assoc x.gone y.gone new);
-  fine = y.fine;
-}
+added_then from mid to old text new a b x y = grind (arith, Appends-trans, append_assoc)
 
 -- a prefix of a text is one of all that begins with it
 front_within : (t rest : List ℕ) (n : ℕ) → (k : ℕ) × (take k (t ++ rest) ≡ take n t)
@@ -42,10 +31,7 @@ front_within (x ∷ t) rest (suc n) =
     (suc r.0, ap (λ (l : List ℕ). x ∷ l) r.1)
 
 take_behind : (gone l : List ℕ) (k : ℕ) → take (length gone + k) (gone ++ l) ≡ gone ++ take k l
-take_behind gone l k =
-    take-add (length gone) k (gone ++ l)
-    ∙ ap (λ (x : List ℕ). x ++ take k (drop (length gone) (gone ++ l))) (take_at gone l (length gone) refl)
-    ∙ ap (λ (x : List ℕ). gone ++ take k x) (drop_at gone l (length gone) refl)
+take_behind gone l k = grind (arith, take-add, take_at, drop_at)
 
 -- some text was added, and then a prefix of what follows was written
 pub front_then : (from mid to : Output) (old text a b rest whole : List ℕ) → Added from mid old text a → WroteFront mid to (text ++ b) → whole ≡ a ++ (b ++ rest)

@@ -15,9 +15,7 @@ listed_next xs k x e =
 -- a text that has the items up to a place gets the one there
 pub listed_more : {X : Type 0} (f : X → List ℕ) (xs : List X) (k : ℕ) (x : X) (start now after : List ℕ) → slice_get xs k ≡ Some x
     → now ≡ start ++ flat_map f (take k xs) → after ≡ now ++ f x → after ≡ start ++ flat_map f (take (k + 1) xs)
-listed_more f xs k x start now after e has gained =
-    gained ∙ ap (λ (t : List ℕ). t ++ f x) has ∙ flat_map_more f start (take k xs) x
-    ∙ ap (λ l. start ++ flat_map f l) (sym (listed_next xs k x e))
+listed_more f xs k x start now after e has gained = grind (arith, flat_map_more, listed_next)
 
 -- before the end there is an item
 pub not_past : {X : Type 0} (xs : List X) (k : ℕ) → slice_get xs k ≡ None → k < length xs → ⊥

@@ -1,5 +1,5 @@
 -- The line of a service, by the bytes of its entry.
-use Rattle.std.proofs.Common.{◌≡◌, ◌≢◌, ℕ, ◌≤◌, ◌⊎◌, inl, inr, List, ◌++◌, length, take, drop, codes, refl, sym, ap, ◌∙◌, arith, Option}
+use Rattle.std.proofs.Common.{◌≡◌, ◌≢◌, ℕ, ◌≤◌, ◌⊎◌, List, ◌++◌, length, take, drop, codes, refl, ap, ◌∙◌, arith, Option}
 use Rattle.std.proofs.lemmas.List.{drop-drop}
 use Rattle.std.specs.Int.{from_be_bytes, to_be_bytes, w16}
 use Rattle.hex.specs.Hex.{encode_upper}
@@ -32,7 +32,4 @@ named_line b count room e some not_all =
 -- an entry without one
 pub nameless_line : (b : List ℕ) (count : ℕ) → count ≡ zero_at (piece b 2 48) → (count ≡ 0) ⊎ (count ≡ 48) → service_entry_text (sap_entry_at b) ≡ codes "service bad\n"
 unfolding service_entry_text sap_entry_at
-nameless_line b count e (inl none) =
-    ap (λ (n : Option (List ℕ)). named_text n (sap_entry_at b)) (name_of-empty (piece b 2 48) (sym e ∙ none))
-nameless_line b count e (inr whole) =
-    ap (λ (n : Option (List ℕ)). named_text n (sap_entry_at b)) (name_of-whole (piece b 2 48) (sym e ∙ whole))
+nameless_line b count e given = grind (arith, name_of-empty, name_of-whole)

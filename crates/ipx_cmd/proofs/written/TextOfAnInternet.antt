@@ -26,8 +26,7 @@ pub quiet_text : (queue : List Delivery) → queue ≡ [] → settled_text queue
 quiet_text queue none = ap settled_text none
 
 pub left_text : (queue : List Delivery) → 0 < length queue → settled_text queue ≡ codes "left " ++ decimal (length queue) ++ codes "\n"
-left_text [] some = absurd (omega (arith, some))
-left_text (first ∷ queue) some = refl
+left_text queue some = grind arith
 
 -- ---- receptions
 
@@ -79,8 +78,7 @@ tell routers copy = record { copy = copy; outcome = outcome_at routers copy }
 
 told : (routers : List Router) (t : List Traced) → AllByRecursion (λ r. r.outcome ≡ outcome_at routers r.copy) t → t ≡ map (tell routers) (map (λ r. r.copy) t)
 told routers [] all = refl
-told routers (r ∷ t) all =
-    ap (λ o. record { copy = r.copy; outcome = o } ∷ t) all.0 ∙ ap (λ (l : List Traced). tell routers r.copy ∷ l) (told routers t all.1)
+told routers (r ∷ t) all = grind (arith, told routers t all.1)
 
 -- what is told is the tree
 pub traced_is : (routers : List Router) (c : Copy) (t : List Traced) → map (λ r. r.copy) t ≡ tree routers c → AllByRecursion (λ r. r.outcome ≡ outcome_at routers r.copy) t
@@ -111,13 +109,8 @@ module _ (m : Moment) (q : Queued) (router port limit : ℕ) (bytes : List ℕ) 
   pub traced_says : (t : List Traced) (r : Result (Unit {0}) RunFault) → map (λ x. x.copy) t ≡ tree (routers_of m.routers) (root place bytes)
       → AllByRecursion (λ x. x.outcome ≡ outcome_at (routers_of m.routers) x.copy) t → length t ≤ limit → Says from to old new (copies_text 0 t) r
       → Says from to old new (trace_text limit (traced_all (net_at m) q router port bytes)) r
-  traced_says t r copies outcomes few says =
-      says_same from to old new (copies_text 0 t) (trace_text limit (traced_all (net_at m) q router port bytes)) r
-      (sym (within_limit limit t few) ∙ ap (trace_text limit) (traced_is (routers_of m.routers) (root place bytes) t copies outcomes ∙ whole_is)) says
+  traced_says t r copies outcomes few says = grind (arith, says_same, within_limit, traced_is, whole_is)
 
   pub limit_says : (r : Result (Unit {0}) RunFault) → limit < length (tree (routers_of m.routers) (root place bytes)) → Says from to old new (codes "limit\n") r
       → Says from to old new (trace_text limit (traced_all (net_at m) q router port bytes)) r
-  limit_says r many says =
-      let more : limit < length whole = subst (λ (n : ℕ). limit < n) (sym (length-map (tree (routers_of m.routers) (root place bytes)) (tell (routers_of m.routers)))) many in
-      says_same from to old new (codes "limit\n") (trace_text limit (traced_all (net_at m) q router port bytes)) r
-      (sym (past_limit limit whole more) ∙ ap (trace_text limit) whole_is) says
+  limit_says r many says = grind (arith, length-map, says_same, past_limit, whole_is)

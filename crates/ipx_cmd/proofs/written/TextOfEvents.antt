@@ -1,4 +1,5 @@
 -- The text of events, one after the other.
+use Rattle.std.proofs.lemmas.Grind.{common_steps}
 use Rattle.std.proofs.Common.{◌≡◌, ℕ, ◌+◌, ◌-◌, ◌<◌, List, [], ◌∷◌, ◌++◌, sym, ap, ◌∙◌, arith, replicate, append_assoc, append-nil}
 use Rattle.std.proofs.lemmas.List.{replicate_more, replicate-append-replicate}
 use Rattle.ipx_router.specs.History.{Event, History, Second}
@@ -14,8 +15,7 @@ pub event_said : (ports : List Port) (history : History) (event : Event) (become
     → sent ≡ sends ports most_routes most_services history event → becomes ≡ outcome ports most_routes history event
     → event_lines (reason becomes) sent ≡ event_text ports history event
 unfolding event_text
-event_said ports history event becomes sent sends becoming =
-    ap (λ o. event_lines (reason o) sent) becoming ∙ ap (event_lines (reason (outcome ports most_routes history event))) sends
+event_said ports history event becomes sent sends becoming = grind arith
 
 pub events_append : (ports : List Port) (history : History) (before after : List Event)
     → events_text ports history (before ++ after) ≡ events_text ports history before ++ events_text ports (history ++ before) after
@@ -30,8 +30,7 @@ events_append ports history (event ∷ before) after =
 -- a second more
 pub seconds_more : (ports : List Port) (history : History) (k : ℕ)
     → events_text ports history (replicate (k + 1) Second) ≡ events_text ports history (replicate k Second) ++ events_text ports (history ++ replicate k Second) (Second ∷ [])
-seconds_more ports history k =
-    ap (events_text ports history) (sym (replicate_more k Second)) ∙ events_append ports history (replicate k Second) (Second ∷ [])
+seconds_more ports history k = grind (arith, common_steps, replicate_more, events_append)
 
 pub history_more : (history : History) (k : ℕ) → (history ++ replicate k Second) ++ Second ∷ [] ≡ history ++ replicate (k + 1) Second
 history_more history k = append_assoc history (replicate k Second) (Second ∷ []) ∙ ap (λ (l : List Event). history ++ l) (replicate_more k Second)
@@ -55,8 +54,4 @@ second_among ports history k n below =
 pub event_written : (ports : List Port) (history : History) (event : Event) (becomes : Outcome) (before sent : List Sent) (start after : List ℕ) → before ≡ []
     → sent ≡ before ++ sends ports most_routes most_services history event → becomes ≡ outcome ports most_routes history event
     → after ≡ start ++ event_lines (reason becomes) sent → after ≡ start ++ events_text ports history (event ∷ [])
-event_written ports history event becomes before sent start after none sends_are becoming wrote =
-    wrote ∙ ap (λ (l : List ℕ). start ++ l) (
-    event_said ports history event becomes sent (sends_are ∙ ap (λ (l : List Sent). l ++ sends ports most_routes most_services history event) none) becoming
-    ∙ sym (append-nil (event_text ports history event))
-    )
+event_written ports history event becomes before sent start after none sends_are becoming wrote = grind (arith, event_said, append-nil)
