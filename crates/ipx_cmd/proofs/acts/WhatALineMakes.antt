@@ -134,28 +134,31 @@ pub unmade_line : (m : Machine) (s : Standing) (line buffer : List ℕ) (c : Com
 unmade_line m s line buffer c o text fault unlike is e made = (router_line m s line buffer c (Err fault) unlike is e made, refl, refl)
 
 -- the machine whose router is made obeyed
-pub obeyed_line : (m k p : Machine) (s : Standing) (line buffer : List ℕ) (c : Command) (from to : Output) (old new : List ℕ) → is_port c ≡ false → IsStanding m s
+obeyed_is : (m k : Machine) (s : Standing) (line buffer : List ℕ) (c : Command) → is_port c ≡ false → IsStanding m s
+    → line_meaning (reached m) line ≡ Ok (Some (command_says buffer c)) → (made : Makes k s) → k.buffer ≡ buffer → acts s line ≡ obeys s.ports made.past (command_says k.buffer c)
+obeyed_is m k s line buffer c unlike is e made same =
+    router_line m s line buffer c (Ok made.past) unlike is e made.is ∙ ap (λ (b : List ℕ). obeys s.ports made.past (command_says b c)) (sym same)
+
+pub obeyed_line : {m k p : Machine} {s : Standing} {line buffer : List ℕ} (c : Command) {from to : Output} {old new : List ℕ} → is_port c ≡ false → IsStanding m s
     → line_meaning (reached m) line ≡ Ok (Some (command_says buffer c)) → Makes k s → k.buffer ≡ buffer
     → ((ports : List Port) (h : History) → IsStanding k (record { ports = ports; past = Some h }) → Leads p (obeys ports h (command_says k.buffer c)) from to old new)
     → Acted acts (IsStanding p) s line from to old new
-obeyed_line m k p s line buffer c from to old new unlike is e made same obeyed =
+obeyed_line {m = m} {k = k} {s = s} {line = line} {buffer = buffer} c unlike is e made same obeyed =
     let leads = obeyed s.ports made.past made.stands in
-    let does = router_line m s line buffer c (Ok made.past) unlike is e made.is in
     record {
       after = leads.after;
       said = leads.said;
-      does = does ∙ ap (λ (b : List ℕ). obeys s.ports made.past (command_says b c)) (sym same) ∙ leads.does;
+      does = obeyed_is m k s line buffer c unlike is e made same ∙ leads.does;
       now = leads.now;
       added = leads.added;
     }
 
-pub halted_line : (m k : Machine) (s : Standing) (line buffer : List ℕ) (c : Command) (from to : Output) (old new : List ℕ) (halt : Halt) → is_port c ≡ false → IsStanding m s
+pub halted_line : {m k : Machine} {s : Standing} (line : List ℕ) {buffer : List ℕ} (c : Command) (from to : Output) (old new : List ℕ) (halt : Halt) → is_port c ≡ false → IsStanding m s
     → line_meaning (reached m) line ≡ Ok (Some (command_says buffer c)) → Makes k s → k.buffer ≡ buffer
     → ((ports : List Port) (h : History) → IsStanding k (record { ports = ports; past = Some h }) → Halted (obeys ports h (command_says k.buffer c)) from to old new halt)
     → Halted (acts s line) from to old new halt
-halted_line m k s line buffer c from to old new halt unlike is e made same obeyed =
-    let does = router_line m s line buffer c (Ok made.past) unlike is e made.is ∙ ap (λ (b : List ℕ). obeys s.ports made.past (command_says b c)) (sym same) in
-    subst (λ (led : Led). Halted led from to old new halt) (sym does) (obeyed s.ports made.past made.stands)
+halted_line {m = m} {k = k} {s = s} line {buffer = buffer} c from to old new halt unlike is e made same obeyed =
+    subst (λ (led : Led). Halted led from to old new halt) (sym (obeyed_is m k s line buffer c unlike is e made same)) (obeyed s.ports made.past made.stands)
 
 -- ---- what the last call of a line leaves
 
@@ -169,17 +172,3 @@ unlike_port (PortDown port) differs = refl
 unlike_port (PortUp port) differs = refl
 unlike_port Routes differs = refl
 unlike_port Services differs = refl
-
-pub line_acted : (m k p : Machine) (line buffer : List ℕ) (c : Command) (from to : Output) (old new : List ℕ) (r : Result (Unit {0}) Halt) → is_port c ≡ false
-    → line_meaning (reached m) line ≡ Ok (Some (command_says buffer c)) → ((s : Standing) → IsStanding m s → Makes k s) → k.buffer ≡ buffer
-    → OnOk r ((ports : List Port) (h : History) → IsStanding k (record { ports = ports; past = Some h }) → Leads p (obeys ports h (command_says k.buffer c)) from to old new)
-    → OnOk r ((s : Standing) → IsStanding m s → Acted acts (IsStanding p) s line from to old new)
-line_acted m k p line buffer c from to old new (Ok done) unlike e makes same obeyed = λ s is. obeyed_line m k p s line buffer c from to old new unlike is e (makes s is) same obeyed
-line_acted m k p line buffer c from to old new (Err halt) unlike e makes same obeyed = tt
-
-pub line_halted : (m k : Machine) (line buffer : List ℕ) (c : Command) (from to : Output) (old new : List ℕ) (r : Result (Unit {0}) Halt) → is_port c ≡ false
-    → line_meaning (reached m) line ≡ Ok (Some (command_says buffer c)) → ((s : Standing) → IsStanding m s → Makes k s) → k.buffer ≡ buffer
-    → IfErr r (λ halt. (ports : List Port) (h : History) → IsStanding k (record { ports = ports; past = Some h }) → Halted (obeys ports h (command_says k.buffer c)) from to old new halt)
-    → IfErr r (λ halt. (s : Standing) → IsStanding m s → Halted (acts s line) from to old new halt)
-line_halted m k line buffer c from to old new (Ok done) unlike e makes same obeyed = tt
-line_halted m k line buffer c from to old new (Err halt) unlike e makes same obeyed = λ s is. halted_line m k s line buffer c from to old new halt unlike is e (makes s is) same obeyed

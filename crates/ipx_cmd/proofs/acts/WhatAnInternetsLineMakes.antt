@@ -171,28 +171,31 @@ unmade_line m s line buffer r o text halt fine unlike is e stops =
     (stops_line o text (past_of s) (λ q. obeys s.net q (order_says buffer r)) halt fine stops)
 
 -- the machine whose internet is made obeyed
-obeyed_line : (m k p : InternetMachine) (s : Standing) (line buffer : List ℕ) (r : Order) (from to : Output) (old new : List ℕ) → is_naming r ≡ false → IsStanding m s
+obeyed_is : (m k : InternetMachine) (s : Standing) (line buffer : List ℕ) (r : Order) → is_naming r ≡ false → IsStanding m s
+    → order_meaning (reached m) line ≡ Ok (Some (order_says buffer r)) → (made : Makes k s) → k.buffer ≡ buffer → acts s line ≡ obeys s.net made.past (order_says k.buffer r)
+obeyed_is m k s line buffer r unlike is e made same =
+    order_line m s line buffer r (Ok made.past) unlike is e made.is ∙ ap (λ (b : List ℕ). obeys s.net made.past (order_says b r)) (sym same)
+
+pub obeyed_line : {m k p : InternetMachine} {s : Standing} {line buffer : List ℕ} (r : Order) {from to : Output} {old new : List ℕ} → is_naming r ≡ false → IsStanding m s
     → order_meaning (reached m) line ≡ Ok (Some (order_says buffer r)) → Makes k s → k.buffer ≡ buffer
     → ((net : Internet) (q : Queued) → IsStanding k (record { net = net; past = Some q }) → Leads p (obeys net q (order_says k.buffer r)) from to old new)
     → Acted acts (IsStanding p) s line from to old new
-obeyed_line m k p s line buffer r from to old new unlike is e made same obeyed =
+obeyed_line {m = m} {k = k} {s = s} {line = line} {buffer = buffer} r unlike is e made same obeyed =
     let leads = obeyed s.net made.past made.stands in
     record {
       after = leads.after;
       said = leads.said;
-      does = order_line m s line buffer r (Ok made.past) unlike is e made.is
-          ∙ ap (λ (b : List ℕ). obeys s.net made.past (order_says b r)) (sym same) ∙ leads.does;
+      does = obeyed_is m k s line buffer r unlike is e made same ∙ leads.does;
       now = leads.now;
       added = leads.added;
     }
 
-halted_line : (m k : InternetMachine) (s : Standing) (line buffer : List ℕ) (r : Order) (from to : Output) (old new : List ℕ) (halt : Halt) → is_naming r ≡ false → IsStanding m s
+pub halted_line : {m k : InternetMachine} {s : Standing} (line : List ℕ) {buffer : List ℕ} (r : Order) (from to : Output) (old new : List ℕ) (halt : Halt) → is_naming r ≡ false → IsStanding m s
     → order_meaning (reached m) line ≡ Ok (Some (order_says buffer r)) → Makes k s → k.buffer ≡ buffer
     → ((net : Internet) (q : Queued) → IsStanding k (record { net = net; past = Some q }) → Halted (obeys net q (order_says k.buffer r)) from to old new halt)
     → Halted (acts s line) from to old new halt
-halted_line m k s line buffer r from to old new halt unlike is e made same obeyed =
-    let does = order_line m s line buffer r (Ok made.past) unlike is e made.is ∙ ap (λ (b : List ℕ). obeys s.net made.past (order_says b r)) (sym same) in
-    subst (λ (led : Led). Halted led from to old new halt) (sym does) (obeyed s.net made.past made.stands)
+halted_line {m = m} {k = k} {s = s} line {buffer = buffer} r from to old new halt unlike is e made same obeyed =
+    subst (λ (led : Led). Halted led from to old new halt) (sym (obeyed_is m k s line buffer r unlike is e made same)) (obeyed s.net made.past made.stands)
 
 -- ---- what the last call of a line leaves
 
@@ -209,20 +212,6 @@ unlike_naming (Settle limit) router port = refl
 unlike_naming (Trace number place limit) router port = refl
 unlike_naming (Routes number) router port = refl
 unlike_naming (Services number) router port = refl
-
-pub line_acted : (m k p : InternetMachine) (line buffer : List ℕ) (o : Order) (from to : Output) (old new : List ℕ) (r : Result (Unit {0}) Halt) → is_naming o ≡ false
-    → order_meaning (reached m) line ≡ Ok (Some (order_says buffer o)) → ((s : Standing) → IsStanding m s → Makes k s) → k.buffer ≡ buffer
-    → OnOk r ((net : Internet) (q : Queued) → IsStanding k (record { net = net; past = Some q }) → Leads p (obeys net q (order_says k.buffer o)) from to old new)
-    → OnOk r ((s : Standing) → IsStanding m s → Acted acts (IsStanding p) s line from to old new)
-line_acted m k p line buffer o from to old new (Ok done) unlike e makes same obeyed = λ s is. obeyed_line m k p s line buffer o from to old new unlike is e (makes s is) same obeyed
-line_acted m k p line buffer o from to old new (Err halt) unlike e makes same obeyed = tt
-
-pub line_halted : (m k : InternetMachine) (line buffer : List ℕ) (o : Order) (from to : Output) (old new : List ℕ) (r : Result (Unit {0}) Halt) → is_naming o ≡ false
-    → order_meaning (reached m) line ≡ Ok (Some (order_says buffer o)) → ((s : Standing) → IsStanding m s → Makes k s) → k.buffer ≡ buffer
-    → IfErr r (λ halt. (net : Internet) (q : Queued) → IsStanding k (record { net = net; past = Some q }) → Halted (obeys net q (order_says k.buffer o)) from to old new halt)
-    → IfErr r (λ halt. (s : Standing) → IsStanding m s → Halted (acts s line) from to old new halt)
-line_halted m k line buffer o from to old new (Ok done) unlike e makes same obeyed = tt
-line_halted m k line buffer o from to old new (Err halt) unlike e makes same obeyed = λ s is. halted_line m k s line buffer o from to old new halt unlike is e (makes s is) same obeyed
 
 -- ---- the internet is made, or was
 
@@ -311,20 +300,6 @@ stage_by made routers ports = record { made = made; routers = routers; ports = p
 pub reached_is : (m : InternetMachine) (made : Bool) (routers ports : ℕ) → made ≡ is_some m.internet → routers ≡ length m.net → ports ≡ length (latest m.net)
     → stage_by made routers ports ≡ reached m
 reached_is m made routers ports a b c = rw (a, b, c) refl
-
--- ---- what holds of an answer, and what follows
-
-pub on_ok : {A E P Q : Type 0} (r : Result A E) → OnOk r P → (P → Q) → OnOk r Q
-on_ok (Ok a) p next = next p
-on_ok (Err e) p next = tt
-
-pub on_both : {A E P Q X : Type 0} (r : Result A E) → OnOk r P → OnOk r Q → (P → Q → X) → OnOk r X
-on_both (Ok a) p q next = next p q
-on_both (Err e) p q next = tt
-
-pub on_err : {A E : Type 0} {P Q : E → Type 0} (r : Result A E) → IfErr r P → ((e : E) → P e → Q e) → IfErr r Q
-on_err (Ok a) p next = tt
-on_err (Err e) p next = next e p
 
 -- the run ends since memory is missing
 pub no_memory : (s : Standing) (line : List ℕ) (o : Output) (text : List ℕ) (halt : Halt) → o.failed ≡ false → halt ≡ Run Memory → Halted (acts s line) o o text text halt

@@ -52,9 +52,8 @@ midway_start before p o text opened none fine = record {
 }
 
 -- text was written
-pub midway_moved : (p q : Place) (from o to : Output) (text left : List ℕ) (shown : ℕ) → Midway p q from o text shown → Moved o to text left
-    → Midway p q from to left shown
-midway_moved p q from o to text left shown m moved = record {
+pub midway_moved : {p q : Place} {from o to : Output} {text left : List ℕ} {shown : ℕ} → Midway p q from o text shown → Moved o to text left → Midway p q from to left shown
+midway_moved {from = from} {o = o} {to = to} {left = left} m moved = record {
   more = m.more;
   rs = m.rs;
   gone = m.gone ++ moved.gone;
@@ -78,18 +77,18 @@ pub record Next (p q : Place) (more : List ℕ) (r : Record) : Type 0 where
   pub number : r.number ≡ p.taken + 1
   pub size : length q.ahead + 16 + length r.bytes ≡ length p.ahead + length more
 
-pub next_of : (p q : Place) (r : Record) → (t : Takes p q (Ok (Some r))) → Next p q t.more r
-next_of p q r t = record {
+pub next_of : {p q : Place} {r : Record} (t : Takes p q (Ok (Some r))) → Next p q t.more r
+next_of {p = p} {r = r} t = record {
   is = t.gives.0;
   number = ap (λ (s : Record). s.number) (whole_first p.order (p.taken + 1) (p.ahead ++ t.more) r t.gives.0).is;
   size = omega (arith, first_size p.order (p.taken + 1) (p.ahead ++ t.more) r t.gives.0, ap length t.gives.1, length-drop (16 + length r.bytes) (p.ahead ++ t.more), length-append p.ahead t.more);
 }
 
 -- a record was taken, and its text put behind the text that is left
-pub midway_took : (p q s : Place) (from to : Output) (text left : List ℕ) (shown : ℕ) (r : Record) → Midway p q from to text shown → Takes q s (Ok (Some r))
+pub midway_took : {p q s : Place} {from to : Output} {text left : List ℕ} {shown : ℕ} {r : Record} → Midway p q from to text shown → Takes q s (Ok (Some r))
     → left ≡ text ++ record_text r → Midway p s from to left r.number
-midway_took p q s from to text left shown r m t said =
-    let next = next_of q s r t in
+midway_took {p = p} {q = q} {s = s} {text = text} {r = r} m t said =
+    let next = next_of t in
     let first : first_record p.order (q.taken + 1) (q.ahead ++ t.more) ≡ Ok (Some r) = ap (λ o. first_record o (q.taken + 1) (q.ahead ++ t.more)) (sym m.order) ∙ next.is in
     let rows = rows_more p.order m.rs 1 (q.taken + 1) (m.more ++ t.more) (q.ahead ++ t.more) r
     (rows_append p.order m.rs 1 m.more q.ahead t.more m.rows) (omega (arith, m.taken)) first in
@@ -114,8 +113,8 @@ midway_took p q s from to text left shown r m t said =
     }
 
 -- and less is to come: each call of the reader brings a bounded number of bytes, and a record takes some away
-pub shrinks : (p q s : Place) (from to : Output) (text : List ℕ) (shown : ℕ) (r : Record) → Midway p q from to text shown → Takes q s (Ok (Some r))
+pub shrinks : {p q s : Place} {from to : Output} {text : List ℕ} {shown : ℕ} {r : Record} → Midway p q from to text shown → Takes q s (Ok (Some r))
     → 262160 * (16777216 - s.input.calls) + length s.ahead < 262160 * (16777216 - q.input.calls) + length q.ahead
-shrinks p q s from to text shown r m t =
-    let next = next_of q s r t in
+shrinks m t =
+    let next = next_of t in
     omega (arith, next.size, t.gained.few, t.gained.bounded m.bounded, m.bounded)

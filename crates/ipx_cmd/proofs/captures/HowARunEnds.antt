@@ -88,69 +88,9 @@ front_more text whole more longer front e = record {
   is = e ∙ ap (λ (x : List ℕ). x ++ more) front.is ∙ append_assoc text front.rest more;
 }
 
--- bytes that were read on since
-read_on : (before : Input) (p q : Place) (from o : Output) (text : List ℕ) (n : ℕ) (new : Input) (more : List ℕ) (opened : Opened before p) (m : Midway p q from o text n)
-    → Consumes q.input.left new.left more → Consumes before.left new.left (opened.begun.header ++ (m.more ++ more))
-read_on before p q from o text n new more opened m h =
-    Consumes-trans before.left p.input.left new.left opened.begun.header (m.more ++ more) opened.begun.read
-    (Consumes-trans p.input.left q.input.left new.left m.more more m.read h)
-
--- the run was given up with bytes read on, and a prefix of the text left was written
-pub cut : (before : Input) (p q : Place) (from o to : Output) (text : List ℕ) (n : ℕ) (new : Input) (more : List ℕ) → Opened before p → Midway p q from o text n
-    → Consumes q.input.left new.left more → WroteFront o to text → CutOff before new from to
-cut before p q from o to text n new more opened m h w =
-    let rows = rows_append p.order m.rs 1 m.more q.ahead more m.rows in
-    let split = file_split before p opened (m.more ++ more) (q.ahead ++ more) m.rs rows in
-    let c = split.0 in
-    let bytes : List ℕ = opened.begun.header ++ (m.more ++ more) in
-    let tail : List ℕ = flat_map record_text c.records ++ ending_text (length (m.rs ++ c.records)) (settled c.fault) in
-    let texts : sofar bytes ≡ flat_map record_text m.rs ++ tail =
-    sofar_by bytes (prepend m.rs c) split.1
-    ∙ ap (λ (x : List ℕ). x ++ ending_text (length (m.rs ++ c.records)) (settled c.fault)) (flat_map-append record_text m.rs c.records)
-    ∙ append_assoc (flat_map record_text m.rs) (flat_map record_text c.records) (ending_text (length (m.rs ++ c.records)) (settled c.fault)) in
-    record {
-      bytes = bytes;
-      text = m.gone ++ take w.count text;
-      read = read_on before p q from o text n new more opened m h;
-      wrote = Appends-trans from.written o.written to.written m.gone (take w.count text) m.wrote w.written;
-      front = inl (front_more (m.gone ++ take w.count text) (flat_map record_text m.rs) tail (sofar bytes) (front_of (flat_map record_text m.rs) m.gone text w.count m.text_is) texts);
-    }
-
 -- nothing was written
 pub wrote_none : (o to : Output) (text : List ℕ) → to ≡ o → WroteFront o to text
 wrote_none o to text e = record { count = 0; written = subst (λ (x : Output). Appends o.written x.written []) (sym e) (Appends-nil o.written) }
-
--- the records of the bytes read, where a call told their end
-met : (before : Input) (p q s : Place) (from o : Output) (text : List ℕ) (n : ℕ) (opened : Opened before p) (m : Midway p q from o text n) (more : List ℕ) (fault : Option CaptureFault)
-    → first_record q.order (q.taken + 1) (q.ahead ++ more) ≡ ending fault → records (opened.begun.header ++ (m.more ++ more)) ≡ record { records = m.rs; fault = fault }
-met before p q s from o text n opened m more fault told =
-    file_end before p opened (m.more ++ more) (q.ahead ++ more) m.rs (q.taken + 1) fault (rows_append p.order m.rs 1 m.more q.ahead more m.rows) (omega (arith, m.taken))
-    (ap (λ x. first_record x (q.taken + 1) (q.ahead ++ more)) (sym m.order) ∙ told)
-
--- the end of the file
-pub done : (before : Input) (p q s : Place) (from o to : Output) (text : List ℕ) (n : ℕ) → Opened before p → Midway p q from o text n → Takes q s (Ok None)
-    → WroteAll o to text → Decoded before s.input from to Done
-done before p q s from o to text n opened m t w =
-    let bytes : List ℕ = opened.begun.header ++ (m.more ++ t.more) in
-    let are = met before p q s from o text n opened m t.more None (ap (first_record q.order (q.taken + 1)) t.gives.0 ∙ first_none q.order (q.taken + 1) [] refl) in
-    let texts : shown bytes ≡ m.gone ++ text = shown_by bytes (record { records = m.rs; fault = None }) are ∙ append-nil (flat_map record_text m.rs) ∙ m.text_is in
-    record {
-      bytes = bytes;
-      read = read_on before p q from o text n s.input t.more opened m t.read;
-      wrote = subst (Appends from.written to.written) (sym texts) (Appends-trans from.written o.written to.written m.gone text m.wrote w.written);
-      answer = sym (end_by bytes (record { records = m.rs; fault = None }) are);
-      enough = inl t.gives.2;
-    }
-
--- a fault of the file that a call told
-pub record Found (before : Input) (p q s : Place) (from o : Output) (text : List ℕ) (n : ℕ) (fault : CaptureFault) : Type 0 where
-  pub opened : Opened before p
-  pub m : Midway p q from o text n
-  pub more : List ℕ
-  pub read : Consumes q.input.left s.input.left more
-  pub is : first_record q.order (q.taken + 1) (q.ahead ++ more) ≡ Err fault
-  pub enough : IsAtEnd s.input.left ⊎ (settled (Some fault) ≡ Some fault)
-  pub line : ending_text (length m.rs) (Some fault) ≡ capture_fault_text (n + 1) fault
 
 -- the bytes that it was found in, and what they have
 pub record Ends (before new : Input) (from o : Output) (text line : List ℕ) (fault : CaptureFault) : Type 0 where
@@ -163,32 +103,11 @@ pub record Ends (before new : Input) (from o : Output) (text line : List ℕ) (f
   pub sofar_is : settled (Some fault) ≡ Some fault → sofar bytes ≡ gone ++ (text ++ line)
   pub judged_is : settled (Some fault) ≡ Some fault → judged bytes ≡ true
 
-found_ends : (before : Input) (p q s : Place) (from o : Output) (text : List ℕ) (n : ℕ) (fault : CaptureFault) → Found before p q s from o text n fault
-    → Ends before s.input from o text (capture_fault_text (n + 1) fault) fault
-found_ends before p q s from o text n fault f =
-    let m = f.m in
-    let bytes : List ℕ = f.opened.begun.header ++ (m.more ++ f.more) in
-    let c : Contents = record { records = m.rs; fault = Some fault } in
-    let are = met before p q s from o text n f.opened m f.more (Some fault) f.is in
-    let line : List ℕ = capture_fault_text (n + 1) fault in
-    let whole : contents_text c (Some fault) ≡ m.gone ++ (text ++ line) =
-    ap (λ (x : List ℕ). flat_map record_text m.rs ++ x) f.line ∙ ap (λ (x : List ℕ). x ++ line) m.text_is ∙ append_assoc m.gone text line in
-    record {
-      bytes = bytes;
-      gone = m.gone;
-      read = read_on before p q from o text n s.input f.more f.opened m f.read;
-      wrote = m.wrote;
-      shown_is = shown_by bytes c are ∙ whole;
-      end_is = end_by bytes c are;
-      sofar_is = λ settles. sofar_by bytes c are ∙ ap (contents_text c) settles ∙ whole;
-      judged_is = λ settles. judged_by bytes c are ∙ ap is_some_fault settles;
-    }
-
 -- it was told
-ends_ok : (before new : Input) (from o to : Output) (text : List ℕ) (n : ℕ) (fault : CaptureFault) (ended : Ended)
+ends_ok : {before new : Input} {from o to : Output} {text : List ℕ} (n : ℕ) {fault : CaptureFault} {ended : Ended}
     → Ends before new from o text (capture_fault_text n fault) fault → IsAtEnd new.left ⊎ (settled (Some fault) ≡ Some fault)
     → ended ≡ BadInput → WroteAll o to (text ++ capture_fault_text n fault) → Decoded before new from to ended
-ends_ok before new from o to text n fault ended e enough answer w = record {
+ends_ok {from = from} {o = o} {to = to} {text = text} n {fault = fault} e enough answer w = record {
   bytes = e.bytes;
   read = e.read;
   wrote = subst (Appends from.written to.written) (sym e.shown_is) (Appends-trans from.written o.written to.written e.gone (text ++ capture_fault_text n fault) e.wrote w.written);
@@ -197,10 +116,10 @@ ends_ok before new from o to text n fault ended e enough answer w = record {
 }
 
 -- or a prefix of it
-ends_err : (before new : Input) (from o to : Output) (text : List ℕ) (n : ℕ) (fault : CaptureFault)
+ends_err : {before new : Input} {from o to : Output} {text : List ℕ} (n : ℕ) {fault : CaptureFault}
     → Ends before new from o text (capture_fault_text n fault) fault → IsAtEnd new.left ⊎ (settled (Some fault) ≡ Some fault)
     → WroteFront o to (text ++ capture_fault_text n fault) → CutOff before new from to
-ends_err before new from o to text n fault e enough w =
+ends_err {from = from} {o = o} {to = to} {text = text} n {fault = fault} e enough w =
     let t : List ℕ = text ++ capture_fault_text n fault in
     record {
       bytes = e.bytes;
@@ -213,65 +132,122 @@ ends_err before new from o to text n fault e enough w =
       ];
     }
 
-found_ok : (before : Input) (p q s : Place) (from o to : Output) (text : List ℕ) (n : ℕ) (fault : CaptureFault) (r : Result Ended RunFault) → Found before p q s from o text n fault
-    → Tells (n + 1) fault o to text r → IfOk r (λ ended. Decoded before s.input from to ended)
-found_ok before p q s from o to text n fault (Ok ended) f w = ends_ok before s.input from o to text (n + 1) fault ended (found_ends before p q s from o text n fault f) f.enough w.0 w.1
-found_ok before p q s from o to text n fault (Err why) f w = tt
+-- a run between two records
+module _ {before : Input} {p q : Place} {from o : Output} {text : List ℕ} {n : ℕ} (opened : Opened before p) (m : Midway p q from o text n) where
+  -- bytes that were read on since
+  read_on : (new : Input) (more : List ℕ) → Consumes q.input.left new.left more → Consumes before.left new.left (opened.begun.header ++ (m.more ++ more))
+  read_on new more h =
+      Consumes-trans before.left p.input.left new.left opened.begun.header (m.more ++ more) opened.begun.read
+      (Consumes-trans p.input.left q.input.left new.left m.more more m.read h)
 
-found_err : (before : Input) (p q s : Place) (from o to : Output) (text : List ℕ) (n : ℕ) (fault : CaptureFault) (r : Result Ended RunFault) → Found before p q s from o text n fault
-    → Tells (n + 1) fault o to text r → OnErr r (CutOff before s.input from to)
-found_err before p q s from o to text n fault (Ok ended) f w = tt
-found_err before p q s from o to text n fault (Err why) f w = ends_err before s.input from o to text (n + 1) fault (found_ends before p q s from o text n fault f) f.enough w.0
+  -- the run was given up with bytes read on, and a prefix of the text left was written
+  pub cut : {to : Output} (new : Input) (more : List ℕ) → Consumes q.input.left new.left more → WroteFront o to text → CutOff before new from to
+  cut {to = to} new more h w =
+      let rows = rows_append p.order m.rs 1 m.more q.ahead more m.rows in
+      let split = file_split before p opened (m.more ++ more) (q.ahead ++ more) m.rs rows in
+      let c = split.0 in
+      let bytes : List ℕ = opened.begun.header ++ (m.more ++ more) in
+      let tail : List ℕ = flat_map record_text c.records ++ ending_text (length (m.rs ++ c.records)) (settled c.fault) in
+      let texts : sofar bytes ≡ flat_map record_text m.rs ++ tail =
+      sofar_by bytes (prepend m.rs c) split.1
+      ∙ ap (λ (x : List ℕ). x ++ ending_text (length (m.rs ++ c.records)) (settled c.fault)) (flat_map-append record_text m.rs c.records)
+      ∙ append_assoc (flat_map record_text m.rs) (flat_map record_text c.records) (ending_text (length (m.rs ++ c.records)) (settled c.fault)) in
+      record {
+        bytes = bytes;
+        text = m.gone ++ take w.count text;
+        read = read_on new more h;
+        wrote = Appends-trans from.written o.written to.written m.gone (take w.count text) m.wrote w.written;
+        front = inl (front_more (m.gone ++ take w.count text) (flat_map record_text m.rs) tail (sofar bytes) (front_of (flat_map record_text m.rs) m.gone text w.count m.text_is) texts);
+      }
 
--- the two faults that a call tells of a file
-found_long : (before : Input) (p q s : Place) (from o : Output) (text : List ℕ) (n : ℕ) → Opened before p → Midway p q from o text n → Takes q s (Err RecordLong)
-    → Found before p q s from o text n RecordLong
-found_long before p q s from o text n opened m t = record {
-  opened = opened;
-  m = m;
-  more = t.more;
-  read = t.read;
-  is = t.gives.0;
-  enough = inr refl;
-  line = ap (λ (k : ℕ). capture_fault_text (k + 1) RecordLong) (sym m.numbered);
-}
+  -- the records of the bytes read, where a call told their end
+  met : (more : List ℕ) (fault : Option CaptureFault) → first_record q.order (q.taken + 1) (q.ahead ++ more) ≡ ending fault
+      → records (opened.begun.header ++ (m.more ++ more)) ≡ record { records = m.rs; fault = fault }
+  met more fault told =
+      file_end before p opened (m.more ++ more) (q.ahead ++ more) m.rs (q.taken + 1) fault (rows_append p.order m.rs 1 m.more q.ahead more m.rows) (omega (arith, m.taken))
+      (ap (λ x. first_record x (q.taken + 1) (q.ahead ++ more)) (sym m.order) ∙ told)
 
-found_cut : (before : Input) (p q s : Place) (from o : Output) (text : List ℕ) (n : ℕ) → Opened before p → Midway p q from o text n → Takes q s (Err CutRecord)
-    → Found before p q s from o text n CutRecord
-found_cut before p q s from o text n opened m t = record {
-  opened = opened;
-  m = m;
-  more = t.more;
-  read = t.read;
-  is = t.gives.0;
-  enough = inl t.gives.1;
-  line = ap (λ (k : ℕ). capture_fault_text (k + 1) CutRecord) (sym m.numbered);
-}
+  -- the end of the file
+  pub done : {s : Place} {to : Output} → Takes q s (Ok None) → WroteAll o to text → Decoded before s.input from to Done
+  done {s = s} {to = to} t w =
+      let bytes : List ℕ = opened.begun.header ++ (m.more ++ t.more) in
+      let are = met t.more None (ap (first_record q.order (q.taken + 1)) t.gives.0 ∙ first_none q.order (q.taken + 1) [] refl) in
+      let texts : shown bytes ≡ m.gone ++ text = shown_by bytes (record { records = m.rs; fault = None }) are ∙ append-nil (flat_map record_text m.rs) ∙ m.text_is in
+      record {
+        bytes = bytes;
+        read = read_on s.input t.more t.read;
+        wrote = subst (Appends from.written to.written) (sym texts) (Appends-trans from.written o.written to.written m.gone text m.wrote w.written);
+        answer = sym (end_by bytes (record { records = m.rs; fault = None }) are);
+        enough = inl t.gives.2;
+      }
 
--- what a run ends with at a fault that a call told
-pub fault_ok : (before : Input) (p q s : Place) (from o to : Output) (text : List ℕ) (n : ℕ) (fault : CaptureFault) (r : Result Ended RunFault) → Opened before p
-    → Midway p q from o text n → Takes q s (Err fault) → Refuses fault (n + 1) o to text r → IfOk r (λ ended. Decoded before s.input from to ended)
-fault_ok before p q s from o to text n RecordLong r opened m t w = found_ok before p q s from o to text n RecordLong r (found_long before p q s from o text n opened m t) w
-fault_ok before p q s from o to text n CutRecord r opened m t w = found_ok before p q s from o to text n CutRecord r (found_cut before p q s from o text n opened m t) w
-fault_ok before p q s from o to text n Read r opened m t w = subst (λ (x : Result Ended RunFault). IfOk x (λ ended. Decoded before s.input from to ended)) (sym w.0) tt
-fault_ok before p q s from o to text n Memory r opened m t w = subst (λ (x : Result Ended RunFault). IfOk x (λ ended. Decoded before s.input from to ended)) (sym w.0) tt
-fault_ok before p q s from o to text n CutHeader r opened m t w = absurd t.gives
-fault_ok before p q s from o to text n Magic r opened m t w = absurd t.gives
-fault_ok before p q s from o to text n Version r opened m t w = absurd t.gives
-fault_ok before p q s from o to text n Link r opened m t w = absurd t.gives
+  -- a fault of the file that a call told
+  record Found (s : Place) (fault : CaptureFault) : Type 0 where
+    pub more : List ℕ
+    pub read : Consumes q.input.left s.input.left more
+    pub is : first_record q.order (q.taken + 1) (q.ahead ++ more) ≡ Err fault
+    pub enough : IsAtEnd s.input.left ⊎ (settled (Some fault) ≡ Some fault)
+    pub line : ending_text (length m.rs) (Some fault) ≡ capture_fault_text (n + 1) fault
 
-pub fault_err : (before : Input) (p q s : Place) (from o to : Output) (text : List ℕ) (n : ℕ) (fault : CaptureFault) (r : Result Ended RunFault) → Opened before p
-    → Midway p q from o text n → Takes q s (Err fault) → Refuses fault (n + 1) o to text r → OnErr r (CutOff before s.input from to)
-fault_err before p q s from o to text n RecordLong r opened m t w = found_err before p q s from o to text n RecordLong r (found_long before p q s from o text n opened m t) w
-fault_err before p q s from o to text n CutRecord r opened m t w = found_err before p q s from o to text n CutRecord r (found_cut before p q s from o text n opened m t) w
-fault_err before p q s from o to text n Read r opened m t w =
-    subst (λ (x : Result Ended RunFault). OnErr x (CutOff before s.input from to)) (sym w.0) (cut before p q from o to text n s.input t.more opened m t.read (wrote_none o to text w.1))
-fault_err before p q s from o to text n Memory r opened m t w =
-    subst (λ (x : Result Ended RunFault). OnErr x (CutOff before s.input from to)) (sym w.0) (cut before p q from o to text n s.input t.more opened m t.read (wrote_none o to text w.1))
-fault_err before p q s from o to text n CutHeader r opened m t w = absurd t.gives
-fault_err before p q s from o to text n Magic r opened m t w = absurd t.gives
-fault_err before p q s from o to text n Version r opened m t w = absurd t.gives
-fault_err before p q s from o to text n Link r opened m t w = absurd t.gives
+  found_ends : (s : Place) (fault : CaptureFault) → Found s fault → Ends before s.input from o text (capture_fault_text (n + 1) fault) fault
+  found_ends s fault f =
+      let bytes : List ℕ = opened.begun.header ++ (m.more ++ f.more) in
+      let c : Contents = record { records = m.rs; fault = Some fault } in
+      let are = met f.more (Some fault) f.is in
+      let line : List ℕ = capture_fault_text (n + 1) fault in
+      let whole : contents_text c (Some fault) ≡ m.gone ++ (text ++ line) =
+      ap (λ (x : List ℕ). flat_map record_text m.rs ++ x) f.line ∙ ap (λ (x : List ℕ). x ++ line) m.text_is ∙ append_assoc m.gone text line in
+      record {
+        bytes = bytes;
+        gone = m.gone;
+        read = read_on s.input f.more f.read;
+        wrote = m.wrote;
+        shown_is = shown_by bytes c are ∙ whole;
+        end_is = end_by bytes c are;
+        sofar_is = λ settles. sofar_by bytes c are ∙ ap (contents_text c) settles ∙ whole;
+        judged_is = λ settles. judged_by bytes c are ∙ ap is_some_fault settles;
+      }
+
+  found_ok : (s : Place) (to : Output) (fault : CaptureFault) (r : Result Ended RunFault) → Found s fault → Tells (n + 1) fault o to text r
+      → IfOk r (λ ended. Decoded before s.input from to ended)
+  found_ok s to fault (Ok ended) f w = ends_ok (n + 1) (found_ends s fault f) f.enough w.0 w.1
+  found_ok s to fault (Err why) f w = tt
+
+  found_err : (s : Place) (to : Output) (fault : CaptureFault) (r : Result Ended RunFault) → Found s fault → Tells (n + 1) fault o to text r → OnErr r (CutOff before s.input from to)
+  found_err s to fault (Ok ended) f w = tt
+  found_err s to fault (Err why) f w = ends_err (n + 1) (found_ends s fault f) f.enough w.0
+
+  -- the two faults that a call tells of a file
+  found_long : (s : Place) → Takes q s (Err RecordLong) → Found s RecordLong
+  found_long s t =
+      record { more = t.more; read = t.read; is = t.gives.0; enough = inr refl; line = ap (λ (k : ℕ). capture_fault_text (k + 1) RecordLong) (sym m.numbered) }
+
+  found_cut : (s : Place) → Takes q s (Err CutRecord) → Found s CutRecord
+  found_cut s t =
+      record { more = t.more; read = t.read; is = t.gives.0; enough = inl t.gives.1; line = ap (λ (k : ℕ). capture_fault_text (k + 1) CutRecord) (sym m.numbered) }
+
+  -- what a run ends with at a fault that a call told
+  pub fault_ok : {s : Place} (to : Output) (fault : CaptureFault) (r : Result Ended RunFault) → Takes q s (Err fault) → Refuses fault (n + 1) o to text r
+      → IfOk r (λ ended. Decoded before s.input from to ended)
+  fault_ok {s = s} to RecordLong r t w = found_ok s to RecordLong r (found_long s t) w
+  fault_ok {s = s} to CutRecord r t w = found_ok s to CutRecord r (found_cut s t) w
+  fault_ok to Read r t w = rw w.0 tt
+  fault_ok to Memory r t w = rw w.0 tt
+  fault_ok to CutHeader r t w = absurd t.gives
+  fault_ok to Magic r t w = absurd t.gives
+  fault_ok to Version r t w = absurd t.gives
+  fault_ok to Link r t w = absurd t.gives
+
+  pub fault_err : {s : Place} (to : Output) (fault : CaptureFault) (r : Result Ended RunFault) → Takes q s (Err fault) → Refuses fault (n + 1) o to text r
+      → OnErr r (CutOff before s.input from to)
+  fault_err {s = s} to RecordLong r t w = found_err s to RecordLong r (found_long s t) w
+  fault_err {s = s} to CutRecord r t w = found_err s to CutRecord r (found_cut s t) w
+  fault_err {s = s} to Read r t w = rw w.0 (cut s.input t.more t.read (wrote_none o to text w.1))
+  fault_err {s = s} to Memory r t w = rw w.0 (cut s.input t.more t.read (wrote_none o to text w.1))
+  fault_err to CutHeader r t w = absurd t.gives
+  fault_err to Magic r t w = absurd t.gives
+  fault_err to Version r t w = absurd t.gives
+  fault_err to Link r t w = absurd t.gives
 
 -- what holds anyway holds of an error
 pub on_err_always : {T E P : Type 0} (r : Result T E) → P → OnErr r P
@@ -310,9 +286,9 @@ header_found : (before new : Input) (from to : Output) (bytes : List ℕ) (fault
     → IsAtEnd new.left ⊎ (settled (Some fault) ≡ Some fault) → ending_text 0 (Some fault) ≡ capture_fault_text 0 fault → Tells 0 fault from to [] r
     → IfOk r (Decoded before new from to) × OnErr r (CutOff before new from to)
 header_found before new from to bytes fault (Ok ended) read e enough line w =
-    (ends_ok before new from from to [] 0 fault ended (header_ends before new from bytes fault read e line) enough w.0 w.1, tt)
+    (ends_ok 0 (header_ends before new from bytes fault read e line) enough w.0 w.1, tt)
 header_found before new from to bytes fault (Err why) read e enough line w =
-    (tt, ends_err before new from from to [] 0 fault (header_ends before new from bytes fault read e line) enough w.0)
+    (tt, ends_err 0 (header_ends before new from bytes fault read e line) enough w.0)
 
 header_lost : (before new : Input) (from to : Output) (bytes : List ℕ) (r : Result Ended RunFault) (why : RunFault) → Consumes before.left new.left bytes → r ≡ Err why → to ≡ from
     → IfOk r (Decoded before new from to) × OnErr r (CutOff before new from to)

@@ -48,86 +48,9 @@ script_start acts stands start now number pending input out text known same one 
   few = omega (arith, one);
 }
 
--- what stands now is known
-pub known_now : {M S : Type 0} (acts : Step S) (stands : M → S → Type 0) (start now : M) (number : ℕ) (pending : List ℕ) (before input : Input) (from to : Output) (text : List ℕ)
-    → MidScript acts stands start now number pending before input from to text → (state : S) × stands now state
-known_now acts stands start now number pending before input from to text m = let w = m.went m.known.0 m.known.1 in (w.after, w.now)
-
--- a piece more
-pub script_more : {M S : Type 0} (acts : Step S) (stands : M → S → Type 0) (start now new : M) (number later : ℕ) (pending left : List ℕ) (before input after : Input) (from o to : Output)
-    (text further : List ℕ) (buffer : List ℕ) (count : ℕ) → MidScript acts stands start now number pending before input from o text
-    → Gave input after buffer count → length buffer ≤ 8192 → after.calls ≡ calls_after input.calls
-    → ((state : S) → stands now state → Went acts (stands new) state number (pending ++ take count buffer) o to text further later left)
-    → IsPending left → further ≡ [] → to.failed ≡ false → later ≤ number + length (take count buffer)
-    → MidScript acts stands start new later left before after from to further
-script_more acts stands start now new number later pending left before input after from o to text further buffer count m gave room calls went line none fine few = record {
-  script = m.script ++ take count buffer;
-  read = Consumes-trans before.left input.left after.left m.script (take count buffer) m.read gave.bytes;
-  went = λ state at. went_went acts (stands now) (stands new) state 1 number later m.script (take count buffer) pending left from o to [] text further (m.went state at) went;
-  known = m.known;
-  line = line;
-  none = none;
-  fine_in = gave.fine ∙ m.fine_in;
-  fine_out = fine;
-  few = omega (arith, m.few, few, gave.asked, gave.bound, room, calls, length-take count buffer);
-}
-
 -- fewer calls are left
 pub fewer : (input after : Input) (buffer : List ℕ) (count : ℕ) → Gave input after buffer count → after.calls ≡ calls_after input.calls → 16777216 - after.calls < 16777216 - input.calls
 fewer input after buffer count gave calls = omega (arith, gave.asked, calls)
-
--- all that was said was written
-written_of : {S : Type 0} (acts : Step S) (stands : S → Type 0) (state : S) (script : List ℕ) (from o : Output) (text : List ℕ) (number : ℕ) (pending : List ℕ)
-    → (w : Went acts stands state 1 script from o [] text number pending) → text ≡ [] → Appends from.written o.written w.said
-written_of acts stands state script from o text number pending w none =
-    subst (Appends from.written o.written) (sym (w.added.all ∙ ap (λ (t : List ℕ). w.added.gone ++ t) none ∙ append-nil w.added.gone)) w.added.written
-
--- the reader failed: the text so far was written
-pub so_far : {M S : Type 0} (acts : Step S) (stands : M → S → Type 0) (start now : M) (number : ℕ) (pending : List ℕ) (before input after : Input) (from o : Output) (text : List ℕ)
-    → MidScript acts stands start now number pending before input from o text → LostInput input after
-    → (state : S) → stands start state → PlayedSoFar acts state before after from o
-so_far acts stands start now number pending before input after from o text m lost state at =
-    let w = m.went state at in
-    record {
-      script = m.script;
-      read = Consumes-kept before.left input.left after.left m.script m.read lost.left;
-      wrote = subst (Appends from.written o.written) (sym (ap (λ (t : Transcript). t.text) (front_leads acts state w.after number m.script w.said pending w.leads)))
-          (written_of acts (stands now) state m.script from o text number pending w m.none);
-    }
-
-pub given_up_at_read : {M S : Type 0} (acts : Step S) (stands : M → S → Type 0) (start now : M) (number : ℕ) (pending : List ℕ) (before input after : Input) (from o : Output) (text : List ℕ)
-    → MidScript acts stands start now number pending before input from o text → LostInput input after
-    → (state : S) → stands start state → GivenUp acts state before after from o
-given_up_at_read acts stands start now number pending before input after from o text m lost state at =
-    let p = so_far acts stands start now number pending before input after from o text m lost state at in
-    record {
-      script = p.script;
-      text = (of_front acts state p.script).text;
-      read = p.read;
-      wrote = p.wrote;
-      front = inl (record { rest = []; is = sym (append-nil (of_front acts state p.script).text) });
-    }
-
--- a line of a piece is wrong
-pub played_bad : {M S : Type 0} (acts : Step S) (stands : M → S → Type 0) (start now : M) (number : ℕ) (pending : List ℕ) (before input after : Input) (from o to : Output) (text : List ℕ)
-    (buffer : List ℕ) (count : ℕ) → MidScript acts stands start now number pending before input from o text → Gave input after buffer count
-    → ((state : S) → stands now state → EndedAll acts state number (pending ++ take count buffer) o to text)
-    → (state : S) → stands start state → Played acts state before after from to BadInput
-played_bad acts stands start now number pending before input after from o to text buffer count m gave bad state at =
-    let w = m.went state at in
-    let b = bad w.after w.now in
-    let script = m.script ++ take count buffer in
-    let ends = leads_ends acts state w.after 1 number m.script w.said pending (take count buffer) b.said w.leads b.ends in
-    let whole = script_ends acts state script (w.said ++ b.said) ends in
-    record {
-      script = script;
-      read = Consumes-trans before.left input.left after.left m.script (take count buffer) m.read gave.bytes;
-      wrote = subst (Appends from.written to.written) (sym (ap (λ (t : Transcript). t.text) whole))
-          (Appends-trans from.written o.written to.written w.said b.said (written_of acts (stands now) state m.script from o text number pending w m.none)
-          (subst (λ (t : List ℕ). Appends o.written to.written (t ++ b.said)) m.none b.wrote.written));
-      answer = sym (ap (λ (t : Transcript). t.ended) whole);
-      enough = inr (ap (λ (t : Transcript). is_bad t.ended) (front_ends acts state script (w.said ++ b.said) ends));
-    }
 
 -- some of a text was written behind what was said
 front_written : (from o to : Output) (text said further : List ℕ) → text ≡ [] → Appends from.written o.written said → (f : WroteFront o to (text ++ further))
@@ -142,91 +65,154 @@ front_taken whole said further n front = record {
       ∙ ap (λ (t : List ℕ). t ++ front.rest) (sym (append_assoc said (take n further) (drop n further))) ∙ append_assoc (said ++ take n further) (drop n further) front.rest;
 }
 
--- the run is given up in a piece
-pub given_up_in_piece : {M S : Type 0} (acts : Step S) (stands : M → S → Type 0) (start now : M) (number : ℕ) (pending : List ℕ) (before input after : Input) (from o to : Output)
-    (text : List ℕ) (buffer : List ℕ) (count : ℕ) (why : RunFault) → MidScript acts stands start now number pending before input from o text → Gave input after buffer count
-    → ((state : S) → stands now state → GaveUp acts state number (pending ++ take count buffer) o to text why)
-    → (state : S) → stands start state → GivenUp acts state before after from to
-given_up_in_piece acts stands start now number pending before input after from o to text buffer count why m gave gave_up state at =
-    let w = m.went state at in
-    let g = gave_up w.after w.now in
-    let script = m.script ++ take count buffer in
-    let begins = leads_begins acts state w.after 1 number m.script w.said pending (take count buffer) g.said w.leads g.begins in
-    record {
-      script = script;
-      text = w.said ++ take g.wrote.count g.said;
-      read = Consumes-trans before.left input.left after.left m.script (take count buffer) m.read gave.bytes;
-      wrote = front_written from o to text w.said g.said m.none (written_of acts (stands now) state m.script from o text number pending w m.none) g.wrote;
-      front = inl (front_taken (of_front acts state script).text w.said g.said g.wrote.count
-          (subst (λ (x : List ℕ). IsFront (w.said ++ g.said) (by_lines acts is_long state 1 x).text) (append-nil script) (begins.is is_long takes_long [])));
+-- what was said so far: all of it was written
+module _ {S : Type 0} {acts : Step S} {stands : S → Type 0} {state : S} {script : List ℕ} {from o : Output} {text : List ℕ} {number : ℕ} {pending : List ℕ}
+    (w : Went acts stands state 1 script from o [] text number pending) where
+  written_of : text ≡ [] → Appends from.written o.written w.said
+  written_of none = subst (Appends from.written o.written) (sym (w.added.all ∙ ap (λ (t : List ℕ). w.added.gone ++ t) none ∙ append-nil w.added.gone)) w.added.written
+
+  script_is : of_script acts state script ≡ behind w.said (by_lines acts is_any w.after number pending)
+  script_is =
+      ap (λ (x : List ℕ). by_lines acts is_any state 1 x) (sym (append-nil script)) ∙ w.leads.is is_any takes_any []
+      ∙ ap (λ (x : List ℕ). behind w.said (by_lines acts is_any w.after number x)) (append-nil pending)
+
+module _ {M S : Type 0} {acts : Step S} {stands : M → S → Type 0} {start now : M} {number : ℕ} {pending : List ℕ} {before input : Input} {from o : Output} {text : List ℕ}
+    (m : MidScript acts stands start now number pending before input from o text) where
+
+  -- what stands now is known
+  pub known_now : (state : S) × stands now state
+  known_now = let w = m.went m.known.0 m.known.1 in (w.after, w.now)
+
+  -- the reader failed: the text so far was written
+  module _ {after : Input} (lost : LostInput input after) (state : S) (at : stands start state) where
+    pub so_far : PlayedSoFar acts state before after from o
+    so_far =
+        let w = m.went state at in
+        record {
+          script = m.script;
+          read = Consumes-kept before.left input.left after.left m.script m.read lost.left;
+          wrote = subst (Appends from.written o.written) (sym (ap (λ (t : Transcript). t.text) (front_leads acts state w.after number m.script w.said pending w.leads)))
+              (written_of w m.none);
+        }
+
+    pub given_up_at_read : GivenUp acts state before after from o
+    given_up_at_read =
+        let p = so_far in
+        record {
+          script = p.script;
+          text = (of_front acts state p.script).text;
+          read = p.read;
+          wrote = p.wrote;
+          front = inl (record { rest = []; is = sym (append-nil (of_front acts state p.script).text) });
+        }
+
+  -- the reader gave a piece, or is at its end
+  module _ {after : Input} {buffer : List ℕ} {count : ℕ} (gave : Gave input after buffer count) where
+    read_on : Consumes before.left after.left (m.script ++ take count buffer)
+    read_on = Consumes-trans before.left input.left after.left m.script (take count buffer) m.read gave.bytes
+
+    pub still_fine : after.failed ≡ false
+    still_fine = gave.fine ∙ m.fine_in
+
+    -- a piece more
+    pub script_more : {new : M} {to : Output} {further : List ℕ} {later : ℕ} {left : List ℕ} → length buffer ≤ 8192 → after.calls ≡ calls_after input.calls
+        → ((state : S) → stands now state → Went acts (stands new) state number (pending ++ take count buffer) o to text further later left)
+        → IsPending left → further ≡ [] → to.failed ≡ false → later ≤ number + length (take count buffer)
+        → MidScript acts stands start new later left before after from to further
+    script_more {new = new} {to = to} {further = further} {later = later} {left = left} room calls went line none fine few = record {
+      script = m.script ++ take count buffer;
+      read = read_on;
+      went = λ state at. went_went (m.went state at) (take count buffer) went;
+      known = m.known;
+      line = line;
+      none = none;
+      fine_in = still_fine;
+      fine_out = fine;
+      few = omega (arith, m.few, few, gave.asked, gave.bound, room, calls, length-take count buffer);
     }
 
-pub fault_in_piece : {M S : Type 0} (acts : Step S) (stands : M → S → Type 0) (start now : M) (number : ℕ) (pending : List ℕ) (before input after : Input) (from o to : Output)
-    (text : List ℕ) (buffer : List ℕ) (count : ℕ) (why : RunFault) → MidScript acts stands start now number pending before input from o text → Gave input after buffer count
-    → ((state : S) → stands now state → GaveUp acts state number (pending ++ take count buffer) o to text why)
-    → (state : S) → stands start state → IsFaultOf after.failed to.failed why
-fault_in_piece acts stands start now number pending before input after from o to text buffer count why m gave gave_up state at =
-    let w = m.went state at in
-    subst (λ b. IsFaultOf b to.failed why) (sym (gave.fine ∙ m.fine_in)) (gave_up w.after w.now).fault
+    -- a line of a piece is wrong
+    pub played_bad : {to : Output} → ((state : S) → stands now state → EndedAll acts state number (pending ++ take count buffer) o to text)
+        → (state : S) → stands start state → Played acts state before after from to BadInput
+    played_bad {to = to} bad state at =
+        let w = m.went state at in
+        let b = bad w.after w.now in
+        let script = m.script ++ take count buffer in
+        let ends = leads_ends w.leads (take count buffer) b.ends in
+        let whole = script_ends acts state script (w.said ++ b.said) ends in
+        record {
+          script = script;
+          read = read_on;
+          wrote = subst (Appends from.written to.written) (sym (ap (λ (t : Transcript). t.text) whole))
+              (Appends-trans from.written o.written to.written w.said b.said (written_of w m.none)
+              (subst (λ (t : List ℕ). Appends o.written to.written (t ++ b.said)) m.none b.wrote.written));
+          answer = sym (ap (λ (t : Transcript). t.ended) whole);
+          enough = inr (ap (λ (t : Transcript). is_bad t.ended) (front_ends acts state script (w.said ++ b.said) ends));
+        }
 
--- the reader is at its end
-end_read : {M S : Type 0} (acts : Step S) (stands : M → S → Type 0) (start now : M) (number : ℕ) (pending : List ℕ) (before input after : Input) (from o : Output) (text : List ℕ)
-    (buffer : List ℕ) (count : ℕ) → (m : MidScript acts stands start now number pending before input from o text) → Gave input after buffer count → count ≡ 0
-    → Consumes before.left after.left m.script
-end_read acts stands start now number pending before input after from o text buffer count m gave zero =
-    subst (Consumes before.left after.left) (append-nil m.script) (Consumes-trans before.left input.left after.left m.script [] m.read
-    (subst (λ (n : ℕ). Consumes input.left after.left (take n buffer)) zero gave.bytes))
+    -- the run is given up in a piece
+    module _ {to : Output} {why : RunFault} (gave_up : (state : S) → stands now state → GaveUp acts state number (pending ++ take count buffer) o to text why)
+        (state : S) (at : stands start state) where
+      pub given_up_in_piece : GivenUp acts state before after from to
+      given_up_in_piece =
+          let w = m.went state at in
+          let g = gave_up w.after w.now in
+          let script = m.script ++ take count buffer in
+          let begins = leads_begins w.leads (take count buffer) g.begins in
+          record {
+            script = script;
+            text = w.said ++ take g.wrote.count g.said;
+            read = read_on;
+            wrote = front_written from o to text w.said g.said m.none (written_of w m.none) g.wrote;
+            front = inl (front_taken (of_front acts state script).text w.said g.said g.wrote.count
+                (subst (λ (x : List ℕ). IsFront (w.said ++ g.said) (by_lines acts is_long state 1 x).text) (append-nil script) (begins.is is_long takes_long [])));
+          }
 
-script_is : {S : Type 0} (acts : Step S) (stands : S → Type 0) (state : S) (script : List ℕ) (from o : Output) (text : List ℕ) (number : ℕ) (pending : List ℕ)
-    → (w : Went acts stands state 1 script from o [] text number pending) → of_script acts state script ≡ behind w.said (by_lines acts is_any w.after number pending)
-script_is acts stands state script from o text number pending w =
-    ap (λ (x : List ℕ). by_lines acts is_any state 1 x) (sym (append-nil script)) ∙ w.leads.is is_any takes_any []
-    ∙ ap (λ (x : List ℕ). behind w.said (by_lines acts is_any w.after number x)) (append-nil pending)
+      pub fault_in_piece : IsFaultOf after.failed to.failed why
+      fault_in_piece = let w = m.went state at in subst (λ b. IsFaultOf b to.failed why) (sym still_fine) (gave_up w.after w.now).fault
 
-pub played_end : {M S : Type 0} (acts : Step S) (stands : M → S → Type 0) (start now : M) (number : ℕ) (pending : List ℕ) (before input after : Input) (from o to : Output) (text : List ℕ)
-    (buffer : List ℕ) (count : ℕ) (ended : Ended) → MidScript acts stands start now number pending before input from o text → Gave input after buffer count → count ≡ 0 → 0 < length buffer
-    → ((state : S) → stands now state → Completed acts state number pending o to text ended)
-    → (state : S) → stands start state → Played acts state before after from to ended
-played_end acts stands start now number pending before input after from o to text buffer count ended m gave zero room completed state at =
-    let w = m.went state at in
-    let e = completed w.after w.now in
-    let whole = script_is acts (stands now) state m.script from o text number pending w ∙ ap (behind w.said) e.is in
-    record {
-      script = m.script;
-      read = end_read acts stands start now number pending before input after from o text buffer count m gave zero;
-      wrote = subst (Appends from.written to.written) (sym (ap (λ (t : Transcript). t.text) whole))
-          (Appends-trans from.written o.written to.written w.said e.said (written_of acts (stands now) state m.script from o text number pending w m.none)
-          (subst (λ (t : List ℕ). Appends o.written to.written (t ++ e.said)) m.none e.wrote.written));
-      answer = sym (ap (λ (t : Transcript). t.ended) whole);
-      enough = inl (gave.ends zero room);
-    }
+    -- what is left when the reader is at its end
+    module _ {to : Output} {why : RunFault} (unfinished : (state : S) → stands now state → Unfinished acts state number pending o to text why)
+        (state : S) (at : stands start state) where
+      pub fault_at_end : IsFaultOf after.failed to.failed why
+      fault_at_end = let w = m.went state at in subst (λ b. IsFaultOf b to.failed why) (sym still_fine) (unfinished w.after w.now).fault
 
-pub given_up_at_end : {M S : Type 0} (acts : Step S) (stands : M → S → Type 0) (start now : M) (number : ℕ) (pending : List ℕ) (before input after : Input) (from o to : Output) (text : List ℕ)
-    (buffer : List ℕ) (count : ℕ) (why : RunFault) → MidScript acts stands start now number pending before input from o text → Gave input after buffer count → count ≡ 0 → 0 < length buffer
-    → ((state : S) → stands now state → Unfinished acts state number pending o to text why)
-    → (state : S) → stands start state → GivenUp acts state before after from to
-given_up_at_end acts stands start now number pending before input after from o to text buffer count why m gave zero room unfinished state at =
-    let w = m.went state at in
-    let u = unfinished w.after w.now in
-    record {
-      script = m.script;
-      text = w.said ++ take u.wrote.count u.said;
-      read = end_read acts stands start now number pending before input after from o text buffer count m gave zero;
-      wrote = front_written from o to text w.said u.said m.none (written_of acts (stands now) state m.script from o text number pending w m.none) u.wrote;
-      front = inr (
-        gave.ends zero room,
-        front_taken (of_script acts state m.script).text w.said u.said u.wrote.count (record {
-          rest = u.front.rest;
-          is = ap (λ (t : Transcript). t.text) (script_is acts (stands now) state m.script from o text number pending w) ∙ ap (λ (t : List ℕ). w.said ++ t) u.front.is
-              ∙ sym (append_assoc w.said u.said u.front.rest);
-        }),
-      );
-    }
+    module _ (zero : count ≡ 0) (room : 0 < length buffer) where
+      end_read : Consumes before.left after.left m.script
+      end_read = subst (Consumes before.left after.left) (append-nil m.script) (Consumes-trans before.left input.left after.left m.script [] m.read
+          (subst (λ (n : ℕ). Consumes input.left after.left (take n buffer)) zero gave.bytes))
 
-pub fault_at_end : {M S : Type 0} (acts : Step S) (stands : M → S → Type 0) (start now : M) (number : ℕ) (pending : List ℕ) (before input after : Input) (from o to : Output) (text : List ℕ)
-    (buffer : List ℕ) (count : ℕ) (why : RunFault) → MidScript acts stands start now number pending before input from o text → Gave input after buffer count
-    → ((state : S) → stands now state → Unfinished acts state number pending o to text why)
-    → (state : S) → stands start state → IsFaultOf after.failed to.failed why
-fault_at_end acts stands start now number pending before input after from o to text buffer count why m gave unfinished state at =
-    let w = m.went state at in
-    subst (λ b. IsFaultOf b to.failed why) (sym (gave.fine ∙ m.fine_in)) (unfinished w.after w.now).fault
+      pub played_end : {to : Output} {ended : Ended} → ((state : S) → stands now state → Completed acts state number pending o to text ended)
+          → (state : S) → stands start state → Played acts state before after from to ended
+      played_end {to = to} completed state at =
+          let w = m.went state at in
+          let e = completed w.after w.now in
+          let whole = script_is w ∙ ap (behind w.said) e.is in
+          record {
+            script = m.script;
+            read = end_read;
+            wrote = subst (Appends from.written to.written) (sym (ap (λ (t : Transcript). t.text) whole))
+                (Appends-trans from.written o.written to.written w.said e.said (written_of w m.none)
+                (subst (λ (t : List ℕ). Appends o.written to.written (t ++ e.said)) m.none e.wrote.written));
+            answer = sym (ap (λ (t : Transcript). t.ended) whole);
+            enough = inl (gave.ends zero room);
+          }
+
+      pub given_up_at_end : {to : Output} {why : RunFault} → ((state : S) → stands now state → Unfinished acts state number pending o to text why)
+          → (state : S) → stands start state → GivenUp acts state before after from to
+      given_up_at_end {to = to} unfinished state at =
+          let w = m.went state at in
+          let u = unfinished w.after w.now in
+          record {
+            script = m.script;
+            text = w.said ++ take u.wrote.count u.said;
+            read = end_read;
+            wrote = front_written from o to text w.said u.said m.none (written_of w m.none) u.wrote;
+            front = inr (
+              gave.ends zero room,
+              front_taken (of_script acts state m.script).text w.said u.said u.wrote.count (record {
+                rest = u.front.rest;
+                is = ap (λ (t : Transcript). t.text) (script_is w) ∙ ap (λ (t : List ℕ). w.said ++ t) u.front.is ∙ sym (append_assoc w.said u.said u.front.rest);
+              }),
+            );
+          }

@@ -38,11 +38,11 @@ behind_line acts state number pending rest p (Ok done) does later =
         later = r.later;
         said = done.1 ++ r.said;
         pending = r.pending;
-        leads = leads_leads acts state done.0 r.after number (number + 1) r.later (pending ++ line_feed ∷ []) done.1 [] rest r.said r.pending one r.leads;
+        leads = leads_leads one rest r.leads;
       })
       | inr s ↦ inr (record {
         said = done.1 ++ s.said;
-        ends = leads_ends acts state done.0 number (number + 1) (pending ++ line_feed ∷ []) done.1 [] rest s.said one s.ends;
+        ends = leads_ends one rest s.ends;
       })
     ]
 behind_line acts state number pending rest p (Err fault) does later = inr (record {

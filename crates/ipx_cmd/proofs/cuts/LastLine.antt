@@ -36,9 +36,9 @@ last_is acts state number line does p some is =
     ∙ ap (λ b. transcript acts state number (if b then line ∷ [] else [])) (any_of line some)
     ∙ ap (λ d. goes_on number d (λ after. all_good)) (line_is acts state line p.short ∙ is)
 
-finished_line : {S : Type 0} (acts : Step S) (stands : S → Type 0) (state : S) (number : ℕ) (line : List ℕ) (from to : Output) (old new : List ℕ) → IsPending line → 0 < length line
+pub finished_line : {S : Type 0} {acts : Step S} {stands : S → Type 0} {state : S} (number : ℕ) {line : List ℕ} {from to : Output} {old new : List ℕ} → IsPending line → 0 < length line
     → Acted acts stands state (without_return line) from to old new → Finished acts state number line from to old new
-finished_line acts stands state number line from to old new p some a = record {
+finished_line {acts = acts} {state = state} number {line = line} p some a = record {
   said = a.said;
   is = last_is acts state number line (Ok (a.after, a.said)) p some a.does ∙ ap (λ (t : List ℕ). record { text = t; ended = Done }) (append-nil a.said);
   added = a.added;
@@ -49,7 +49,7 @@ front_by : {S : Type 0} (acts : Step S) (state : S) (number : ℕ) (line : List 
 front_by acts state number line p some (Ok done) is = record { rest = []; is = ap (λ (t : Transcript). t.text) (last_is acts state number line (Ok done) p some is) }
 front_by acts state number line p some (Err fault) is = record { rest = (by_lines acts is_any state number line).text; is = refl }
 
-off_last : {S : Type 0} (acts : Step S) (state : S) (number : ℕ) (line : List ℕ) (from to : Output) (old new : List ℕ) (halt : Halt) → from.failed ≡ false → IsPending line → 0 < length line
+pub off_last : {S : Type 0} (acts : Step S) (state : S) (number : ℕ) (line : List ℕ) (from to : Output) (old new : List ℕ) (halt : Halt) → from.failed ≡ false → IsPending line → 0 < length line
     → Halted (acts state (without_return line)) from to old new halt → FinishedOff acts state number line from to old new halt
 off_last acts state number line from to old new (Line fault) fine p some h = record {
   said = [];
@@ -62,19 +62,3 @@ off_last acts state number line from to old new (Run why) fine p some h = record
   wrote = h.0;
   fault = h.1;
 }
-
--- what a call left, whichever way it ended
-pub finished_of : {M S : Type 0} (acts : Step S) (stands : M → S → Type 0) (before after : M) (line whole : List ℕ) (from to : Output) (old new : List ℕ) (r : Result (Unit {0}) Halt)
-    → IsPending line → 0 < length line → whole ≡ without_return line → OnOk r ((state : S) → stands before state → Acted acts (stands after) state whole from to old new)
-    → OnOk r ((state : S) (number : ℕ) → stands before state → Finished acts state number line from to old new)
-finished_of acts stands before after line whole from to old new (Ok u) p some same h = λ state number now.
-    finished_line acts (stands after) state number line from to old new p some (subst (λ (x : List ℕ). Acted acts (stands after) state x from to old new) same (h state now))
-finished_of acts stands before after line whole from to old new (Err e) p some same h = tt
-
-pub off_last_of : {M S : Type 0} (acts : Step S) (stands : M → S → Type 0) (before : M) (line whole : List ℕ) (from to : Output) (old new : List ℕ) (r : Result (Unit {0}) Halt)
-    → from.failed ≡ false → IsPending line → 0 < length line → whole ≡ without_return line
-    → IfErr r (λ halt. (state : S) → stands before state → Halted (acts state whole) from to old new halt)
-    → IfErr r (λ halt. (state : S) (number : ℕ) → stands before state → FinishedOff acts state number line from to old new halt)
-off_last_of acts stands before line whole from to old new (Ok u) fine p some same h = tt
-off_last_of acts stands before line whole from to old new (Err halt) fine p some same h = λ state number now.
-    off_last acts state number line from to old new halt fine p some (subst (λ (x : List ℕ). Halted (acts state x) from to old new halt) same (h state now))

@@ -50,45 +50,36 @@ ends_long acts state number line rest one long = record {
       ∙ at_long acts counts state number line (rest ++ more) takes one long;
 }
 
-at_two : {S : Type 0} (acts : Step S) (counts : List ℕ → Bool) (state middle : S) (number second : ℕ) (bytes said pending more rest : List ℕ) → TakesLong counts
-    → Leads acts state number bytes said middle second pending
-    → by_lines acts counts state number ((bytes ++ more) ++ rest) ≡ behind said (by_lines acts counts middle second ((pending ++ more) ++ rest))
-at_two acts counts state middle number second bytes said pending more rest takes one =
-    ap (λ (x : List ℕ). by_lines acts counts state number x) (append_assoc bytes more rest)
-    ∙ one.is counts takes (more ++ rest)
-    ∙ ap (λ (x : List ℕ). behind said (by_lines acts counts middle second x)) (sym (append_assoc pending more rest))
-
 -- a stretch of bytes behind another
-pub leads_leads : {S : Type 0} (acts : Step S) (state middle after : S) (number second third : ℕ) (bytes said pending more further left : List ℕ)
-    → Leads acts state number bytes said middle second pending → Leads acts middle second (pending ++ more) further after third left
-    → Leads acts state number (bytes ++ more) (said ++ further) after third left
-leads_leads acts state middle after number second third bytes said pending more further left one two = record {
-  is = λ counts takes rest. at_two acts counts state middle number second bytes said pending more rest takes one
-      ∙ ap (behind said) (two.is counts takes rest)
-      ∙ ap (λ t. record { text = t; ended = (by_lines acts counts after third (left ++ rest)).ended }) (sym (append_assoc said further (by_lines acts counts after third (left ++ rest)).text));
-  line = two.line;
-}
+module _ {S : Type 0} {acts : Step S} {state middle : S} {number second : ℕ} {bytes said pending : List ℕ} (one : Leads acts state number bytes said middle second pending) (more : List ℕ) where
+  at_two : (counts : List ℕ → Bool) (rest : List ℕ) → TakesLong counts
+      → by_lines acts counts state number ((bytes ++ more) ++ rest) ≡ behind said (by_lines acts counts middle second ((pending ++ more) ++ rest))
+  at_two counts rest takes =
+      ap (λ (x : List ℕ). by_lines acts counts state number x) (append_assoc bytes more rest)
+      ∙ one.is counts takes (more ++ rest)
+      ∙ ap (λ (x : List ℕ). behind said (by_lines acts counts middle second x)) (sym (append_assoc pending more rest))
 
-pub leads_ends : {S : Type 0} (acts : Step S) (state middle : S) (number second : ℕ) (bytes said pending more further : List ℕ)
-    → Leads acts state number bytes said middle second pending → Ends acts middle second (pending ++ more) further
-    → Ends acts state number (bytes ++ more) (said ++ further)
-leads_ends acts state middle number second bytes said pending more further one two = record {
-  is = λ counts takes rest. at_two acts counts state middle number second bytes said pending more rest takes one
-      ∙ ap (behind said) (two.is counts takes rest);
-}
+  pub leads_leads : {after : S} {third : ℕ} {further left : List ℕ} → Leads acts middle second (pending ++ more) further after third left
+      → Leads acts state number (bytes ++ more) (said ++ further) after third left
+  leads_leads {after = after} {third = third} {further = further} {left = left} two = record {
+    is = λ counts takes rest. at_two counts rest takes
+        ∙ ap (behind said) (two.is counts takes rest)
+        ∙ ap (λ t. record { text = t; ended = (by_lines acts counts after third (left ++ rest)).ended }) (sym (append_assoc said further (by_lines acts counts after third (left ++ rest)).text));
+    line = two.line;
+  }
 
-pub leads_begins : {S : Type 0} (acts : Step S) (state middle : S) (number second : ℕ) (bytes said pending more further : List ℕ)
-    → Leads acts state number bytes said middle second pending → Begins acts middle second (pending ++ more) further
-    → Begins acts state number (bytes ++ more) (said ++ further)
-leads_begins acts state middle number second bytes said pending more further one two = record {
-  is = λ counts takes rest.
-      let front = two.is counts takes rest in
-      record {
-        rest = front.rest;
-        is = ap (λ (t : Transcript). t.text) (at_two acts counts state middle number second bytes said pending more rest takes one)
-            ∙ ap (λ (t : List ℕ). said ++ t) front.is ∙ sym (append_assoc said further front.rest);
-      };
-}
+  pub leads_ends : {further : List ℕ} → Ends acts middle second (pending ++ more) further → Ends acts state number (bytes ++ more) (said ++ further)
+  leads_ends two = record { is = λ counts takes rest. at_two counts rest takes ∙ ap (behind said) (two.is counts takes rest) }
+
+  pub leads_begins : {further : List ℕ} → Begins acts middle second (pending ++ more) further → Begins acts state number (bytes ++ more) (said ++ further)
+  leads_begins {further = further} two = record {
+    is = λ counts takes rest.
+        let front = two.is counts takes rest in
+        record {
+          rest = front.rest;
+          is = ap (λ (t : Transcript). t.text) (at_two counts rest takes) ∙ ap (λ (t : List ℕ). said ++ t) front.is ∙ sym (append_assoc said further front.rest);
+        };
+  }
 
 -- what a line says comes first
 pub begins_line : {S : Type 0} (acts : Step S) (state after : S) (number : ℕ) (line said : List ℕ) → IsPending line → acts state (without_return line) ≡ Ok (after, said)

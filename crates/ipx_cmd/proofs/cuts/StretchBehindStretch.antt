@@ -42,9 +42,9 @@ added_front from o to old mid said further one w = record {
 }
 
 -- a line acted
-pub went_line : {S : Type 0} (acts : Step S) (stands : S → Type 0) (state : S) (number : ℕ) (line : List ℕ) (from to : Output) (old new : List ℕ) → IsPending line
+pub went_line : {S : Type 0} {acts : Step S} {stands : S → Type 0} {state : S} (number : ℕ) {line : List ℕ} {from to : Output} {old new : List ℕ} → IsPending line
     → Acted acts stands state (without_return line) from to old new → Went acts stands state number (line ++ line_feed ∷ []) from to old new (number + 1) []
-went_line acts stands state number line from to old new p a = record {
+went_line {acts = acts} {state = state} number {line = line} p a = record {
   after = a.after;
   said = a.said;
   leads = leads_line acts state a.after number line a.said p a.does;
@@ -73,40 +73,37 @@ off_line acts state number line from to old new (Run why) fine p h = record {
 }
 
 -- a stretch behind another
-pub went_went : {S : Type 0} (acts : Step S) (stood stands : S → Type 0) (state : S) (number second third : ℕ) (bytes more pending left : List ℕ) (from o to : Output) (old mid new : List ℕ)
-    → Went acts stood state number bytes from o old mid second pending
-    → ((middle : S) → stood middle → Went acts stands middle second (pending ++ more) o to mid new third left)
-    → Went acts stands state number (bytes ++ more) from to old new third left
-went_went acts stood stands state number second third bytes more pending left from o to old mid new one later =
-    let two = later one.after one.now in
-    record {
-      after = two.after;
-      said = one.said ++ two.said;
-      leads = leads_leads acts state one.after two.after number second third bytes one.said pending more two.said left one.leads two.leads;
-      now = two.now;
-      added = added_added from o to old mid new one.said two.said one.added two.added;
-    }
+module _ {S : Type 0} {acts : Step S} {stood : S → Type 0} {state : S} {number second : ℕ} {bytes pending : List ℕ} {from o : Output} {old mid : List ℕ}
+    (one : Went acts stood state number bytes from o old mid second pending) (more : List ℕ) where
+  pub went_went : {stands : S → Type 0} {to : Output} {new left : List ℕ} {third : ℕ}
+      → ((middle : S) → stood middle → Went acts stands middle second (pending ++ more) o to mid new third left) → Went acts stands state number (bytes ++ more) from to old new third left
+  went_went {to = to} {new = new} later =
+      let two = later one.after one.now in
+      record {
+        after = two.after;
+        said = one.said ++ two.said;
+        leads = leads_leads one.leads more two.leads;
+        now = two.now;
+        added = added_added from o to old mid new one.said two.said one.added two.added;
+      }
 
-pub went_off : {S : Type 0} (acts : Step S) (stood : S → Type 0) (state : S) (number second third : ℕ) (bytes more pending : List ℕ) (from o to : Output) (old mid new : List ℕ) (halt : Halt)
-    → Went acts stood state number bytes from o old mid second pending
-    → ((middle : S) → stood middle → WentOff acts middle second (pending ++ more) o to mid new third halt)
-    → WentOff acts state number (bytes ++ more) from to old new third halt
-went_off acts stood state number second third bytes more pending from o to old mid new (Line fault) one later =
-    let two = later one.after one.now in
-    record {
-      said = one.said ++ two.said;
-      ends = subst (Ends acts state number (bytes ++ more)) (sym (append_assoc one.said two.said (fault_text third fault)))
-          (leads_ends acts state one.after number second bytes one.said pending more (two.said ++ fault_text third fault) one.leads two.ends);
-      added = added_added from o to old mid new one.said two.said one.added two.added;
-    }
-went_off acts stood state number second third bytes more pending from o to old mid new (Run why) one later =
-    let two = later one.after one.now in
-    record {
-      said = one.said ++ two.said;
-      begins = leads_begins acts state one.after number second bytes one.said pending more two.said one.leads two.begins;
-      wrote = added_front from o to old mid one.said two.said one.added two.wrote;
-      fault = two.fault;
-    }
+  pub went_off : (to : Output) (new : List ℕ) (third : ℕ) (halt : Halt) → ((middle : S) → stood middle → WentOff acts middle second (pending ++ more) o to mid new third halt)
+      → WentOff acts state number (bytes ++ more) from to old new third halt
+  went_off to new third (Line fault) later =
+      let two = later one.after one.now in
+      record {
+        said = one.said ++ two.said;
+        ends = subst (Ends acts state number (bytes ++ more)) (sym (append_assoc one.said two.said (fault_text third fault))) (leads_ends one.leads more two.ends);
+        added = added_added from o to old mid new one.said two.said one.added two.added;
+      }
+  went_off to new third (Run why) later =
+      let two = later one.after one.now in
+      record {
+        said = one.said ++ two.said;
+        begins = leads_begins one.leads more two.begins;
+        wrote = added_front from o to old mid one.said two.said one.added two.wrote;
+        fault = two.fault;
+      }
 
 -- a line that isn't at its end yet
 pub went_none : {S : Type 0} (acts : Step S) (stands : S → Type 0) (state : S) (number : ℕ) (pending : List ℕ) (o : Output) (text : List ℕ) → o.failed ≡ false → IsPending pending
@@ -118,18 +115,3 @@ went_none acts stands state number pending o text fine p now = record {
   now = now;
   added = added_none o text fine;
 }
-
--- what a call left, whichever way it ended
-pub went_line_of : {M S : Type 0} (acts : Step S) (stands : M → S → Type 0) (before after : M) (line whole : List ℕ) (from to : Output) (old new : List ℕ) (r : Result (Unit {0}) Halt)
-    → IsPending line → whole ≡ without_return line → OnOk r ((state : S) → stands before state → Acted acts (stands after) state whole from to old new)
-    → OnOk r ((state : S) (number : ℕ) → stands before state → Went acts (stands after) state number (line ++ line_feed ∷ []) from to old new (number + 1) [])
-went_line_of acts stands before after line whole from to old new (Ok u) p same h = λ state number now.
-    went_line acts (stands after) state number line from to old new p (subst (λ (x : List ℕ). Acted acts (stands after) state x from to old new) same (h state now))
-went_line_of acts stands before after line whole from to old new (Err e) p same h = tt
-
-pub off_line_of : {M S : Type 0} (acts : Step S) (stands : M → S → Type 0) (before : M) (line whole : List ℕ) (from to : Output) (old new : List ℕ) (r : Result (Unit {0}) Halt)
-    → from.failed ≡ false → IsPending line → whole ≡ without_return line → IfErr r (λ halt. (state : S) → stands before state → Halted (acts state whole) from to old new halt)
-    → IfErr r (λ halt. (state : S) (number : ℕ) → stands before state → WentOff acts state number (line ++ line_feed ∷ []) from to old new number halt)
-off_line_of acts stands before line whole from to old new (Ok u) fine p same h = tt
-off_line_of acts stands before line whole from to old new (Err halt) fine p same h = λ state number now.
-    off_line acts state number line from to old new halt fine p (subst (λ (x : List ℕ). Halted (acts state x) from to old new halt) same (h state now))

@@ -72,110 +72,108 @@ last_fine_of acts stands before number bytes from to old new (Ok u) known fine o
 last_fine_of acts stands before number bytes from to old new (Err (Line fault)) known fine off = (off known.0 known.1).added.fine
 last_fine_of acts stands before number bytes from to old new (Err (Run why)) known fine off = tt
 
--- a piece whose text was written
-passed_done : {S : Type 0} (acts : Step S) (stands : S → Type 0) (state : S) (number : ℕ) (bytes : List ℕ) (from o to : Output) (old mid new : List ℕ) (later : ℕ) (pending : List ℕ) (ended : Ended)
-    → Went acts stands state number bytes from o old mid later pending → (ended ≡ Done) × WroteAll o to mid × (new ≡ [])
-    → Passed acts stands state number bytes from to old new later pending ended
-passed_done acts stands state number bytes from o to old mid new later pending ended went w =
-    subst (Passed acts stands state number bytes from to old new later pending) (sym w.0) (
+-- a piece
+module _ {M S : Type 0} (acts : Step S) (stands : M → S → Type 0) (before after : M) (number : ℕ) (bytes : List ℕ) (from o to : Output) (old mid new : List ℕ) (later : ℕ) (pending : List ℕ) where
+  -- its text was written
+  passed_done : (state : S) (ended : Ended) → Went acts (stands after) state number bytes from o old mid later pending → (ended ≡ Done) × WroteAll o to mid × (new ≡ [])
+      → Passed acts (stands after) state number bytes from to old new later pending ended
+  passed_done state ended went w =
+      subst (Passed acts (stands after) state number bytes from to old new later pending) (sym w.0) (
+        record {
+          after = went.after;
+          said = went.said;
+          leads = went.leads;
+          now = went.now;
+          added = subst (λ (t : List ℕ). Added from to old t went.said) (sym w.2) (added_all from o to old mid went.said went.added w.1);
+        },
+        w.2,
+      )
+
+  pub passed_of : (r : Result (Unit {0}) Halt) (a : Result Ended RunFault) → from.failed ≡ false
+      → OnOk r ((state : S) → stands before state → Went acts (stands after) state number bytes from o old mid later pending)
+      → IfErr r (λ halt. (state : S) → stands before state → WentOff acts state number bytes from o old mid later halt)
+      → Answered r later o to mid new a
+      → IfOk a (λ ended. (state : S) → stands before state → Passed acts (stands after) state number bytes from to old new later pending ended)
+  passed_of r (Err why) fine went off w = tt
+  passed_of (Ok u) (Ok ended) fine went off w = λ state now. passed_done state ended (went state now) w
+  passed_of (Err (Line fault)) (Ok ended) fine went off w = λ state now.
+      let here = off state now in
+      subst (Passed acts (stands after) state number bytes from to old new later pending) (sym w.0) (record {
+        said = here.said ++ fault_text later fault;
+        ends = here.ends;
+        wrote = wrote_all from o to old mid here.said (fault_text later fault) fine here.added w.1;
+      })
+  passed_of (Err (Run why)) (Ok ended) fine went off w =
+      let e = w.0 in absurd cc
+
+  pub gave_up_of : (r : Result (Unit {0}) Halt) (a : Result Ended RunFault)
+      → OnOk r ((state : S) → stands before state → Went acts (stands after) state number bytes from o old mid later pending)
+      → IfErr r (λ halt. (state : S) → stands before state → WentOff acts state number bytes from o old mid later halt)
+      → Answered r later o to mid new a → IfErr a (λ why. (state : S) → stands before state → GaveUp acts state number bytes from to old why)
+  gave_up_of r (Ok ended) went off w = tt
+  gave_up_of (Ok u) (Err why) went off w = λ state now.
+      let here = went state now in
       record {
-        after = went.after;
-        said = went.said;
-        leads = went.leads;
-        now = went.now;
-        added = subst (λ (t : List ℕ). Added from to old t went.said) (sym w.2) (added_all from o to old mid went.said went.added w.1);
-      },
-      w.2,
-    )
+        said = here.said;
+        begins = begins_leads acts state here.after number later bytes here.said pending here.leads;
+        wrote = wrote_front from o to old mid here.said here.added w.0;
+        fault = w.1;
+      }
+  gave_up_of (Err (Line fault)) (Err why) went off w = λ state now.
+      let here = off state now in
+      record {
+        said = here.said ++ fault_text later fault;
+        begins = begins_ends acts state number bytes (here.said ++ fault_text later fault) here.ends;
+        wrote = added_front from o to old mid here.said (fault_text later fault) here.added w.0;
+        fault = w.1;
+      }
+  gave_up_of (Err (Run met)) (Err why) went off w = λ state now.
+      let same : why ≡ met = cc in
+      subst (GaveUp acts state number bytes from to old) (sym same) (subst (λ (x : Output). GaveUp acts state number bytes from x old met) (sym w.1) (off state now))
 
-pub passed_of : {M S : Type 0} (acts : Step S) (stands : M → S → Type 0) (before after : M) (number : ℕ) (bytes : List ℕ) (from o to : Output) (old mid new : List ℕ) (later : ℕ)
-    (pending : List ℕ) (r : Result (Unit {0}) Halt) (a : Result Ended RunFault) → from.failed ≡ false
-    → OnOk r ((state : S) → stands before state → Went acts (stands after) state number bytes from o old mid later pending)
-    → IfErr r (λ halt. (state : S) → stands before state → WentOff acts state number bytes from o old mid later halt)
-    → Answered r later o to mid new a
-    → IfOk a (λ ended. (state : S) → stands before state → Passed acts (stands after) state number bytes from to old new later pending ended)
-passed_of acts stands before after number bytes from o to old mid new later pending r (Err why) fine went off w = tt
-passed_of acts stands before after number bytes from o to old mid new later pending (Ok u) (Ok ended) fine went off w = λ state now.
-    passed_done acts (stands after) state number bytes from o to old mid new later pending ended (went state now) w
-passed_of acts stands before after number bytes from o to old mid new later pending (Err (Line fault)) (Ok ended) fine went off w = λ state now.
-    let here = off state now in
-    subst (Passed acts (stands after) state number bytes from to old new later pending) (sym w.0) (record {
-      said = here.said ++ fault_text later fault;
-      ends = here.ends;
-      wrote = wrote_all from o to old mid here.said (fault_text later fault) fine here.added w.1;
-    })
-passed_of acts stands before after number bytes from o to old mid new later pending (Err (Run why)) (Ok ended) fine went off w =
-    let e = w.0 in absurd cc
+-- the end of a script
+module _ {M S : Type 0} (acts : Step S) (stands : M → S → Type 0) (before : M) (number : ℕ) (line : List ℕ) (from o to : Output) (old mid new : List ℕ) where
+  -- its text was written
+  pub completed_of : (r : Result (Unit {0}) Halt) (a : Result Ended RunFault) → from.failed ≡ false
+      → OnOk r ((state : S) → stands before state → Finished acts state number line from o old mid)
+      → IfErr r (λ halt. (state : S) → stands before state → FinishedOff acts state number line from o old mid halt)
+      → Answered r number o to mid new a → IfOk a (λ ended. (state : S) → stands before state → Completed acts state number line from to old ended)
+  completed_of r (Err why) fine finished off w = tt
+  completed_of (Ok u) (Ok ended) fine finished off w = λ state now.
+      let here = finished state now in
+      subst (Completed acts state number line from to old) (sym w.0) (record { said = here.said; is = here.is; wrote = wrote_whole from o to old mid here.said fine here.added w.1 })
+  completed_of (Err (Line fault)) (Ok ended) fine finished off w = λ state now.
+      let here = off state now in
+      subst (Completed acts state number line from to old) (sym w.0) (record {
+        said = here.said ++ fault_text number fault;
+        is = here.is;
+        wrote = wrote_all from o to old mid here.said (fault_text number fault) fine here.added w.1;
+      })
+  completed_of (Err (Run why)) (Ok ended) fine finished off w =
+      let e = w.0 in absurd cc
 
-pub gave_up_of : {M S : Type 0} (acts : Step S) (stands : M → S → Type 0) (before after : M) (number : ℕ) (bytes : List ℕ) (from o to : Output) (old mid new : List ℕ) (later : ℕ)
-    (pending : List ℕ) (r : Result (Unit {0}) Halt) (a : Result Ended RunFault)
-    → OnOk r ((state : S) → stands before state → Went acts (stands after) state number bytes from o old mid later pending)
-    → IfErr r (λ halt. (state : S) → stands before state → WentOff acts state number bytes from o old mid later halt)
-    → Answered r later o to mid new a → IfErr a (λ why. (state : S) → stands before state → GaveUp acts state number bytes from to old why)
-gave_up_of acts stands before after number bytes from o to old mid new later pending r (Ok ended) went off w = tt
-gave_up_of acts stands before after number bytes from o to old mid new later pending (Ok u) (Err why) went off w = λ state now.
-    let here = went state now in
-    record {
-      said = here.said;
-      begins = begins_leads acts state here.after number later bytes here.said pending here.leads;
-      wrote = wrote_front from o to old mid here.said here.added w.0;
-      fault = w.1;
-    }
-gave_up_of acts stands before after number bytes from o to old mid new later pending (Err (Line fault)) (Err why) went off w = λ state now.
-    let here = off state now in
-    record {
-      said = here.said ++ fault_text later fault;
-      begins = begins_ends acts state number bytes (here.said ++ fault_text later fault) here.ends;
-      wrote = added_front from o to old mid here.said (fault_text later fault) here.added w.0;
-      fault = w.1;
-    }
-gave_up_of acts stands before after number bytes from o to old mid new later pending (Err (Run met)) (Err why) went off w = λ state now.
-    let same : why ≡ met = cc in
-    subst (GaveUp acts state number bytes from to old) (sym same) (subst (λ (x : Output). GaveUp acts state number bytes from x old met) (sym w.1) (off state now))
-
--- the end, whose text was written
-pub completed_of : {M S : Type 0} (acts : Step S) (stands : M → S → Type 0) (before : M) (number : ℕ) (line : List ℕ) (from o to : Output) (old mid new : List ℕ)
-    (r : Result (Unit {0}) Halt) (a : Result Ended RunFault) → from.failed ≡ false
-    → OnOk r ((state : S) → stands before state → Finished acts state number line from o old mid)
-    → IfErr r (λ halt. (state : S) → stands before state → FinishedOff acts state number line from o old mid halt)
-    → Answered r number o to mid new a → IfOk a (λ ended. (state : S) → stands before state → Completed acts state number line from to old ended)
-completed_of acts stands before number line from o to old mid new r (Err why) fine finished off w = tt
-completed_of acts stands before number line from o to old mid new (Ok u) (Ok ended) fine finished off w = λ state now.
-    let here = finished state now in
-    subst (Completed acts state number line from to old) (sym w.0) (record { said = here.said; is = here.is; wrote = wrote_whole from o to old mid here.said fine here.added w.1 })
-completed_of acts stands before number line from o to old mid new (Err (Line fault)) (Ok ended) fine finished off w = λ state now.
-    let here = off state now in
-    subst (Completed acts state number line from to old) (sym w.0) (record {
-      said = here.said ++ fault_text number fault;
-      is = here.is;
-      wrote = wrote_all from o to old mid here.said (fault_text number fault) fine here.added w.1;
-    })
-completed_of acts stands before number line from o to old mid new (Err (Run why)) (Ok ended) fine finished off w =
-    let e = w.0 in absurd cc
-
-pub unfinished_of : {M S : Type 0} (acts : Step S) (stands : M → S → Type 0) (before : M) (number : ℕ) (line : List ℕ) (from o to : Output) (old mid new : List ℕ)
-    (r : Result (Unit {0}) Halt) (a : Result Ended RunFault)
-    → OnOk r ((state : S) → stands before state → Finished acts state number line from o old mid)
-    → IfErr r (λ halt. (state : S) → stands before state → FinishedOff acts state number line from o old mid halt)
-    → Answered r number o to mid new a → IfErr a (λ why. (state : S) → stands before state → Unfinished acts state number line from to old why)
-unfinished_of acts stands before number line from o to old mid new r (Ok ended) finished off w = tt
-unfinished_of acts stands before number line from o to old mid new (Ok u) (Err why) finished off w = λ state now.
-    let here = finished state now in
-    record {
-      said = here.said;
-      front = record { rest = []; is = ap (λ (t : Transcript). t.text) here.is ∙ sym (append-nil here.said) };
-      wrote = wrote_front from o to old mid here.said here.added w.0;
-      fault = w.1;
-    }
-unfinished_of acts stands before number line from o to old mid new (Err (Line fault)) (Err why) finished off w = λ state now.
-    let here = off state now in
-    let said : List ℕ = here.said ++ fault_text number fault in
-    record {
-      said = said;
-      front = record { rest = []; is = ap (λ (t : Transcript). t.text) here.is ∙ sym (append-nil said) };
-      wrote = added_front from o to old mid here.said (fault_text number fault) here.added w.0;
-      fault = w.1;
-    }
-unfinished_of acts stands before number line from o to old mid new (Err (Run met)) (Err why) finished off w = λ state now.
-    let same : why ≡ met = cc in
-    subst (Unfinished acts state number line from to old) (sym same) (subst (λ (x : Output). Unfinished acts state number line from x old met) (sym w.1) (off state now))
+  pub unfinished_of : (r : Result (Unit {0}) Halt) (a : Result Ended RunFault)
+      → OnOk r ((state : S) → stands before state → Finished acts state number line from o old mid)
+      → IfErr r (λ halt. (state : S) → stands before state → FinishedOff acts state number line from o old mid halt)
+      → Answered r number o to mid new a → IfErr a (λ why. (state : S) → stands before state → Unfinished acts state number line from to old why)
+  unfinished_of r (Ok ended) finished off w = tt
+  unfinished_of (Ok u) (Err why) finished off w = λ state now.
+      let here = finished state now in
+      record {
+        said = here.said;
+        front = record { rest = []; is = ap (λ (t : Transcript). t.text) here.is ∙ sym (append-nil here.said) };
+        wrote = wrote_front from o to old mid here.said here.added w.0;
+        fault = w.1;
+      }
+  unfinished_of (Err (Line fault)) (Err why) finished off w = λ state now.
+      let here = off state now in
+      let said : List ℕ = here.said ++ fault_text number fault in
+      record {
+        said = said;
+        front = record { rest = []; is = ap (λ (t : Transcript). t.text) here.is ∙ sym (append-nil said) };
+        wrote = added_front from o to old mid here.said (fault_text number fault) here.added w.0;
+        fault = w.1;
+      }
+  unfinished_of (Err (Run met)) (Err why) finished off w = λ state now.
+      let same : why ≡ met = cc in
+      subst (Unfinished acts state number line from to old) (sym same) (subst (λ (x : Output). Unfinished acts state number line from x old met) (sym w.1) (off state now))

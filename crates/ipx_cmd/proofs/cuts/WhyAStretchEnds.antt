@@ -14,15 +14,8 @@ use Rattle.ipx_cmd.specs.declared.lines.fault.LineFault.TheVariants.{Long}
 use Rattle.ipx_cmd.specs.declared.lines.halt.Halt.{Halt}
 use Rattle.ipx_cmd.specs.declared.lines.halt.Halt.TheVariants.{Line, Run}
 use Rattle.ipx_cmd.proofs.cuts.BetweenTwoLines.{Midpiece}
-use Rattle.ipx_cmd.proofs.cuts.LedToByBytes.{ends_long}
+use Rattle.ipx_cmd.proofs.cuts.LedToByBytes.{ends_long, none_pending}
 use Rattle.ipx_cmd.proofs.cuts.StretchBehindStretch.{added_none, went_none, went_off, went_went}
-
--- an error that was handed on
-pub off_by : {M S : Type 0} (acts : Step S) (stands : M → S → Type 0) (before : M) (number : ℕ) (bytes : List ℕ) (from to : Output) (old new : List ℕ) (later : ℕ) (halt : Halt)
-    (r : Result (Unit {0}) Halt) → IsErrAnd r (λ h. h ≡ halt) → ((state : S) → stands before state → WentOff acts state number bytes from to old new later halt)
-    → IfErr r (λ h. (state : S) → stands before state → WentOff acts state number bytes from to old new later h)
-off_by acts stands before number bytes from to old new later halt (Ok u) e off = tt
-off_by acts stands before number bytes from to old new later halt (Err h) e off = λ state now. subst (WentOff acts state number bytes from to old new later) (sym e) (off state now)
 
 -- a line that is too long
 pub off_long : {S : Type 0} (acts : Step S) (state : S) (number : ℕ) (line rest : List ℕ) (o : Output) (text : List ℕ) (fault : LineFault) → o.failed ≡ false → IsOneLine line
@@ -45,11 +38,6 @@ off_memory acts state number bytes o text later fine = record {
   wrote = record { count = 0; written = Appends-nil o.written };
   fault = (refl, fine);
 }
-
-pub off_empty : {S : Type 0} (acts : Step S) (state : S) (number : ℕ) (pending front rest : List ℕ) (from to : Output) (old new : List ℕ) (later : ℕ) (halt : Halt) → pending ≡ []
-    → WentOff acts state number (front ++ rest) from to old new later halt → WentOff acts state number ((pending ++ front) ++ rest) from to old new later halt
-off_empty acts state number pending front rest from to old new later halt none off =
-    subst (λ (p : List ℕ). WentOff acts state number ((p ++ front) ++ rest) from to old new later halt) (sym none) off
 
 -- whatever follows
 off_more : {S : Type 0} (acts : Step S) (state : S) (number : ℕ) (bytes more : List ℕ) (from to : Output) (old new : List ℕ) (later : ℕ) (halt : Halt)
@@ -85,54 +73,7 @@ mid_start acts stands now number pending piece o text line fine = record {
   fine = fine;
 }
 
--- behind a line
-pub mid_line : {M S : Type 0} (acts : Step S) (stands : M → S → Type 0) (start now new : M) (number later third : ℕ) (pending left piece rest front behind : List ℕ) (from o to : Output)
-    (old mid text : List ℕ) → Midpiece acts stands start now number later pending left piece rest from o old mid → rest ≡ front ++ line_feed ∷ behind
-    → ((state : S) → stands now state → Went acts (stands new) state later ((left ++ front) ++ line_feed ∷ []) o to mid text third [])
-    → IsPending [] → third ≤ later + 1 → to.failed ≡ false
-    → Midpiece acts stands start new number third pending [] piece behind from to old text
-mid_line acts stands start now new number later third pending left piece rest front behind from o to old mid text m split went line more fine =
-    let whole : (m.taken ++ front) ++ line_feed ∷ behind ≡ piece = append_assoc m.taken front (line_feed ∷ behind) ∙ ap (λ (x : List ℕ). m.taken ++ x) (sym split) ∙ sym m.split in
-    record {
-      taken = (m.taken ++ front) ++ line_feed ∷ [];
-      split = sym whole ∙ sym (append_assoc (m.taken ++ front) (line_feed ∷ []) behind);
-      went = λ state is. subst (λ (x : List ℕ). Went acts (stands new) state number x from to old text third [])
-          (append_assoc pending m.taken (front ++ line_feed ∷ []) ∙ ap (λ (x : List ℕ). pending ++ x) (sym (append_assoc m.taken front (line_feed ∷ []))))
-          (went_went acts (stands now) (stands new) state number later third (pending ++ m.taken) (front ++ line_feed ∷ []) left [] from o to old mid text (m.went state is)
-          (λ middle at. subst (λ (x : List ℕ). Went acts (stands new) middle later x o to mid text third []) (append_assoc left front (line_feed ∷ [])) (went middle at)));
-      line = line;
-      bound = omega (arith, m.bound, more, ap length split, length-append front (line_feed ∷ behind));
-      fine = fine;
-    }
-
--- at a line that did not act to its end
-pub mid_off : {M S : Type 0} (acts : Step S) (stands : M → S → Type 0) (start now : M) (number later third : ℕ) (pending left piece rest front behind : List ℕ) (from o to : Output)
-    (old mid text : List ℕ) (halt : Halt) → Midpiece acts stands start now number later pending left piece rest from o old mid → rest ≡ front ++ line_feed ∷ behind
-    → ((state : S) → stands now state → WentOff acts state later ((left ++ front) ++ line_feed ∷ []) o to mid text third halt)
-    → (state : S) → stands start state → WentOff acts state number (pending ++ piece) from to old text third halt
-mid_off acts stands start now number later third pending left piece rest front behind from o to old mid text halt m split off state is =
-    let here = went_off acts (stands now) state number later third (pending ++ m.taken) (front ++ line_feed ∷ []) left from o to old mid text halt (m.went state is)
-    (λ middle at. subst (λ (x : List ℕ). WentOff acts middle later x o to mid text third halt) (append_assoc left front (line_feed ∷ [])) (off middle at)) in
-    subst (λ (x : List ℕ). WentOff acts state number x from to old text third halt)
-    (append_assoc (pending ++ m.taken) (front ++ line_feed ∷ []) behind ∙ append_assoc pending m.taken ((front ++ line_feed ∷ []) ++ behind)
-    ∙ ap (λ (x : List ℕ). pending ++ (m.taken ++ x)) (append_assoc front (line_feed ∷ []) behind ∙ sym split) ∙ ap (λ (x : List ℕ). pending ++ x) (sym m.split))
-    (off_more acts state number ((pending ++ m.taken) ++ (front ++ line_feed ∷ [])) behind from to old text third halt here)
-
--- at its end
-pub mid_end : {M S : Type 0} (acts : Step S) (stands : M → S → Type 0) (start now new : M) (number later third : ℕ) (pending left piece rest kept : List ℕ) (from o : Output)
-    (old mid : List ℕ) (r : Result (Unit {0}) Halt) → Midpiece acts stands start now number later pending left piece rest from o old mid
-    → new ≡ now → third ≡ later → OnOk r (kept ≡ left ++ rest) → OnOk r (IsPending kept)
-    → OnOk r ((state : S) → stands start state → Went acts (stands new) state number (pending ++ piece) from o old mid third kept)
-mid_end acts stands start now new number later third pending left piece rest kept from o old mid (Err e) m same number_is is line = tt
-mid_end acts stands start now new number later third pending left piece rest kept from o old mid (Ok u) m same number_is is line = λ state at.
-    let here = went_went acts (stands now) (stands now) state number later later (pending ++ m.taken) rest left (left ++ rest) from o o old mid mid (m.went state at)
-    (λ middle now. went_none acts _ middle later (left ++ rest) o mid m.fine (subst IsPending is line) now) in
-    subst (λ (k : List ℕ). Went acts (stands new) state number (pending ++ piece) from o old mid third k) (sym is)
-    (subst (λ (n : ℕ). Went acts (stands new) state number (pending ++ piece) from o old mid n (left ++ rest)) (sym number_is)
-    (subst (λ x. Went acts (stands x) state number (pending ++ piece) from o old mid later (left ++ rest)) (sym same)
-    (subst (λ (x : List ℕ). Went acts (stands now) state number x from o old mid later (left ++ rest)) (append_assoc pending m.taken rest ∙ ap (λ (x : List ℕ). pending ++ x) (sym m.split)) here)))
-
--- or where bytes of its last line were not kept
+-- bytes of the last line were not kept
 not_kept : {S : Type 0} (acts : Step S) (state : S) (number : ℕ) (line : List ℕ) (o : Output) (text : List ℕ) (halt : Halt) → o.failed ≡ false → IsOneLine line → NotKept line halt
     → WentOff acts state number line o o text text number halt
 not_kept acts state number line o text (Line fault) fine one told = subst (λ (x : List ℕ). WentOff acts state number x o o text text number (Line fault)) (append-nil line)
@@ -140,16 +81,56 @@ not_kept acts state number line o text (Line fault) fine one told = subst (λ (x
 not_kept acts state number line o text (Run why) fine one told = subst (λ w. WentOff acts state number line o o text text number (Run w)) (sym told)
     (off_memory acts state number line o text number fine)
 
-pub mid_kept : {M S : Type 0} (acts : Step S) (stands : M → S → Type 0) (start now : M) (number later third : ℕ) (pending left piece rest : List ℕ) (from o : Output)
-    (old mid : List ℕ) (r : Result (Unit {0}) Halt) → Midpiece acts stands start now number later pending left piece rest from o old mid → IsOneLine (left ++ rest)
-    → third ≡ later → IfErr r (NotKept (left ++ rest))
-    → IfErr r (λ halt. (state : S) → stands start state → WentOff acts state number (pending ++ piece) from o old mid third halt)
-mid_kept acts stands start now number later third pending left piece rest from o old mid (Ok u) m one number_is told = tt
-mid_kept acts stands start now number later third pending left piece rest from o old mid (Err halt) m one number_is told = λ state at.
-    subst (λ (n : ℕ). WentOff acts state number (pending ++ piece) from o old mid n halt) (sym number_is)
-    (subst (λ (x : List ℕ). WentOff acts state number x from o old mid later halt) (append_assoc pending m.taken rest ∙ ap (λ (x : List ℕ). pending ++ x) (sym m.split))
-    (went_off acts (stands now) state number later later (pending ++ m.taken) rest left from o o old mid mid halt (m.went state at)
-    (λ middle now. not_kept acts middle later (left ++ rest) o mid halt m.fine one told)))
+-- a piece between two of its lines
+module _ {M S : Type 0} {acts : Step S} {stands : M → S → Type 0} {start now : M} {number later : ℕ} {pending left piece rest : List ℕ} {from o : Output} {old mid : List ℕ}
+    (m : Midpiece acts stands start now number later pending left piece rest from o old mid) where
+  module _ (front behind : List ℕ) (split : rest ≡ front ++ line_feed ∷ behind) where
+    -- behind a line
+    pub mid_line : {new : M} {to : Output} {text : List ℕ} {third : ℕ}
+        → ((state : S) → stands now state → Went acts (stands new) state later ((left ++ front) ++ line_feed ∷ []) o to mid text third [])
+        → third ≤ later + 1 → to.failed ≡ false → Midpiece acts stands start new number third pending [] piece behind from to old text
+    mid_line {new = new} {to = to} {text = text} {third = third} went more fine =
+        let whole : (m.taken ++ front) ++ line_feed ∷ behind ≡ piece = append_assoc m.taken front (line_feed ∷ behind) ∙ ap (λ (x : List ℕ). m.taken ++ x) (sym split) ∙ sym m.split in
+        record {
+          taken = (m.taken ++ front) ++ line_feed ∷ [];
+          split = sym whole ∙ sym (append_assoc (m.taken ++ front) (line_feed ∷ []) behind);
+          went = λ state is. subst (λ (x : List ℕ). Went acts (stands new) state number x from to old text third [])
+              (append_assoc pending m.taken (front ++ line_feed ∷ []) ∙ ap (λ (x : List ℕ). pending ++ x) (sym (append_assoc m.taken front (line_feed ∷ []))))
+              (went_went (m.went state is) (front ++ line_feed ∷ [])
+              (λ middle at. subst (λ (x : List ℕ). Went acts (stands new) middle later x o to mid text third []) (append_assoc left front (line_feed ∷ [])) (went middle at)));
+          line = none_pending;
+          bound = omega (arith, m.bound, more, ap length split, length-append front (line_feed ∷ behind));
+          fine = fine;
+        }
+
+    -- at a line that did not act to its end
+    pub mid_off : (to : Output) (text : List ℕ) (third : ℕ) (halt : Halt)
+        → ((state : S) → stands now state → WentOff acts state later ((left ++ front) ++ line_feed ∷ []) o to mid text third halt)
+        → (state : S) → stands start state → WentOff acts state number (pending ++ piece) from to old text third halt
+    mid_off to text third halt off state is =
+        let here = went_off (m.went state is) (front ++ line_feed ∷ []) to text third halt
+        (λ middle at. subst (λ (x : List ℕ). WentOff acts middle later x o to mid text third halt) (append_assoc left front (line_feed ∷ [])) (off middle at)) in
+        subst (λ (x : List ℕ). WentOff acts state number x from to old text third halt)
+        (append_assoc (pending ++ m.taken) (front ++ line_feed ∷ []) behind ∙ append_assoc pending m.taken ((front ++ line_feed ∷ []) ++ behind)
+        ∙ ap (λ (x : List ℕ). pending ++ (m.taken ++ x)) (append_assoc front (line_feed ∷ []) behind ∙ sym split) ∙ ap (λ (x : List ℕ). pending ++ x) (sym m.split))
+        (off_more acts state number ((pending ++ m.taken) ++ (front ++ line_feed ∷ [])) behind from to old text third halt here)
+
+  whole : pending ++ piece ≡ (pending ++ m.taken) ++ rest
+  whole = ap (λ (x : List ℕ). pending ++ x) m.split ∙ sym (append_assoc pending m.taken rest)
+
+  -- at its end
+  pub mid_end : {new : M} {third : ℕ} (kept : List ℕ) (r : Result (Unit {0}) Halt) → new ≡ now → third ≡ later → OnOk r (kept ≡ left ++ rest) → OnOk r (IsPending kept)
+      → OnOk r ((state : S) → stands start state → Went acts (stands new) state number (pending ++ piece) from o old mid third kept)
+  mid_end kept (Err e) same number_is is line = tt
+  mid_end kept (Ok u) same number_is is line = λ state at. rw (same, number_is, is, whole)
+      (went_went (m.went state at) rest (λ middle now. went_none acts _ middle later (left ++ rest) o mid m.fine (subst IsPending is line) now))
+
+  -- or where bytes of its last line were not kept
+  pub mid_kept : {third : ℕ} (r : Result (Unit {0}) Halt) → IsOneLine (left ++ rest) → third ≡ later → IfErr r (NotKept (left ++ rest))
+      → IfErr r (λ halt. (state : S) → stands start state → WentOff acts state number (pending ++ piece) from o old mid third halt)
+  mid_kept (Ok u) one number_is told = tt
+  mid_kept (Err halt) one number_is told = λ state at. rw (number_is, whole)
+      (went_off (m.went state at) rest o mid later halt (λ middle now. not_kept acts middle later (left ++ rest) o mid halt m.fine one told))
 
 pub on_ok_always : {T E P : Type 0} (r : Result T E) → P → OnOk r P
 on_ok_always (Ok x) p = p

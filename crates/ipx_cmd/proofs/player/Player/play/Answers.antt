@@ -2,9 +2,8 @@ use Rattle.std.proofs.Common.{ℕ, List, ◌≡◌, ◌+◌, ◌++◌, ◌∷◌
 use Rattle.std.proofs.lemmas.List.Elements.{All-append}
 use Rattle.ipx_cmd.specs.Lines.{line_feed}
 use Rattle.ipx_cmd.proofs.cuts.LinesOfBytes.{not_feed}
-use Rattle.ipx_cmd.proofs.cuts.BetweenTwoLines.{Midpiece}
-use Rattle.ipx_cmd.proofs.cuts.LedToByBytes.{none_pending}
-use Rattle.ipx_cmd.proofs.cuts.WhyAStretchEnds.{on_ok_always, mid_end, mid_kept, mid_line, mid_off, mid_start, off_by}
+use Rattle.ipx_cmd.proofs.cuts.WhyAStretchEnds.{on_ok_always, mid_end, mid_kept, mid_line, mid_off, mid_start}
+use Rattle.ipx_cmd.proofs.cuts.WaysOut.{err_by}
 use Rattle.ipx_cmd.proofs.player.Player.play.Goals as goal
 
 pub loop-front-init : goal.loop-front-init
@@ -30,28 +29,18 @@ returns-in_err-end_line-clause-number g c =
 
 pub returns-in_err-end_line-clause-off : goal.returns-in_err-end_line-clause-off
 returns-in_err-end_line-clause-off g c =
-    let s = c.args.self.now in
-    let l = c.loop-front in
     let new = c.end_line.new in
-    off_by g.M.Act.acts g.M.Act.stands s.machine s.number (s.pending.items ++ c.args.piece.now) c.args.outlet.now new.outlet c.args.text.now.items new.text.items
-    new.self.number c.in_err-end_line.field-0.0 c.from_residual.result c.from_residual.ensures.1
-    (mid_off g.M.Act.acts g.M.Act.stands s.machine l.self.machine s.number l.self.number new.self.number s.pending.items l.self.pending.items c.args.piece.now l.rest.now
-    c.in-Some.front.now c.in-Some.behind.now c.args.outlet.now l.outlet new.outlet c.args.text.now.items l.text.items new.text.items c.in_err-end_line.field-0.0
-    l.invariant c.in-Some.ensures.1 c.in_err-end_line.ensures.off)
+    err_by _ c.in_err-end_line.field-0.0 c.from_residual.result c.from_residual.ensures.1
+    (mid_off c.loop-front.invariant c.in-Some.front.now c.in-Some.behind.now c.in-Some.ensures.1 new.outlet new.text.items new.self.number c.in_err-end_line.field-0.0
+    c.in_err-end_line.ensures.off)
 
 pub loop-front-smaller : goal.loop-front-smaller
 loop-front-smaller g c = omega (arith, taken c.loop-front.rest.now c.in-Some.front.now c.in-Some.behind.now c.in-Some.ensures.1)
 
 pub loop-front-preserved : goal.loop-front-preserved
 loop-front-preserved g c =
-    let s = c.args.self.now in
-    let l = c.loop-front in
-    let new = c.end_line.new in
-    subst (λ (p : List ℕ). Midpiece g.M.Act.acts g.M.Act.stands s.machine new.self.machine s.number new.self.number s.pending.items p c.args.piece.now c.in-Some.behind.now
-    c.args.outlet.now new.outlet c.args.text.now.items new.text.items) (sym c.in_ok-end_line.ensures.line)
-    (mid_line g.M.Act.acts g.M.Act.stands s.machine l.self.machine new.self.machine s.number l.self.number new.self.number s.pending.items l.self.pending.items c.args.piece.now l.rest.now
-    c.in-Some.front.now c.in-Some.behind.now c.args.outlet.now l.outlet new.outlet c.args.text.now.items l.text.items new.text.items
-    l.invariant c.in-Some.ensures.1 c.in_ok-end_line.ensures.went none_pending c.end_line.ensures.number c.in_ok-end_line.ensures.fine)
+    rw c.in_ok-end_line.ensures.line (mid_line c.loop-front.invariant c.in-Some.front.now c.in-Some.behind.now c.in-Some.ensures.1 c.in_ok-end_line.ensures.went
+    c.end_line.ensures.number c.in_ok-end_line.ensures.fine)
 
 pub keep-requires-clause-line : goal.keep-requires-clause-line
 keep-requires-clause-line g c = c.loop-front.invariant.line
@@ -64,17 +53,9 @@ returns-clause-fine g c = on_ok_always c.keep.result c.loop-front.invariant.fine
 
 pub returns-clause-went : goal.returns-clause-went
 returns-clause-went g c =
-    let s = c.args.self.now in
-    let l = c.loop-front in
-    let new = c.keep.new.self in
-    mid_end g.M.Act.acts g.M.Act.stands s.machine l.self.machine new.machine s.number l.self.number new.number s.pending.items l.self.pending.items c.args.piece.now l.rest.now
-    new.pending.items c.args.outlet.now l.outlet c.args.text.now.items l.text.items c.keep.result l.invariant c.keep.ensures.machine c.keep.ensures.number
-    c.keep.ensures.kept c.keep.ensures.line
+    mid_end c.loop-front.invariant c.keep.new.self.pending.items c.keep.result c.keep.ensures.machine c.keep.ensures.number c.keep.ensures.kept c.keep.ensures.line
 
 pub returns-clause-off : goal.returns-clause-off
 returns-clause-off g c =
-    let s = c.args.self.now in
     let l = c.loop-front in
-    mid_kept g.M.Act.acts g.M.Act.stands s.machine l.self.machine s.number l.self.number c.keep.new.self.number s.pending.items l.self.pending.items c.args.piece.now l.rest.now
-    c.args.outlet.now l.outlet c.args.text.now.items l.text.items c.keep.result l.invariant
-    (All-append not_feed l.self.pending.items l.rest.now l.invariant.line.one c.in_default.ensures) c.keep.ensures.number c.keep.ensures.refused
+    mid_kept l.invariant c.keep.result (All-append not_feed l.self.pending.items l.rest.now l.invariant.line.one c.in_default.ensures) c.keep.ensures.number c.keep.ensures.refused

@@ -5,7 +5,8 @@ use Rattle.ipx_cmd.specs.inside.InternetStands.{IsStanding}
 use Rattle.ipx_cmd.specs.OrderMeaning.{order_says}
 use Rattle.ipx_cmd.specs.declared.lines.order.Order.{Order}
 use Rattle.ipx_cmd.proofs.acts.EventsOneAfterAnother.{where_ok}
-use Rattle.ipx_cmd.proofs.acts.WhatAnInternetsLineMakes.{line_acted, line_halted, no_memory, on_both, on_err, on_ok, port_named, port_unnamed, refused_line, router_named, skipped, some_router, still, unlike_naming, unmade_line}
+use Rattle.ipx_cmd.proofs.acts.WhatAnInternetsLineMakes.{halted_line, no_memory, obeyed_line, port_named, port_unnamed, refused_line, router_named, skipped, some_router, still, unlike_naming, unmade_line}
+use Rattle.ipx_cmd.proofs.cuts.WaysOut.{if_err, on_both, on_ok}
 use Rattle.ipx_cmd.proofs.machines.internet_machine.InternetMachineAct.act.Goals as goal
 
 pub returns-in_err-order-clause-halted : goal.returns-in_err-order-clause-halted
@@ -28,7 +29,7 @@ returns-in-Router-clause-acted g c =
     c.read.ensures.same meaning net c.name_router.ensures.internet)
 
 pub returns-in-Router-clause-halted : goal.returns-in-Router-clause-halted
-returns-in-Router-clause-halted g c = on_err c.name_router.result c.name_router.ensures.refused (λ halt refused state stands.
+returns-in-Router-clause-halted g c = if_err c.name_router.result c.name_router.ensures.refused (λ halt refused state stands.
     no_memory state c.args.line.now c.args.outlet.now c.args.text.now.items halt c.requires refused)
 
 pub name_port-requires : goal.name_port-requires
@@ -45,7 +46,7 @@ returns-in-Port g c =
       acted = on_both c.name_port.result c.name_port.ensures.named c.name_port.ensures.net (λ named net state stands.
           port_named c.args.self.now c.read.new.self c.name_port.new.self state c.args.line.now c.in-Port.named c.args.outlet.now c.args.text.now.items c.requires stands
           c.read.ensures.same meaning named net c.name_port.ensures.internet);
-      halted = on_err c.name_port.result c.name_port.ensures.refused (λ halt stops state stands.
+      halted = if_err c.name_port.result c.name_port.ensures.refused (λ halt stops state stands.
           port_unnamed c.args.self.now state c.args.line.now c.in-Port.named c.args.outlet.now c.args.text.now.items halt c.requires stands meaning stops);
     }
 
@@ -70,8 +71,8 @@ returns g c =
     let unlike = unlike_naming c.in-Some.order c.in_default-order.not-Router c.in_default-order-2.not-Port in
     record {
       fine = c.obey.ensures.fine;
-      acted = line_acted c.args.self.now c.make_internet.new.self c.obey.new.self c.args.line.now c.read.new.self.buffer c.in-Some.order c.args.outlet.now c.obey.new.outlet
-          c.args.text.now.items c.obey.new.text.items c.obey.result unlike meaning makes c.make_internet.ensures.buffer c.obey.ensures.acted;
-      halted = line_halted c.args.self.now c.make_internet.new.self c.args.line.now c.read.new.self.buffer c.in-Some.order c.args.outlet.now c.obey.new.outlet
-          c.args.text.now.items c.obey.new.text.items c.obey.result unlike meaning makes c.make_internet.ensures.buffer c.obey.ensures.halted;
+      acted = on_ok c.obey.result c.obey.ensures.acted (λ obeyed state stands.
+          obeyed_line c.in-Some.order unlike stands meaning (makes state stands) c.make_internet.ensures.buffer obeyed);
+      halted = if_err c.obey.result c.obey.ensures.halted (λ halt obeyed state stands. halted_line c.args.line.now c.in-Some.order c.args.outlet.now c.obey.new.outlet
+          c.args.text.now.items c.obey.new.text.items halt unlike stands meaning (makes state stands) c.make_internet.ensures.buffer obeyed);
     }

@@ -4,8 +4,9 @@ use Rattle.ipx_cmd.specs.CommandMeaning.{command_says}
 use Rattle.ipx_cmd.specs.Machine.{Standing}
 use Rattle.ipx_cmd.specs.inside.MachineStands.{IsStanding, reached}
 use Rattle.ipx_cmd.specs.declared.lines.command.Command.{Command}
-use Rattle.ipx_cmd.proofs.acts.WhatALineMakes.{refused_line, skipped, named_line, unnamed_line, unmade_line, unlike_port, line_acted, line_halted, still}
+use Rattle.ipx_cmd.proofs.acts.WhatALineMakes.{refused_line, skipped, named_line, unnamed_line, unmade_line, unlike_port, obeyed_line, halted_line, still}
 use Rattle.ipx_cmd.proofs.acts.AnotherPortMayBeNamed.{port_line}
+use Rattle.ipx_cmd.proofs.cuts.WaysOut.{if_err, on_ok}
 use Rattle.ipx_cmd.proofs.machines.machine.MachineAct.act.Goals as goal
 
 pub returns-in_err-command-clause-halted : goal.returns-in_err-command-clause-halted
@@ -63,8 +64,8 @@ returns g c =
     let unlike = unlike_port c.in-Some.command c.in_default-command.not-Port in
     record {
       fine = c.obey.ensures.fine;
-      acted = line_acted c.args.self.now c.make_router.new.self c.obey.new.self c.args.line.now c.read.new.self.buffer c.in-Some.command c.args.outlet.now c.obey.new.outlet
-          c.args.text.now.items c.obey.new.text.items c.obey.result unlike meaning makes c.make_router.ensures.buffer c.obey.ensures.acted;
-      halted = line_halted c.args.self.now c.make_router.new.self c.args.line.now c.read.new.self.buffer c.in-Some.command c.args.outlet.now c.obey.new.outlet
-          c.args.text.now.items c.obey.new.text.items c.obey.result unlike meaning makes c.make_router.ensures.buffer c.obey.ensures.halted;
+      acted = on_ok c.obey.result c.obey.ensures.acted (λ obeyed state stands.
+          obeyed_line c.in-Some.command unlike stands meaning (makes state stands) c.make_router.ensures.buffer obeyed);
+      halted = if_err c.obey.result c.obey.ensures.halted (λ halt obeyed state stands. halted_line c.args.line.now c.in-Some.command c.args.outlet.now c.obey.new.outlet
+          c.args.text.now.items c.obey.new.text.items halt unlike stands meaning (makes state stands) c.make_router.ensures.buffer obeyed);
     }
