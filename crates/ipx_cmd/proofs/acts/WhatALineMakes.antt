@@ -1,7 +1,6 @@
 -- What a line makes of a machine, by what was read of it.
-use Rattle.std.proofs.Common.{◌≡◌, ℕ, true, false, Bool, List, [], ◌∷◌, ◌++◌, length, refl, sym, ap, subst, ◌∙◌, Option, None, Some, is_some, Result, Ok, Err, OnOk, IfErr, append-nil}
+use Rattle.std.proofs.Common.{◌≡◌, ℕ, true, false, Bool, List, [], ◌∷◌, ◌++◌, refl, sym, ap, subst, ◌∙◌, Option, None, Some, is_some, Result, Ok, Err, append-nil, arith}
 use Rattle.std.proofs.KnownBytes.{Appends-nil}
-use Rattle.std.proofs.lemmas.Bool.{true≢false}
 use Rattle.ipx_wire.specs.Ends.{Output}
 use Rattle.ipx_router.specs.History.{History}
 use Rattle.ipx_router.specs.Port.{Port}
@@ -13,9 +12,8 @@ use Rattle.ipx_cmd.specs.Machine.{Standing, Led, acts, does, obeys, past_of, sta
 use Rattle.ipx_cmd.specs.inside.MachineStands.{Machine, RouterStands, IsSame, IsStanding, Leads, Makes, reached}
 use Rattle.ipx_cmd.specs.Making.{named_port}
 use Rattle.ipx_cmd.specs.Script.{line_meaning}
-use Rattle.ipx_cmd.specs.WroteFront.{IsFaultOf}
 use Rattle.ipx_cmd.specs.declared.lines.command.Command.{Command}
-use Rattle.ipx_cmd.specs.declared.lines.command.Command.TheVariants.{Port as PortCommand, Start, Stop, Second, Packet, PortDown, PortUp, Routes, Services}
+use Rattle.ipx_cmd.specs.declared.lines.command.Command.TheVariants.{Port as PortCommand}
 use Rattle.ipx_cmd.specs.declared.lines.command.NamedPort.{NamedPort}
 use Rattle.ipx_cmd.specs.declared.lines.command.Stage.{Stage}
 use Rattle.ipx_cmd.specs.declared.ended.RunFault.{RunFault}
@@ -28,16 +26,8 @@ use Rattle.ipx_cmd.proofs.written.AddedOneAfterAnother.{added_kept}
 
 -- ---- what a line does, by its meaning
 
-same_made : (ports : List Port) (router : Option State) (past : Option History) → RouterStands ports router past → is_some router ≡ is_some past
-same_made ports None None s = refl
-same_made ports (Some r) (Some h) s = refl
-same_made ports None (Some h) s = absurd s
-same_made ports (Some r) None s = absurd s
-
 same_stage : (m : Machine) (s : Standing) → IsStanding m s → reached m ≡ stage_of s
-same_stage m s is =
-    ap (λ (b : Bool). record { made = b; ports = length m.ports }) (same_made s.ports m.router s.past is.router)
-    ∙ ap (λ (l : List Port). record { made = is_some s.past; ports = length l }) is.ports
+same_stage m s is = grind arith
 
 meaning_there : (m : Machine) (s : Standing) (line : List ℕ) (meant : Result (Option CommandMeaning) LineFault) → IsStanding m s → line_meaning (reached m) line ≡ meant
     → line_meaning (stage_of s) line ≡ meant
@@ -61,31 +51,21 @@ router_led s i past = past >>= (λ h. obeys s.ports h i)
 
 -- ---- a line that is wrong, or that memory was wanting for
 stopped : (o : Output) (text : List ℕ) (led : Led) (why : RunFault) → o.failed ≡ false → why ≡ Memory → Halted led o o text text (Run why)
-stopped o text led why fine e =
-    (record { count = 0; written = Appends-nil o.written }, subst (IsFaultOf false o.failed) (sym e) (refl, fine))
+stopped o text led why fine e = grind (arith, Appends-nil)
 
 pub refused_line : (m : Machine) (s : Standing) (line : List ℕ) (o : Output) (text : List ℕ) (halt : Halt) → o.failed ≡ false → IsStanding m s → Stops (line_meaning (reached m) line) halt
     → Halted (acts s line) o o text text halt
-refused_line m s line o text (Line fault) fine is stops = (acts_by m s line (Err fault) is stops, refl, refl)
-refused_line m s line o text (Run why) fine is stops = stopped o text (acts s line) why fine stops
+refused_line m s line o text halt fine is stops = grind (arith, acts_by, stopped)
 
 -- ---- a line that is skipped
 pub skipped : (m n : Machine) (s : Standing) (line : List ℕ) (o : Output) (text : List ℕ) → o.failed ≡ false → IsStanding m s → IsSame m n → line_meaning (reached m) line ≡ Ok None
     → Acted acts (IsStanding n) s line o o text text
-skipped m n s line o text fine is same e = record {
-  after = s;
-  said = [];
-  does = acts_by m s line (Ok None) is e;
-  now = still m n s same is;
-  added = added_kept o text text [] fine (sym (append-nil text));
-}
+skipped m n s line o text fine is same e = grind (arith, acts_by, still, added_kept, append-nil)
 
 -- ---- a line that names a port
 
 still_bare : (ports more : List Port) (router : Option State) (past : Option History) → is_some router ≡ false → RouterStands ports router past → RouterStands more router past
-still_bare ports more None None none s = tt
-still_bare ports more (Some r) past none s = absurd (true≢false none)
-still_bare ports more None (Some h) none s = absurd s
+still_bare ports more router past none s = grind arith
 
 pub named_line : (m n p : Machine) (s : Standing) (line : List ℕ) (named : NamedPort) (o : Output) (text : List ℕ) → o.failed ≡ false → IsStanding m s → IsSame m n
     → line_meaning (reached m) line ≡ Ok (Some (next_port named)) → named_port (values_of named) ≡ Ok (values_of named)
@@ -113,21 +93,12 @@ is_port (PortCommand named) = true
 is_port command = false
 
 router_does : (s : Standing) (buffer : List ℕ) (c : Command) → is_port c ≡ false → does s (Some (command_says buffer c)) ≡ router_led s (command_says buffer c) (past_of s)
-router_does s buffer (PortCommand named) unlike = absurd (true≢false unlike)
-router_does s buffer Start unlike = refl
-router_does s buffer Stop unlike = refl
-router_does s buffer (Second count) unlike = refl
-router_does s buffer (Packet port) unlike = refl
-router_does s buffer (PortDown port) unlike = refl
-router_does s buffer (PortUp port) unlike = refl
-router_does s buffer Routes unlike = refl
-router_does s buffer Services unlike = refl
+router_does s buffer c unlike = grind arith
 
 -- what the line does, where its router has this history
 router_line : (m : Machine) (s : Standing) (line buffer : List ℕ) (c : Command) (past : Result History LineFault) → is_port c ≡ false → IsStanding m s
     → line_meaning (reached m) line ≡ Ok (Some (command_says buffer c)) → past_of s ≡ past → acts s line ≡ router_led s (command_says buffer c) past
-router_line m s line buffer c past unlike is e made =
-    acts_by m s line (Ok (Some (command_says buffer c))) is e ∙ router_does s buffer c unlike ∙ ap (router_led s (command_says buffer c)) made
+router_line m s line buffer c past unlike is e made = grind (arith, acts_by, router_does)
 
 pub unmade_line : (m : Machine) (s : Standing) (line buffer : List ℕ) (c : Command) (o : Output) (text : List ℕ) (fault : LineFault) → is_port c ≡ false → IsStanding m s
     → line_meaning (reached m) line ≡ Ok (Some (command_says buffer c)) → past_of s ≡ Err fault → Halted (acts s line) o o text text (Line fault)
@@ -143,32 +114,15 @@ pub obeyed_line : {m k p : Machine} {s : Standing} {line buffer : List ℕ} (c :
     → line_meaning (reached m) line ≡ Ok (Some (command_says buffer c)) → Makes k s → k.buffer ≡ buffer
     → ((ports : List Port) (h : History) → IsStanding k (record { ports = ports; past = Some h }) → Leads p (obeys ports h (command_says k.buffer c)) from to old new)
     → Acted acts (IsStanding p) s line from to old new
-obeyed_line {m = m} {k = k} {s = s} {line = line} {buffer = buffer} c unlike is e made same obeyed =
-    let leads = obeyed s.ports made.past made.stands in
-    record {
-      after = leads.after;
-      said = leads.said;
-      does = obeyed_is m k s line buffer c unlike is e made same ∙ leads.does;
-      now = leads.now;
-      added = leads.added;
-    }
+obeyed_line {m = m} {k = k} {s = s} {line = line} {buffer = buffer} c unlike is e made same obeyed = grind (arith, obeyed_is)
 
 pub halted_line : {m k : Machine} {s : Standing} (line : List ℕ) {buffer : List ℕ} (c : Command) (from to : Output) (old new : List ℕ) (halt : Halt) → is_port c ≡ false → IsStanding m s
     → line_meaning (reached m) line ≡ Ok (Some (command_says buffer c)) → Makes k s → k.buffer ≡ buffer
     → ((ports : List Port) (h : History) → IsStanding k (record { ports = ports; past = Some h }) → Halted (obeys ports h (command_says k.buffer c)) from to old new halt)
     → Halted (acts s line) from to old new halt
-halted_line {m = m} {k = k} {s = s} line {buffer = buffer} c from to old new halt unlike is e made same obeyed =
-    subst (λ (led : Led). Halted led from to old new halt) (sym (obeyed_is m k s line buffer c unlike is e made same)) (obeyed s.ports made.past made.stands)
+halted_line {m = m} {k = k} {s = s} line {buffer = buffer} c from to old new halt unlike is e made same obeyed = grind (arith, obeyed_is)
 
 -- ---- what the last call of a line leaves
 
 pub unlike_port : (c : Command) → ((named : NamedPort) → c ≡ PortCommand named → ⊥) → is_port c ≡ false
-unlike_port (PortCommand named) differs = absurd (differs named refl)
-unlike_port Start differs = refl
-unlike_port Stop differs = refl
-unlike_port (Second count) differs = refl
-unlike_port (Packet port) differs = refl
-unlike_port (PortDown port) differs = refl
-unlike_port (PortUp port) differs = refl
-unlike_port Routes differs = refl
-unlike_port Services differs = refl
+unlike_port c differs = grind arith

@@ -1,7 +1,6 @@
 -- What a line makes of the machine of an internet, by what was read of it.
-use Rattle.std.proofs.Common.{◌≡◌, ℕ, ◌<◌, true, false, Bool, List, [], ◌∷◌, ◌++◌, length, refl, sym, ap, subst, ◌∙◌, Option, None, Some, is_some, Result, Ok, Err, OnOk, IfErr, append-nil}
+use Rattle.std.proofs.Common.{◌≡◌, ℕ, ◌<◌, true, false, Bool, List, [], ◌∷◌, ◌++◌, length, refl, sym, ap, subst, ◌∙◌, Option, None, Some, is_some, Result, Ok, append-nil, arith}
 use Rattle.std.proofs.KnownBytes.{Appends-nil}
-use Rattle.std.proofs.lemmas.Bool.{true≢false}
 use Rattle.ipx_wire.specs.Ends.{Output}
 use Rattle.ipx_router.specs.Port.{Port}
 use Rattle.ipx_internet.specs.Internet.{Internet}
@@ -16,7 +15,6 @@ use Rattle.ipx_cmd.specs.Line.{◌>>=◌, Stops}
 use Rattle.ipx_cmd.specs.Making.{named_port}
 use Rattle.ipx_cmd.specs.OrderLine.{order_meaning}
 use Rattle.ipx_cmd.specs.OrderMeaning.{OrderMeaning, NextRouter, next_port, order_says}
-use Rattle.ipx_cmd.specs.WroteFront.{IsFaultOf}
 use Rattle.ipx_cmd.specs.declared.lines.command.NamedPort.{NamedPort}
 use Rattle.ipx_cmd.specs.declared.ended.RunFault.{RunFault}
 use Rattle.ipx_cmd.specs.declared.ended.RunFault.TheVariants.{Memory}
@@ -24,23 +22,15 @@ use Rattle.ipx_cmd.specs.declared.lines.fault.LineFault.{LineFault}
 use Rattle.ipx_cmd.specs.declared.lines.halt.Halt.{Halt}
 use Rattle.ipx_cmd.specs.declared.lines.halt.Halt.TheVariants.{Line, Run}
 use Rattle.ipx_cmd.specs.declared.lines.order.Order.{Order}
-use Rattle.ipx_cmd.specs.declared.lines.order.Order.TheVariants.{Router as RouterOrder, Port as PortOrder, Start, Stop, Second, Packet, PortDown, PortUp, Settle, Trace, Routes, Services}
+use Rattle.ipx_cmd.specs.declared.lines.order.Order.TheVariants.{Router as RouterOrder, Port as PortOrder}
 use Rattle.ipx_cmd.specs.declared.lines.order.OrderStage.{OrderStage}
 use Rattle.ipx_cmd.proofs.acts.AnotherRouterMayBeNamed.{port_line, router_line}
 use Rattle.ipx_cmd.proofs.written.AddedOneAfterAnother.{added_kept}
 
 -- ---- what a line does, by its meaning
 
-same_made : (net : Internet) (internet : Option Moment) (past : Option Queued) → InternetStands net internet past → is_some internet ≡ is_some past
-same_made net None None s = refl
-same_made net (Some m) (Some q) s = refl
-same_made net None (Some q) s = absurd s
-same_made net (Some m) None s = absurd s
-
 same_stage : (m : InternetMachine) (s : Standing) → IsStanding m s → reached m ≡ stage_of s
-same_stage m s is =
-    ap (λ (b : Bool). record { made = b; routers = length m.net; ports = length (latest m.net) }) (same_made s.net m.internet s.past is.internet)
-    ∙ ap (λ (l : Internet). record { made = is_some s.past; routers = length l; ports = length (latest l) }) is.net
+same_stage m s is = grind arith
 
 meaning_there : (m : InternetMachine) (s : Standing) (line : List ℕ) (meant : Result (Option OrderMeaning) LineFault) → IsStanding m s → order_meaning (reached m) line ≡ meant
     → order_meaning (stage_of s) line ≡ meant
@@ -64,48 +54,28 @@ order_led s r past = past >>= (λ q. obeys s.net q r)
 
 -- ---- a line that is wrong, or that memory was wanting for
 stopped : (o : Output) (text : List ℕ) (led : Led) (why : RunFault) → o.failed ≡ false → why ≡ Memory → Halted led o o text text (Run why)
-stopped o text led why fine e =
-    (record { count = 0; written = Appends-nil o.written }, subst (IsFaultOf false o.failed) (sym e) (refl, fine))
+stopped o text led why fine e = grind (arith, Appends-nil)
 
 -- what stops what comes before stops the line
 stops_line : (o : Output) (text : List ℕ) {A : Type 0} (before : Result A LineFault) (next : A → Led) (halt : Halt) → o.failed ≡ false → Stops before halt
     → Halted (before >>= next) o o text text halt
-stops_line o text before next (Line fault) fine stops = (ap (λ r. r >>= next) stops, refl, refl)
-stops_line o text before next (Run why) fine stops = stopped o text (before >>= next) why fine stops
+stops_line o text before next halt fine stops = grind (arith, stopped)
 
 pub refused_line : (m : InternetMachine) (s : Standing) (line : List ℕ) (o : Output) (text : List ℕ) (halt : Halt) → o.failed ≡ false → IsStanding m s
     → Stops (order_meaning (reached m) line) halt → Halted (acts s line) o o text text halt
-refused_line m s line o text halt fine is stops =
-    subst (λ (led : Led). Halted led o o text text halt) (sym (acts_by m s line (order_meaning (reached m) line) is refl))
-    (stops_line o text (order_meaning (reached m) line) (does s) halt fine stops)
+refused_line m s line o text halt fine is stops = grind (arith, acts_by, stops_line)
 
 -- ---- a line that is skipped
 pub skipped : (m n : InternetMachine) (s : Standing) (line : List ℕ) (o : Output) (text : List ℕ) → o.failed ≡ false → IsStanding m s → IsSame m n
     → order_meaning (reached m) line ≡ Ok None → Acted acts (IsStanding n) s line o o text text
-skipped m n s line o text fine is same e = record {
-  after = s;
-  said = [];
-  does = acts_by m s line (Ok None) is e;
-  now = still m n s same is;
-  added = added_kept o text text [] fine (sym (append-nil text));
-}
+skipped m n s line o text fine is same e = grind (arith, acts_by, still, added_kept, append-nil)
 
 -- ---- a line that names a router or a port
-
-still_bare : (net more : Internet) (internet : Option Moment) (past : Option Queued) → is_some internet ≡ false → InternetStands net internet past
-    → InternetStands more internet past
-still_bare net more None None none s = tt
-still_bare net more (Some m) past none s = absurd (true≢false none)
-still_bare net more None (Some q) none s = absurd s
 
 -- the machine has other routers, and no internet yet
 renamed : (m n p : InternetMachine) (s : Standing) (more : Internet → Internet) → IsStanding m s → IsSame m n → is_some m.internet ≡ false → p.net ≡ more n.net
     → p.internet ≡ n.internet → IsStanding p (record { net = more s.net; past = s.past })
-renamed m n p s more is same none net internet = record {
-  net = net ∙ ap more (same.net ∙ is.net);
-  internet = subst (λ (x : Option Moment). InternetStands (more s.net) x s.past) (sym (internet ∙ same.internet))
-      (still_bare s.net (more s.net) m.internet s.past none is.internet);
-}
+renamed m n p s more is same none net internet = grind arith
 
 pub router_named : (m n p : InternetMachine) (s : Standing) (line : List ℕ) (o : Output) (text : List ℕ) → o.failed ≡ false → IsStanding m s → IsSame m n
     → order_meaning (reached m) line ≡ Ok (Some NextRouter) → p.net ≡ n.net ++ [] ∷ [] → p.internet ≡ n.internet → Acted acts (IsStanding p) s line o o text text
@@ -130,9 +100,7 @@ port_named m n p s line named o text fine is same e makes net internet = record 
 
 pub port_unnamed : (m : InternetMachine) (s : Standing) (line : List ℕ) (named : NamedPort) (o : Output) (text : List ℕ) (halt : Halt) → o.failed ≡ false → IsStanding m s
     → order_meaning (reached m) line ≡ Ok (Some (next_port named)) → Stops (named_port (values_of named)) halt → Halted (acts s line) o o text text halt
-port_unnamed m s line named o text halt fine is e stops =
-    subst (λ (led : Led). Halted led o o text text halt) (sym (acts_by m s line (Ok (Some (next_port named))) is e))
-    (stops_line o text (named_port (values_of named)) (λ port. Ok (record { net = with_port s.net port; past = s.past }, [])) halt fine stops)
+port_unnamed m s line named o text halt fine is e stops = grind (arith, acts_by, stops_line)
 
 pub some_router : (m n : InternetMachine) (line : List ℕ) (named : NamedPort) → IsSame m n → order_meaning (reached m) line ≡ Ok (Some (next_port named)) → 0 < length n.net
 some_router m n line named same e = subst (λ (l : Internet). 0 < length l) (sym same.net) (port_line (reached m) line named e).1
@@ -145,24 +113,12 @@ is_naming (PortOrder named) = true
 is_naming order = false
 
 order_does : (s : Standing) (buffer : List ℕ) (o : Order) → is_naming o ≡ false → does s (Some (order_says buffer o)) ≡ order_led s (order_says buffer o) (past_of s)
-order_does s buffer RouterOrder unlike = absurd (true≢false unlike)
-order_does s buffer (PortOrder named) unlike = absurd (true≢false unlike)
-order_does s buffer (Start router) unlike = refl
-order_does s buffer (Stop router) unlike = refl
-order_does s buffer (Second count) unlike = refl
-order_does s buffer (Packet router port) unlike = refl
-order_does s buffer (PortDown router port) unlike = refl
-order_does s buffer (PortUp router port) unlike = refl
-order_does s buffer (Settle limit) unlike = refl
-order_does s buffer (Trace router port limit) unlike = refl
-order_does s buffer (Routes router) unlike = refl
-order_does s buffer (Services router) unlike = refl
+order_does s buffer o unlike = grind arith
 
 -- what the line does, where this is what happened
 order_line : (m : InternetMachine) (s : Standing) (line buffer : List ℕ) (o : Order) (past : Result Queued LineFault) → is_naming o ≡ false → IsStanding m s
     → order_meaning (reached m) line ≡ Ok (Some (order_says buffer o)) → past_of s ≡ past → acts s line ≡ order_led s (order_says buffer o) past
-order_line m s line buffer o past unlike is e made =
-    acts_by m s line (Ok (Some (order_says buffer o))) is e ∙ order_does s buffer o unlike ∙ ap (order_led s (order_says buffer o)) made
+order_line m s line buffer o past unlike is e made = grind (arith, acts_by, order_does)
 
 pub unmade_line : (m : InternetMachine) (s : Standing) (line buffer : List ℕ) (r : Order) (o : Output) (text : List ℕ) (halt : Halt) → o.failed ≡ false → is_naming r ≡ false
     → IsStanding m s → order_meaning (reached m) line ≡ Ok (Some (order_says buffer r)) → Stops (past_of s) halt → Halted (acts s line) o o text text halt
@@ -180,73 +136,34 @@ pub obeyed_line : {m k p : InternetMachine} {s : Standing} {line buffer : List �
     → order_meaning (reached m) line ≡ Ok (Some (order_says buffer r)) → Makes k s → k.buffer ≡ buffer
     → ((net : Internet) (q : Queued) → IsStanding k (record { net = net; past = Some q }) → Leads p (obeys net q (order_says k.buffer r)) from to old new)
     → Acted acts (IsStanding p) s line from to old new
-obeyed_line {m = m} {k = k} {s = s} {line = line} {buffer = buffer} r unlike is e made same obeyed =
-    let leads = obeyed s.net made.past made.stands in
-    record {
-      after = leads.after;
-      said = leads.said;
-      does = obeyed_is m k s line buffer r unlike is e made same ∙ leads.does;
-      now = leads.now;
-      added = leads.added;
-    }
+obeyed_line {m = m} {k = k} {s = s} {line = line} {buffer = buffer} r unlike is e made same obeyed = grind (arith, obeyed_is)
 
 pub halted_line : {m k : InternetMachine} {s : Standing} (line : List ℕ) {buffer : List ℕ} (r : Order) (from to : Output) (old new : List ℕ) (halt : Halt) → is_naming r ≡ false → IsStanding m s
     → order_meaning (reached m) line ≡ Ok (Some (order_says buffer r)) → Makes k s → k.buffer ≡ buffer
     → ((net : Internet) (q : Queued) → IsStanding k (record { net = net; past = Some q }) → Halted (obeys net q (order_says k.buffer r)) from to old new halt)
     → Halted (acts s line) from to old new halt
-halted_line {m = m} {k = k} {s = s} line {buffer = buffer} r from to old new halt unlike is e made same obeyed =
-    subst (λ (led : Led). Halted led from to old new halt) (sym (obeyed_is m k s line buffer r unlike is e made same)) (obeyed s.net made.past made.stands)
+halted_line {m = m} {k = k} {s = s} line {buffer = buffer} r from to old new halt unlike is e made same obeyed = grind (arith, obeyed_is)
 
 -- ---- what the last call of a line leaves
 
 pub unlike_naming : (o : Order) → (o ≡ RouterOrder → ⊥) → ((named : NamedPort) → o ≡ PortOrder named → ⊥) → is_naming o ≡ false
-unlike_naming RouterOrder router port = absurd (router refl)
-unlike_naming (PortOrder named) router port = absurd (port named refl)
-unlike_naming (Start number) router port = refl
-unlike_naming (Stop number) router port = refl
-unlike_naming (Second count) router port = refl
-unlike_naming (Packet number place) router port = refl
-unlike_naming (PortDown number place) router port = refl
-unlike_naming (PortUp number place) router port = refl
-unlike_naming (Settle limit) router port = refl
-unlike_naming (Trace number place limit) router port = refl
-unlike_naming (Routes number) router port = refl
-unlike_naming (Services number) router port = refl
+unlike_naming o router port = grind arith
 
 -- ---- the internet is made, or was
 
 made_by : (m : InternetMachine) (s : Standing) (past : Option Queued) → s.past ≡ past → is_some m.internet ≡ true → IsStanding m s → Makes m s
-made_by m s (Some q) e made is = record {
-  past = q;
-  is = rw e refl;
-  stands = record { net = is.net; internet = subst (InternetStands s.net m.internet) e is.internet };
-}
-made_by m s None e made is = absurd (true≢false (sym made ∙ same_made s.net m.internet s.past is.internet ∙ ap is_some e))
+made_by m s past e made is = grind arith
 
 pub was_made : (m : InternetMachine) (s : Standing) → is_some m.internet ≡ true → IsStanding m s → Makes m s
 was_made m s made is = made_by m s s.past refl made is
 
-none_past : (net : Internet) (internet : Option Moment) (past : Option Queued) → is_some internet ≡ false → InternetStands net internet past → past ≡ None
-none_past net None None none s = refl
-none_past net (Some m) past none s = absurd (true≢false none)
-none_past net None (Some q) none s = absurd s
-
 -- where nothing was made yet, what happened is what the making leaves
 pub past_made : (m : InternetMachine) (s : Standing) → is_some m.internet ≡ false → IsStanding m s → past_of s ≡ internet_made m.net
-past_made m s none is =
-    let no = none_past s.net m.internet s.past none is.internet in
-    rw no (ap internet_made (sym is.net))
+past_made m s none is = grind arith
 
 pub now_made : (m n : InternetMachine) (s : Standing) (made : Moment) → is_some m.internet ≡ false → IsStanding m s → n.net ≡ m.net → n.internet ≡ Some made
     → internet_made m.net ≡ Ok (untouched m.net) → net_at made ≡ m.net → StandsFor most_routes most_services made (untouched m.net) → Makes n s
-now_made m n s made none is same internet makes net stands = record {
-  past = untouched m.net;
-  is = past_made m s none is ∙ makes;
-  stands = record {
-    net = same ∙ is.net;
-    internet = subst (λ (x : Option Moment). InternetStands s.net x (Some (untouched m.net))) (sym internet) (net ∙ is.net, stands);
-  };
-}
+now_made m n s made none is same internet makes net stands = grind (arith, past_made)
 
 pub not_made : (m : InternetMachine) (s : Standing) (halt : Halt) → is_some m.internet ≡ false → IsStanding m s → Stops (internet_made m.net) halt → Stops (past_of s) halt
 not_made m s halt none is stops = subst (λ r. Stops r halt) (sym (past_made m s none is)) stops
@@ -277,10 +194,7 @@ ordered_leads m p old now net q r from to before after internet is same new ther
 -- what it names isn't there
 pub order_wrong : (m : InternetMachine) (old : Moment) (net : Internet) (q : Queued) (r : OrderMeaning) (o : Output) (text : List ℕ) (fault : LineFault) → m.internet ≡ Some old
     → IsStanding m (record { net = net; past = Some q }) → order_fault (net_at old) r ≡ Some fault → Halted (obeys net q r) o o text text (Line fault)
-order_wrong m old net q r o text fault internet is wrong =
-    let was : InternetStands net (Some old) (Some q) = subst (λ (x : Option Moment). InternetStands net x (Some q)) internet is.internet in
-    let here : order_fault net r ≡ Some fault = subst (λ (n : Internet). order_fault n r ≡ Some fault) was.0 wrong in
-    (rw (here, obeys) refl, refl, refl)
+order_wrong m old net q r o text fault internet is wrong = grind arith
 
 -- the same of an order whose bytes lie in a buffer
 pub obey_leads : (m p : InternetMachine) (old now : Moment) (o : Order) (bytes : List ℕ) (from to : Output) (before after : List ℕ) → m.internet ≡ Some old → bytes ≡ m.buffer
@@ -288,9 +202,7 @@ pub obey_leads : (m p : InternetMachine) (old now : Moment) (o : Order) (bytes :
     → ((q : Queued) → StandsFor most_routes most_services old q → StandsFor most_routes most_services now (ordered (net_at old) q (order_says bytes o)))
     → ((q : Queued) → StandsFor most_routes most_services old q → Added from to before after (order_text (net_at old) q (order_says bytes o)))
     → (net : Internet) (q : Queued) → IsStanding m (record { net = net; past = Some q }) → Leads p (obeys net q (order_says m.buffer o)) from to before after
-obey_leads m p old now o bytes from to before after internet same net new there kept stands says = λ of q is.
-    subst (λ (b : List ℕ). Leads p (obeys of q (order_says b o)) from to before after) same
-    (ordered_leads m p old now of q (order_says bytes o) from to before after internet is net new (there bytes) kept stands says)
+obey_leads m p old now o bytes from to before after internet same net new there kept stands says = grind arith
 
 -- ---- how far the script has come
 

@@ -1,5 +1,5 @@
 -- A run of `decode` between two records.
-use Rattle.std.proofs.Common.{◌≡◌, ℕ, ◌+◌, ◌-◌, ◌*◌, ◌<◌, ◌≤◌, false, List, [], ◌∷◌, ◌++◌, length, refl, sym, ap, subst, ◌∙◌, arith, Some, Ok, append_assoc, length-append, length-drop}
+use Rattle.std.proofs.Common.{◌≡◌, ℕ, ◌+◌, ◌-◌, ◌*◌, ◌<◌, ◌≤◌, false, List, [], ◌∷◌, ◌++◌, length, refl, sym, ap, subst, ◌∙◌, arith, Some, Ok, append_assoc, length-append, length-drop, rules}
 use Rattle.std.proofs.KnownBytes.{Appends-nil, Appends-trans, Consumes-nil, Consumes-trans}
 use Rattle.std.proofs.lemmas.List.{flat_map_more}
 use Rattle.std.specs.Io.KnownBytes.{Appends, Consumes}
@@ -78,11 +78,7 @@ pub record Next (p q : Place) (more : List ℕ) (r : Record) : Type 0 where
   pub size : length q.ahead + 16 + length r.bytes ≡ length p.ahead + length more
 
 pub next_of : {p q : Place} {r : Record} (t : Takes p q (Ok (Some r))) → Next p q t.more r
-next_of {p = p} {r = r} t = record {
-  is = t.gives.0;
-  number = ap (λ (s : Record). s.number) (whole_first p.order (p.taken + 1) (p.ahead ++ t.more) r t.gives.0).is;
-  size = omega (arith, first_size p.order (p.taken + 1) (p.ahead ++ t.more) r t.gives.0, ap length t.gives.1, length-drop (16 + length r.bytes) (p.ahead ++ t.more), length-append p.ahead t.more);
-}
+next_of {p = p} {r = r} t = search (rules, whole_first, first_size, length-drop, length-append)
 
 -- a record was taken, and its text put behind the text that is left
 pub midway_took : {p q s : Place} {from to : Output} {text left : List ℕ} {shown : ℕ} {r : Record} → Midway p q from to text shown → Takes q s (Ok (Some r))
@@ -115,6 +111,4 @@ midway_took {p = p} {q = q} {s = s} {text = text} {r = r} m t said =
 -- and less is to come: each call of the reader brings a bounded number of bytes, and a record takes some away
 pub shrinks : {p q s : Place} {from to : Output} {text : List ℕ} {shown : ℕ} {r : Record} → Midway p q from to text shown → Takes q s (Ok (Some r))
     → 262160 * (16777216 - s.input.calls) + length s.ahead < 262160 * (16777216 - q.input.calls) + length q.ahead
-shrinks m t =
-    let next = next_of t in
-    omega (arith, next.size, t.gained.few, t.gained.bounded m.bounded, m.bounded)
+shrinks m t = grind (arith, next_of)

@@ -1,5 +1,5 @@
 -- How a run of `decode` ends, from where it stood.
-use Rattle.std.proofs.Common.{◌≡◌, ◌⊎◌, ℕ, suc, ◌+◌, true, List, [], ◌++◌, length, take, drop, refl, sym, ap, subst, ◌∙◌, inl, inr, arith, Option, Some, None, Result, Ok, Err, IfOk, IfErr, OnErr, append_assoc, append-nil, length-append, drop_at}
+use Rattle.std.proofs.Common.{◌≡◌, ◌⊎◌, ℕ, suc, ◌+◌, true, List, [], ◌++◌, length, take, drop, refl, sym, ap, subst, ◌∙◌, inl, inr, arith, Option, Some, None, Result, Ok, Err, IfOk, IfErr, OnErr, append_assoc, append-nil, length-append, drop_at, rules}
 use Rattle.std.proofs.KnownBytes.{Appends-nil, Appends-trans, Consumes-trans}
 use Rattle.std.proofs.lemmas.Grind.{flat_map-append}
 use Rattle.std.proofs.lemmas.List.{take-append-drop}
@@ -10,7 +10,7 @@ use Rattle.ipx_wire.specs.declared.failed.Failed.{Failed}
 use Rattle.ipx_capture.specs.Calls.{ending}
 use Rattle.ipx_capture.specs.Given.{UnopenedBy}
 use Rattle.ipx_capture.specs.Header.{header_of}
-use Rattle.ipx_capture.specs.Place.{Place, Opened, Unopened, Takes, Nexts, Continues, told}
+use Rattle.ipx_capture.specs.Place.{Place, Opened, Unopened, Takes, Nexts, told}
 use Rattle.ipx_capture.specs.Records.{Record, Contents, records, records_from, behind_header, first_record}
 use Rattle.ipx_capture.specs.declared.capture.Captured.{Captured}
 use Rattle.ipx_capture.specs.declared.capture_fault.CaptureFault.{CaptureFault}
@@ -32,8 +32,7 @@ use Rattle.ipx_cmd.proofs.captures.RecordsInFront.{Rows, rows_append, rows_end, 
 
 -- an open capture takes what its call tells
 pub takes_of : (p q : Place) (a b : Result (Option Captured) CaptureFault) → p.standing ≡ Open → Nexts p q (told a) → a ≡ b → Takes p q (told b)
-takes_of p q a b goes_on h e =
-    subst (λ s. Continues s p q (told b)) goes_on (subst (λ (r : Result (Option Captured) CaptureFault). Nexts p q (told r)) e h)
+takes_of p q a b goes_on h e = grind arith
 
 -- texts by the records of the bytes
 pub shown_by : (bytes : List ℕ) (c : Contents) → records bytes ≡ c → shown bytes ≡ contents_text c c.fault
@@ -83,10 +82,7 @@ front_of whole gone text k e = record {
 }
 
 front_more : (text whole more longer : List ℕ) → IsFront text whole → longer ≡ whole ++ more → IsFront text longer
-front_more text whole more longer front e = record {
-  rest = front.rest ++ more;
-  is = e ∙ ap (λ (x : List ℕ). x ++ more) front.is ∙ append_assoc text front.rest more;
-}
+front_more text whole more longer front e = grind (arith, append_assoc)
 
 -- nothing was written
 pub wrote_none : (o to : Output) (text : List ℕ) → to ≡ o → WroteFront o to text
@@ -107,13 +103,7 @@ pub record Ends (before new : Input) (from o : Output) (text line : List ℕ) (f
 ends_ok : {before new : Input} {from o to : Output} {text : List ℕ} (n : ℕ) {fault : CaptureFault} {ended : Ended}
     → Ends before new from o text (capture_fault_text n fault) fault → IsAtEnd new.left ⊎ (settled (Some fault) ≡ Some fault)
     → ended ≡ BadInput → WroteAll o to (text ++ capture_fault_text n fault) → Decoded before new from to ended
-ends_ok {from = from} {o = o} {to = to} {text = text} n {fault = fault} e enough answer w = record {
-  bytes = e.bytes;
-  read = e.read;
-  wrote = subst (Appends from.written to.written) (sym e.shown_is) (Appends-trans from.written o.written to.written e.gone (text ++ capture_fault_text n fault) e.wrote w.written);
-  answer = answer ∙ sym e.end_is;
-  enough = elim enough [ inl end ↦ inl end | inr settles ↦ inr (e.judged_is settles) ];
-}
+ends_ok {from = from} {o = o} {to = to} {text = text} n {fault = fault} e enough answer w = grind (arith, Appends-trans)
 
 -- or a prefix of it
 ends_err : {before new : Input} {from o to : Output} {text : List ℕ} (n : ℕ) {fault : CaptureFault}
@@ -136,9 +126,7 @@ ends_err {from = from} {o = o} {to = to} {text = text} n {fault = fault} e enoug
 module _ {before : Input} {p q : Place} {from o : Output} {text : List ℕ} {n : ℕ} (opened : Opened before p) (m : Midway p q from o text n) where
   -- bytes that were read on since
   read_on : (new : Input) (more : List ℕ) → Consumes q.input.left new.left more → Consumes before.left new.left (opened.begun.header ++ (m.more ++ more))
-  read_on new more h =
-      Consumes-trans before.left p.input.left new.left opened.begun.header (m.more ++ more) opened.begun.read
-      (Consumes-trans p.input.left q.input.left new.left m.more more m.read h)
+  read_on new more h = grind (arith, Consumes-trans)
 
   -- the run was given up with bytes read on, and a prefix of the text left was written
   pub cut : {to : Output} (new : Input) (more : List ℕ) → Consumes q.input.left new.left more → WroteFront o to text → CutOff before new from to
@@ -219,12 +207,10 @@ module _ {before : Input} {p q : Place} {from o : Output} {text : List ℕ} {n :
 
   -- the two faults that a call tells of a file
   found_long : (s : Place) → Takes q s (Err RecordLong) → Found s RecordLong
-  found_long s t =
-      record { more = t.more; read = t.read; is = t.gives.0; enough = inr refl; line = ap (λ (k : ℕ). capture_fault_text (k + 1) RecordLong) (sym m.numbered) }
+  found_long s t = grind arith
 
   found_cut : (s : Place) → Takes q s (Err CutRecord) → Found s CutRecord
-  found_cut s t =
-      record { more = t.more; read = t.read; is = t.gives.0; enough = inl t.gives.1; line = ap (λ (k : ℕ). capture_fault_text (k + 1) CutRecord) (sym m.numbered) }
+  found_cut s t = grind arith
 
   -- what a run ends with at a fault that a call told
   pub fault_ok : {s : Place} (to : Output) (fault : CaptureFault) (r : Result Ended RunFault) → Takes q s (Err fault) → Refuses fault (n + 1) o to text r
@@ -251,16 +237,13 @@ module _ {before : Input} {p q : Place} {from o : Output} {text : List ℕ} {n :
 
 -- what holds anyway holds of an error
 pub on_err_always : {T E P : Type 0} (r : Result T E) → P → OnErr r P
-on_err_always (Ok x) p = tt
-on_err_always (Err e) p = p
+on_err_always r p = grind arith
 
 pub if_ok_all : {T E : Type 0} {A : Type 0} {B : A → Type 0} (P : A → T → Type 0) (r : Result T E) → ((a : A) → B a → IfOk r (P a)) → IfOk r (λ x. (a : A) → B a → P a x)
-if_ok_all P (Ok x) h = h
-if_ok_all P (Err e) h = tt
+if_ok_all P r h = grind arith
 
 pub on_err_all : {T E : Type 0} {A : Type 0} {B : A → Type 0} (P : A → Type 0) (r : Result T E) → ((a : A) → B a → OnErr r (P a)) → OnErr r ((a : A) → B a → P a)
-on_err_all P (Ok x) h = tt
-on_err_all P (Err e) h = h
+on_err_all P r h = grind arith
 
 -- a file whose header was refused
 header_records : (bytes : List ℕ) (fault : CaptureFault) → header_of bytes ≡ Err fault → records bytes ≡ record { records = []; fault = Some fault }
@@ -285,23 +268,12 @@ header_ends before new from bytes fault read e line =
 header_found : (before new : Input) (from to : Output) (bytes : List ℕ) (fault : CaptureFault) (r : Result Ended RunFault) → Consumes before.left new.left bytes → header_of bytes ≡ Err fault
     → IsAtEnd new.left ⊎ (settled (Some fault) ≡ Some fault) → ending_text 0 (Some fault) ≡ capture_fault_text 0 fault → Tells 0 fault from to [] r
     → IfOk r (Decoded before new from to) × OnErr r (CutOff before new from to)
-header_found before new from to bytes fault (Ok ended) read e enough line w =
-    (ends_ok 0 (header_ends before new from bytes fault read e line) enough w.0 w.1, tt)
-header_found before new from to bytes fault (Err why) read e enough line w =
-    (tt, ends_err 0 (header_ends before new from bytes fault read e line) enough w.0)
+header_found before new from to bytes fault (Ok ended) read e enough line w = search (rules, ends_ok, header_ends)
+header_found before new from to bytes fault (Err why) read e enough line w = search (rules, ends_err, header_ends)
 
 header_lost : (before new : Input) (from to : Output) (bytes : List ℕ) (r : Result Ended RunFault) (why : RunFault) → Consumes before.left new.left bytes → r ≡ Err why → to ≡ from
     → IfOk r (Decoded before new from to) × OnErr r (CutOff before new from to)
-header_lost before new from to bytes r why read e same = subst (λ (x : Result Ended RunFault). IfOk x (Decoded before new from to) × OnErr x (CutOff before new from to)) (sym e) (
-  tt,
-  record {
-    bytes = bytes;
-    text = [];
-    read = read;
-    wrote = subst (λ (x : Output). Appends from.written x.written []) (sym same) (Appends-nil from.written);
-    front = inl (record { rest = sofar bytes; is = refl });
-  },
-)
+header_lost before new from to bytes r why read e same = grind (arith, Appends-nil)
 
 -- what a run ends with where the header is refused
 header_told : (before new : Input) (from to : Output) (fault : CaptureFault) (r : Result Ended RunFault) → Unopened before new fault → Refuses fault 0 from to [] r
@@ -322,5 +294,4 @@ header_exit before new from to text fault r none u w = header_told before new fr
 -- the header that was refused
 pub unopened_at : {T : Type 0} (asked : ℕ → List ℕ → Result ℕ Failed → ℕ → Type 0) (before new : Input) (fault : CaptureFault) (r : Result T CaptureFault)
     → OnErr r (IfErr r (UnopenedBy asked before new)) → r ≡ Err fault → Unopened before new fault
-unopened_at {T = T} asked before new fault r h e =
-    let by : UnopenedBy asked before new fault = subst (λ (x : Result T CaptureFault). OnErr x (IfErr x (UnopenedBy asked before new))) e h in by.unopened
+unopened_at {T = T} asked before new fault r h e = grind arith

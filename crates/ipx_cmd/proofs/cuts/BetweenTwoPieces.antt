@@ -55,8 +55,7 @@ fewer input after buffer count gave calls = omega (arith, gave.asked, calls)
 -- some of a text was written behind what was said
 front_written : (from o to : Output) (text said further : List ℕ) → text ≡ [] → Appends from.written o.written said → (f : WroteFront o to (text ++ further))
     → Appends from.written to.written (said ++ take f.count further)
-front_written from o to text said further none wrote f =
-    Appends-trans from.written o.written to.written said (take f.count further) wrote (subst (λ (t : List ℕ). Appends o.written to.written (take f.count (t ++ further))) none f.written)
+front_written from o to text said further none wrote f = grind (arith, Appends-trans)
 
 front_taken : (whole said further : List ℕ) (n : ℕ) → IsFront (said ++ further) whole → IsFront (said ++ take n further) whole
 front_taken whole said further n front = record {
@@ -78,7 +77,6 @@ module _ {S : Type 0} {acts : Step S} {stands : S → Type 0} {state : S} {scrip
 
 module _ {M S : Type 0} {acts : Step S} {stands : M → S → Type 0} {start now : M} {number : ℕ} {pending : List ℕ} {before input : Input} {from o : Output} {text : List ℕ}
     (m : MidScript acts stands start now number pending before input from o text) where
-
   -- what stands now is known
   pub known_now : (state : S) × stands now state
   known_now = let w = m.went m.known.0 m.known.1 in (w.after, w.now)
@@ -96,15 +94,7 @@ module _ {M S : Type 0} {acts : Step S} {stands : M → S → Type 0} {start now
         }
 
     pub given_up_at_read : GivenUp acts state before after from o
-    given_up_at_read =
-        let p = so_far in
-        record {
-          script = p.script;
-          text = (of_front acts state p.script).text;
-          read = p.read;
-          wrote = p.wrote;
-          front = inl (record { rest = []; is = sym (append-nil (of_front acts state p.script).text) });
-        }
+    given_up_at_read = grind (arith, so_far, append-nil)
 
   -- the reader gave a piece, or is at its end
   module _ {after : Input} {buffer : List ℕ} {count : ℕ} (gave : Gave input after buffer count) where
@@ -119,17 +109,7 @@ module _ {M S : Type 0} {acts : Step S} {stands : M → S → Type 0} {start now
         → ((state : S) → stands now state → Went acts (stands new) state number (pending ++ take count buffer) o to text further later left)
         → IsPending left → further ≡ [] → to.failed ≡ false → later ≤ number + length (take count buffer)
         → MidScript acts stands start new later left before after from to further
-    script_more {new = new} {to = to} {further = further} {later = later} {left = left} room calls went line none fine few = record {
-      script = m.script ++ take count buffer;
-      read = read_on;
-      went = λ state at. went_went (m.went state at) (take count buffer) went;
-      known = m.known;
-      line = line;
-      none = none;
-      fine_in = still_fine;
-      fine_out = fine;
-      few = omega (arith, m.few, few, gave.asked, gave.bound, room, calls, length-take count buffer);
-    }
+    script_more {new = new} {to = to} {further = further} {later = later} {left = left} room calls went line none fine few = grind (arith, read_on, went_went, still_fine, length-take)
 
     -- a line of a piece is wrong
     pub played_bad : {to : Output} → ((state : S) → stands now state → EndedAll acts state number (pending ++ take count buffer) o to text)
@@ -179,8 +159,7 @@ module _ {M S : Type 0} {acts : Step S} {stands : M → S → Type 0} {start now
 
     module _ (zero : count ≡ 0) (room : 0 < length buffer) where
       end_read : Consumes before.left after.left m.script
-      end_read = subst (Consumes before.left after.left) (append-nil m.script) (Consumes-trans before.left input.left after.left m.script [] m.read
-          (subst (λ (n : ℕ). Consumes input.left after.left (take n buffer)) zero gave.bytes))
+      end_read = grind arith
 
       pub played_end : {to : Output} {ended : Ended} → ((state : S) → stands now state → Completed acts state number pending o to text ended)
           → (state : S) → stands start state → Played acts state before after from to ended

@@ -1,5 +1,5 @@
 -- Bytes behind those of a script.
-use Rattle.std.proofs.Common.{◌≡◌, ◌⊎◌, ℕ, ◌+◌, true, List, [], ◌∷◌, ◌++◌, length, refl, sym, ap, ◌∙◌, subst, inl, inr, Result, Ok, Err, append_assoc, append-nil}
+use Rattle.std.proofs.Common.{◌≡◌, ◌⊎◌, ℕ, ◌+◌, true, List, [], ◌∷◌, ◌++◌, length, refl, sym, ap, ◌∙◌, subst, inl, inr, Result, Ok, Err, append_assoc, append-nil, arith}
 use Rattle.std.proofs.lemmas.Bool.{cases_Bool, cases_lt, eqb-true, lt-ltb}
 use Rattle.std.proofs.lemmas.List.Elements.{All-nil, All-cons, All-append}
 use Rattle.ipx_cmd.specs.Decoded.{IsFront}
@@ -143,6 +143,4 @@ continues_text acts state bytes more bad = ap (λ (t : Transcript). t.text) (con
 
 pub continues_end : {S : Type 0} (acts : Step S) (state : S) (bytes more : List ℕ) → is_bad (of_front acts state bytes).ended ≡ true
     → (of_script acts state (bytes ++ more)).ended ≡ BadInput
-continues_end acts state bytes more bad =
-    let whole = continues_whole acts state bytes more bad in
-    ap (λ (t : Transcript). t.ended) whole.0 ∙ whole.1
+continues_end acts state bytes more bad = grind (arith, continues_whole)

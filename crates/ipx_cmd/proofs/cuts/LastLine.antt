@@ -1,48 +1,35 @@
 -- The last line of a script, which no line feed ends.
-use Rattle.std.proofs.Common.{if◌then◌else◌, IfErr, OnOk, ◌≡◌, ℕ, ◌<◌, true, false, List, [], ◌∷◌, length, refl, sym, ap, ◌∙◌, subst, arith, Result, Ok, Err, append-nil}
+use Rattle.std.proofs.Common.{◌≡◌, ℕ, ◌<◌, true, false, List, [], length, refl, ap, arith, Result, Ok, Err, append-nil}
 use Rattle.ipx_wire.specs.Ends.{Output}
-use Rattle.ipx_cmd.specs.inside.Acted.{Acted, Added, Halted, said_by}
+use Rattle.ipx_cmd.specs.inside.Acted.{Acted, Halted, said_by}
 use Rattle.ipx_cmd.specs.Decoded.{IsFront}
 use Rattle.ipx_cmd.specs.inside.Leads.{IsPending}
 use Rattle.ipx_cmd.specs.Lines.{is_any, without_return}
-use Rattle.ipx_cmd.specs.Playing.{Step, Transcript, all_good, by_lines, goes_on, transcript}
+use Rattle.ipx_cmd.specs.Playing.{Step, Transcript, all_good, by_lines, goes_on}
 use Rattle.ipx_cmd.specs.inside.Stretch.{Finished, FinishedOff}
-use Rattle.ipx_cmd.specs.declared.ended.Ended.TheVariants.{Done}
 use Rattle.ipx_cmd.specs.declared.lines.fault.LineFault.{LineFault}
 use Rattle.ipx_cmd.specs.declared.lines.halt.Halt.{Halt}
 use Rattle.ipx_cmd.specs.declared.lines.halt.Halt.TheVariants.{Line, Run}
 use Rattle.ipx_cmd.proofs.cuts.LinesOfBytes.{at_last}
-use Rattle.ipx_cmd.proofs.cuts.LedToByBytes.{line_is, none_pending}
+use Rattle.ipx_cmd.proofs.cuts.LedToByBytes.{line_is}
 use Rattle.ipx_cmd.proofs.cuts.StretchBehindStretch.{added_none}
 
 -- nothing is left
 pub finished_none : {S : Type 0} (acts : Step S) (state : S) (number : ℕ) (line : List ℕ) (o : Output) (text : List ℕ) → line ≡ [] → o.failed ≡ false
     → Finished acts state number line o o text text
-finished_none acts state number line o text none fine = record {
-  said = [];
-  is = ap (λ (x : List ℕ). by_lines acts is_any state number x) none ∙ at_last acts is_any state number [] none_pending.one;
-  added = added_none o text fine;
-}
+finished_none acts state number line o text none fine = grind (arith, at_last, added_none)
 
 any_of : (line : List ℕ) → 0 < length line → is_any line ≡ true
-any_of [] some = absurd (omega (arith, some))
-any_of (byte ∷ line) some = refl
+any_of line some = grind arith
 
 -- what a line does is all that is left to say
 last_is : {S : Type 0} (acts : Step S) (state : S) (number : ℕ) (line : List ℕ) (does : Result (S × List ℕ) LineFault) → IsPending line → 0 < length line
     → acts state (without_return line) ≡ does → by_lines acts is_any state number line ≡ goes_on number does (λ after. all_good)
-last_is acts state number line does p some is =
-    at_last acts is_any state number line p.one
-    ∙ ap (λ b. transcript acts state number (if b then line ∷ [] else [])) (any_of line some)
-    ∙ ap (λ d. goes_on number d (λ after. all_good)) (line_is acts state line p.short ∙ is)
+last_is acts state number line does p some is = grind (arith, at_last, any_of, line_is)
 
 pub finished_line : {S : Type 0} {acts : Step S} {stands : S → Type 0} {state : S} (number : ℕ) {line : List ℕ} {from to : Output} {old new : List ℕ} → IsPending line → 0 < length line
     → Acted acts stands state (without_return line) from to old new → Finished acts state number line from to old new
-finished_line {acts = acts} {state = state} number {line = line} p some a = record {
-  said = a.said;
-  is = last_is acts state number line (Ok (a.after, a.said)) p some a.does ∙ ap (λ (t : List ℕ). record { text = t; ended = Done }) (append-nil a.said);
-  added = a.added;
-}
+finished_line {acts = acts} {state = state} number {line = line} p some a = grind (arith, last_is, append-nil)
 
 front_by : {S : Type 0} (acts : Step S) (state : S) (number : ℕ) (line : List ℕ) → IsPending line → 0 < length line → (does : Result (S × List ℕ) LineFault)
     → acts state (without_return line) ≡ does → IsFront (said_by does) (by_lines acts is_any state number line).text
@@ -51,14 +38,5 @@ front_by acts state number line p some (Err fault) is = record { rest = (by_line
 
 pub off_last : {S : Type 0} (acts : Step S) (state : S) (number : ℕ) (line : List ℕ) (from to : Output) (old new : List ℕ) (halt : Halt) → from.failed ≡ false → IsPending line → 0 < length line
     → Halted (acts state (without_return line)) from to old new halt → FinishedOff acts state number line from to old new halt
-off_last acts state number line from to old new (Line fault) fine p some h = record {
-  said = [];
-  is = last_is acts state number line (Err fault) p some h.0;
-  added = subst (λ (o : Output). Added from o old new []) (sym h.1) (subst (λ (t : List ℕ). Added from from old t []) (sym h.2) (added_none from old fine));
-}
-off_last acts state number line from to old new (Run why) fine p some h = record {
-  said = said_by (acts state (without_return line));
-  front = front_by acts state number line p some (acts state (without_return line)) refl;
-  wrote = h.0;
-  fault = h.1;
-}
+off_last acts state number line from to old new (Line fault) fine p some h = grind (arith, last_is, added_none)
+off_last acts state number line from to old new (Run why) fine p some h = grind (arith, front_by)

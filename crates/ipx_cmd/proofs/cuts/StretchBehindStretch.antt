@@ -1,5 +1,5 @@
 -- One stretch of a script's bytes behind another, and what is written on the way.
-use Rattle.std.proofs.Common.{OnOk, IfErr, ◌≡◌, ℕ, suc, ◌+◌, false, List, [], ◌∷◌, ◌++◌, length, take, refl, sym, ap, ◌∙◌, subst, arith, Result, Ok, Err, append_assoc, append-nil}
+use Rattle.std.proofs.Common.{◌≡◌, ℕ, suc, ◌+◌, false, List, [], ◌∷◌, ◌++◌, length, take, refl, sym, ap, ◌∙◌, subst, arith, Result, Ok, Err, append_assoc, append-nil, rules}
 use Rattle.std.proofs.KnownBytes.{Appends-nil, Appends-trans}
 use Rattle.std.specs.Io.KnownBytes.{Appends}
 use Rattle.ipx_wire.specs.Ends.{Output}
@@ -24,13 +24,7 @@ pub added_none : (o : Output) (text : List ℕ) → o.failed ≡ false → Added
 added_none o text fine = record { gone = []; written = Appends-nil o.written; all = append-nil text; fine = fine }
 
 pub added_added : (from o to : Output) (old mid new said further : List ℕ) → Added from o old mid said → Added o to mid new further → Added from to old new (said ++ further)
-added_added from o to old mid new said further one two = record {
-  gone = one.gone ++ two.gone;
-  written = Appends-trans from.written o.written to.written one.gone two.gone one.written two.written;
-  all = sym (append_assoc old said further) ∙ ap (λ t. t ++ further) one.all ∙ append_assoc one.gone mid further
-      ∙ ap (λ (t : List ℕ). one.gone ++ t) two.all ∙ sym (append_assoc one.gone two.gone new);
-  fine = two.fine;
-}
+added_added from o to old mid new said further one two = grind (arith, Appends-trans, append_assoc)
 
 pub added_front : (from o to : Output) (old mid said further : List ℕ) → Added from o old mid said → WroteFront o to (mid ++ further) → WroteFront from to (old ++ (said ++ further))
 added_front from o to old mid said further one w = record {
@@ -44,13 +38,7 @@ added_front from o to old mid said further one w = record {
 -- a line acted
 pub went_line : {S : Type 0} {acts : Step S} {stands : S → Type 0} {state : S} (number : ℕ) {line : List ℕ} {from to : Output} {old new : List ℕ} → IsPending line
     → Acted acts stands state (without_return line) from to old new → Went acts stands state number (line ++ line_feed ∷ []) from to old new (number + 1) []
-went_line {acts = acts} {state = state} number {line = line} p a = record {
-  after = a.after;
-  said = a.said;
-  leads = leads_line acts state a.after number line a.said p a.does;
-  now = a.now;
-  added = a.added;
-}
+went_line {acts = acts} {state = state} number {line = line} p a = search (rules, leads_line)
 
 -- or did not
 begins_by : {S : Type 0} (acts : Step S) (state : S) (number : ℕ) (line : List ℕ) → IsPending line → (does : Result (S × List ℕ) LineFault)
@@ -60,17 +48,7 @@ begins_by acts state number line p (Err fault) is = record { is = λ counts take
 
 pub off_line : {S : Type 0} (acts : Step S) (state : S) (number : ℕ) (line : List ℕ) (from to : Output) (old new : List ℕ) (halt : Halt) → from.failed ≡ false → IsPending line
     → Halted (acts state (without_return line)) from to old new halt → WentOff acts state number (line ++ line_feed ∷ []) from to old new number halt
-off_line acts state number line from to old new (Line fault) fine p h = record {
-  said = [];
-  ends = ends_line acts state number line fault p h.0;
-  added = subst (λ (o : Output). Added from o old new []) (sym h.1) (subst (λ (t : List ℕ). Added from from old t []) (sym h.2) (added_none from old fine));
-}
-off_line acts state number line from to old new (Run why) fine p h = record {
-  said = said_by (acts state (without_return line));
-  begins = begins_by acts state number line p (acts state (without_return line)) refl;
-  wrote = h.0;
-  fault = h.1;
-}
+off_line acts state number line from to old new halt fine p h = grind (arith, ends_line, added_none, begins_by)
 
 -- a stretch behind another
 module _ {S : Type 0} {acts : Step S} {stood : S → Type 0} {state : S} {number second : ℕ} {bytes pending : List ℕ} {from o : Output} {old mid : List ℕ}
@@ -108,10 +86,4 @@ module _ {S : Type 0} {acts : Step S} {stood : S → Type 0} {state : S} {number
 -- a line that isn't at its end yet
 pub went_none : {S : Type 0} (acts : Step S) (stands : S → Type 0) (state : S) (number : ℕ) (pending : List ℕ) (o : Output) (text : List ℕ) → o.failed ≡ false → IsPending pending
     → stands state → Went acts stands state number pending o o text text number pending
-went_none acts stands state number pending o text fine p now = record {
-  after = state;
-  said = [];
-  leads = leads_none acts state number pending p;
-  now = now;
-  added = added_none o text fine;
-}
+went_none acts stands state number pending o text fine p now = grind (arith, leads_none, added_none)

@@ -1,12 +1,12 @@
 -- A piece of a script, and its end, with all their text written.
-use Rattle.std.proofs.Common.{IfErr, IfOk, OnOk, ◌≡◌, ℕ, false, List, [], ◌++◌, sym, ap, ◌∙◌, subst, Result, Ok, Err, append_assoc, append-nil}
+use Rattle.std.proofs.lemmas.Grind.{common_steps}
+use Rattle.std.proofs.Common.{IfErr, IfOk, OnOk, ◌≡◌, ℕ, false, List, [], ◌++◌, sym, ap, ◌∙◌, subst, Result, Ok, Err, append_assoc, append-nil, arith}
 use Rattle.std.proofs.KnownBytes.{Appends-trans}
-use Rattle.std.specs.Io.KnownBytes.{Appends}
 use Rattle.ipx_wire.specs.Ends.{Output}
 use Rattle.ipx_cmd.specs.inside.Acted.{Added, StaysFine}
 use Rattle.ipx_cmd.specs.inside.Leads.{Begins, Ends, Leads}
 use Rattle.ipx_cmd.specs.Output.{fault_text}
-use Rattle.ipx_cmd.specs.Playing.{Step, Transcript, by_lines}
+use Rattle.ipx_cmd.specs.Playing.{Step, Transcript}
 use Rattle.ipx_cmd.specs.inside.Stretch.{Answered, Completed, Finished, FinishedOff, GaveUp, Passed, Unfinished, Went, WentOff}
 use Rattle.ipx_cmd.specs.WroteFront.{WroteAll, WroteFront}
 use Rattle.ipx_cmd.specs.declared.ended.Ended.{Ended}
@@ -18,26 +18,13 @@ use Rattle.ipx_cmd.proofs.cuts.StretchBehindStretch.{added_front}
 
 -- no text waits any more
 added_all : (from o to : Output) (old mid said : List ℕ) → Added from o old mid said → WroteAll o to mid → Added from to old [] said
-added_all from o to old mid said one w = record {
-  gone = one.gone ++ mid;
-  written = Appends-trans from.written o.written to.written one.gone mid one.written w.written;
-  all = one.all ∙ sym (append-nil (one.gone ++ mid));
-  fine = w.fine ∙ one.fine;
-}
+added_all from o to old mid said one w = grind (arith, Appends-trans, append-nil)
 
 wrote_all : (from o to : Output) (old mid said further : List ℕ) → from.failed ≡ false → Added from o old mid said → WroteAll o to (mid ++ further) → WroteAll from to (old ++ (said ++ further))
-wrote_all from o to old mid said further fine one w = record {
-  written = subst (Appends from.written to.written)
-      (sym (append_assoc one.gone mid further) ∙ ap (λ t. t ++ further) (sym one.all) ∙ append_assoc old said further)
-      (Appends-trans from.written o.written to.written one.gone (mid ++ further) one.written w.written);
-  fine = w.fine ∙ one.fine ∙ sym fine;
-}
+wrote_all from o to old mid said further fine one w = grind (arith, append_assoc, Appends-trans)
 
 wrote_whole : (from o to : Output) (old mid said : List ℕ) → from.failed ≡ false → Added from o old mid said → WroteAll o to mid → WroteAll from to (old ++ said)
-wrote_whole from o to old mid said fine one w = record {
-  written = subst (Appends from.written to.written) (sym one.all) (Appends-trans from.written o.written to.written one.gone mid one.written w.written);
-  fine = w.fine ∙ one.fine ∙ sym fine;
-}
+wrote_whole from o to old mid said fine one w = grind (arith, Appends-trans)
 
 wrote_front : (from o to : Output) (old mid said : List ℕ) → Added from o old mid said → WroteFront o to mid → WroteFront from to (old ++ said)
 wrote_front from o to old mid said one w = subst (λ (t : List ℕ). WroteFront from to (old ++ t)) (append-nil said)
@@ -45,49 +32,28 @@ wrote_front from o to old mid said one w = subst (λ (t : List ℕ). WroteFront 
 
 begins_leads : {S : Type 0} (acts : Step S) (state after : S) (number later : ℕ) (bytes said pending : List ℕ) → Leads acts state number bytes said after later pending
     → Begins acts state number bytes said
-begins_leads acts state after number later bytes said pending leads = record {
-  is = λ counts takes more. record {
-    rest = (by_lines acts counts after later (pending ++ more)).text;
-    is = ap (λ (t : Transcript). t.text) (leads.is counts takes more);
-  };
-}
+begins_leads acts state after number later bytes said pending leads = grind arith
 
 begins_ends : {S : Type 0} (acts : Step S) (state : S) (number : ℕ) (bytes said : List ℕ) → Ends acts state number bytes said → Begins acts state number bytes said
-begins_ends acts state number bytes said ends = record {
-  is = λ counts takes more. record { rest = []; is = ap (λ (t : Transcript). t.text) (ends.is counts takes more) ∙ sym (append-nil said) };
-}
+begins_ends acts state number bytes said ends = grind (arith, append-nil)
 
 -- the outlet is fine after lines that acted, and at one that is wrong
 pub fine_of : {M S : Type 0} (acts : Step S) (stands : M → S → Type 0) (before : M) (number : ℕ) (bytes : List ℕ) (from to : Output) (old new : List ℕ) (later : ℕ)
     (r : Result (Unit {0}) Halt) → (state : S) × stands before state → OnOk r (to.failed ≡ false)
     → IfErr r (λ halt. (state : S) → stands before state → WentOff acts state number bytes from to old new later halt) → StaysFine r to
-fine_of acts stands before number bytes from to old new later (Ok u) known fine off = fine
-fine_of acts stands before number bytes from to old new later (Err (Line fault)) known fine off = (off known.0 known.1).added.fine
-fine_of acts stands before number bytes from to old new later (Err (Run why)) known fine off = tt
+fine_of acts stands before number bytes from to old new later r known fine off = grind arith
 
 pub last_fine_of : {M S : Type 0} (acts : Step S) (stands : M → S → Type 0) (before : M) (number : ℕ) (bytes : List ℕ) (from to : Output) (old new : List ℕ)
     (r : Result (Unit {0}) Halt) → (state : S) × stands before state → OnOk r (to.failed ≡ false)
     → IfErr r (λ halt. (state : S) → stands before state → FinishedOff acts state number bytes from to old new halt) → StaysFine r to
-last_fine_of acts stands before number bytes from to old new (Ok u) known fine off = fine
-last_fine_of acts stands before number bytes from to old new (Err (Line fault)) known fine off = (off known.0 known.1).added.fine
-last_fine_of acts stands before number bytes from to old new (Err (Run why)) known fine off = tt
+last_fine_of acts stands before number bytes from to old new r known fine off = grind arith
 
 -- a piece
 module _ {M S : Type 0} (acts : Step S) (stands : M → S → Type 0) (before after : M) (number : ℕ) (bytes : List ℕ) (from o to : Output) (old mid new : List ℕ) (later : ℕ) (pending : List ℕ) where
   -- its text was written
   passed_done : (state : S) (ended : Ended) → Went acts (stands after) state number bytes from o old mid later pending → (ended ≡ Done) × WroteAll o to mid × (new ≡ [])
       → Passed acts (stands after) state number bytes from to old new later pending ended
-  passed_done state ended went w =
-      subst (Passed acts (stands after) state number bytes from to old new later pending) (sym w.0) (
-        record {
-          after = went.after;
-          said = went.said;
-          leads = went.leads;
-          now = went.now;
-          added = subst (λ (t : List ℕ). Added from to old t went.said) (sym w.2) (added_all from o to old mid went.said went.added w.1);
-        },
-        w.2,
-      )
+  passed_done state ended went w = grind (arith, added_all)
 
   pub passed_of : (r : Result (Unit {0}) Halt) (a : Result Ended RunFault) → from.failed ≡ false
       → OnOk r ((state : S) → stands before state → Went acts (stands after) state number bytes from o old mid later pending)
@@ -96,15 +62,8 @@ module _ {M S : Type 0} (acts : Step S) (stands : M → S → Type 0) (before af
       → IfOk a (λ ended. (state : S) → stands before state → Passed acts (stands after) state number bytes from to old new later pending ended)
   passed_of r (Err why) fine went off w = tt
   passed_of (Ok u) (Ok ended) fine went off w = λ state now. passed_done state ended (went state now) w
-  passed_of (Err (Line fault)) (Ok ended) fine went off w = λ state now.
-      let here = off state now in
-      subst (Passed acts (stands after) state number bytes from to old new later pending) (sym w.0) (record {
-        said = here.said ++ fault_text later fault;
-        ends = here.ends;
-        wrote = wrote_all from o to old mid here.said (fault_text later fault) fine here.added w.1;
-      })
-  passed_of (Err (Run why)) (Ok ended) fine went off w =
-      let e = w.0 in absurd cc
+  passed_of (Err (Line fault)) (Ok ended) fine went off w = grind (arith, common_steps, wrote_all)
+  passed_of (Err (Run why)) (Ok ended) fine went off w = grind arith
 
   pub gave_up_of : (r : Result (Unit {0}) Halt) (a : Result Ended RunFault)
       → OnOk r ((state : S) → stands before state → Went acts (stands after) state number bytes from o old mid later pending)

@@ -1,11 +1,9 @@
 -- Why the lines of a stretch did not act to the end.
 use Rattle.std.proofs.Common.{IfErr, OnOk, ◌≡◌, ℕ, ◌+◌, ◌≤◌, true, false, List, [], ◌∷◌, ◌++◌, length, refl, sym, ap, ◌∙◌, subst, arith, Result, Ok, Err, append_assoc, append-nil, length-append}
 use Rattle.std.proofs.KnownBytes.{Appends-nil}
-use Rattle.std.specs.Result.{IsErrAnd}
 use Rattle.ipx_wire.specs.Ends.{Output}
-use Rattle.ipx_cmd.specs.inside.Leads.{Begins, Ends, IsOneLine, IsPending}
+use Rattle.ipx_cmd.specs.inside.Leads.{Begins, IsOneLine, IsPending}
 use Rattle.ipx_cmd.specs.Lines.{is_long, line_feed}
-use Rattle.ipx_cmd.specs.Output.{fault_text}
 use Rattle.ipx_cmd.specs.Playing.{Step, by_lines}
 use Rattle.ipx_cmd.specs.inside.Stretch.{NotKept, Went, WentOff}
 use Rattle.ipx_cmd.specs.declared.ended.RunFault.TheVariants.{Memory}
@@ -20,11 +18,7 @@ use Rattle.ipx_cmd.proofs.cuts.StretchBehindStretch.{added_none, went_none, went
 -- a line that is too long
 pub off_long : {S : Type 0} (acts : Step S) (state : S) (number : ℕ) (line rest : List ℕ) (o : Output) (text : List ℕ) (fault : LineFault) → o.failed ≡ false → IsOneLine line
     → (fault ≡ Long) × (is_long line ≡ true) → WentOff acts state number (line ++ rest) o o text text number (Line fault)
-off_long acts state number line rest o text fault fine one told = record {
-  said = [];
-  ends = subst (λ (f : LineFault). Ends acts state number (line ++ rest) (fault_text number f)) (sym told.0) (ends_long acts state number line rest one told.1);
-  added = added_none o text fine;
-}
+off_long acts state number line rest o text fault fine one told = grind (arith, ends_long, added_none)
 
 begins_none : {S : Type 0} (acts : Step S) (state : S) (number : ℕ) (bytes : List ℕ) → Begins acts state number bytes []
 begins_none acts state number bytes = record { is = λ counts takes more. record { rest = (by_lines acts counts state number (bytes ++ more)).text; is = refl } }
@@ -32,12 +26,7 @@ begins_none acts state number bytes = record { is = λ counts takes more. record
 -- memory is wanting
 pub off_memory : {S : Type 0} (acts : Step S) (state : S) (number : ℕ) (bytes : List ℕ) (o : Output) (text : List ℕ) (later : ℕ) → o.failed ≡ false
     → WentOff acts state number bytes o o text text later (Run Memory)
-off_memory acts state number bytes o text later fine = record {
-  said = [];
-  begins = begins_none acts state number bytes;
-  wrote = record { count = 0; written = Appends-nil o.written };
-  fault = (refl, fine);
-}
+off_memory acts state number bytes o text later fine = grind (arith, begins_none, Appends-nil)
 
 -- whatever follows
 off_more : {S : Type 0} (acts : Step S) (state : S) (number : ℕ) (bytes more : List ℕ) (from to : Output) (old new : List ℕ) (later : ℕ) (halt : Halt)
@@ -63,15 +52,7 @@ off_more acts state number bytes more from to old new later (Run why) off = reco
 -- a piece at its first line
 pub mid_start : {M S : Type 0} (acts : Step S) (stands : M → S → Type 0) (now : M) (number : ℕ) (pending piece : List ℕ) (o : Output) (text : List ℕ) → IsPending pending
     → o.failed ≡ false → Midpiece acts stands now now number number pending pending piece piece o o text text
-mid_start acts stands now number pending piece o text line fine = record {
-  taken = [];
-  split = refl;
-  went = λ state is. subst (λ (x : List ℕ). Went acts (stands now) state number x o o text text number pending) (sym (append-nil pending))
-      (went_none acts (stands now) state number pending o text fine line is);
-  line = line;
-  bound = omega arith;
-  fine = fine;
-}
+mid_start acts stands now number pending piece o text line fine = grind (arith, append-nil, went_none)
 
 -- bytes of the last line were not kept
 not_kept : {S : Type 0} (acts : Step S) (state : S) (number : ℕ) (line : List ℕ) (o : Output) (text : List ℕ) (halt : Halt) → o.failed ≡ false → IsOneLine line → NotKept line halt

@@ -1,7 +1,6 @@
-use Rattle.std.proofs.Common.{rules, ◌≡◌, ◌<◌, ◌≤◌, ◌∙◌, Err, arith, length, length-take}
+use Rattle.std.proofs.Common.{rules, ◌≡◌, ◌<◌, ◌≤◌, arith, length, length-take}
 use Rattle.ipx_cmd.specs.WroteFront.{IsFaultOf}
 use Rattle.ipx_cmd.specs.declared.ended.Ended.TheVariants.{Done}
-use Rattle.ipx_cmd.specs.declared.ended.RunFault.TheVariants.{Read}
 use Rattle.ipx_cmd.proofs.cuts.BetweenTwoPieces.{fault_at_end, fault_in_piece, given_up_at_end, given_up_at_read, given_up_in_piece, known_now, played_bad, played_end, script_more, script_start, so_far, still_fine}
 use Rattle.ipx_cmd.proofs.cuts.WhyAStretchEnds.{on_ok_always}
 use Rattle.ipx_cmd.proofs.cuts.WaysOut.{err_by, if_err, if_ok, no_read, on_err, on_err_always}

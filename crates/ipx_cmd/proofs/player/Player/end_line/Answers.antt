@@ -1,4 +1,4 @@
-use Rattle.std.proofs.Common.{length, List, ℕ, rules, ◌≡◌, [], ◌++◌, ◌∷◌}
+use Rattle.std.proofs.Common.{length, rules, ◌≡◌, [], ◌++◌, ◌∷◌}
 use Rattle.std.proofs.lemmas.List.{nil_from_length}
 use Rattle.std.proofs.lemmas.List.Elements.{All-append}
 use Rattle.ipx_cmd.specs.Lines.{line_feed}

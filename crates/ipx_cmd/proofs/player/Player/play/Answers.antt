@@ -1,4 +1,4 @@
-use Rattle.std.proofs.Common.{ℕ, List, ◌≡◌, ◌+◌, ◌++◌, ◌∷◌, subst, arith, length, length-append, ap, sym}
+use Rattle.std.proofs.Common.{ℕ, List, ◌≡◌, ◌+◌, ◌++◌, ◌∷◌, arith, length, length-append, ap}
 use Rattle.std.proofs.lemmas.List.Elements.{All-append}
 use Rattle.ipx_cmd.specs.Lines.{line_feed}
 use Rattle.ipx_cmd.proofs.cuts.LinesOfBytes.{not_feed}

@@ -1,6 +1,6 @@
 use Rattle.std.proofs.Common.{[], refl, ap, ◌∙◌, Ok, Err, Some, None}
 use Rattle.std.proofs.KnownBytes.{Consumes-nil}
-use Rattle.ipx_capture.specs.Place.{place, record_of}
+use Rattle.ipx_capture.specs.Place.{place}
 use Rattle.ipx_cmd.specs.Decoded.{CutOff, Decoded}
 use Rattle.ipx_cmd.proofs.captures.HowARunEnds.{takes_of, cut, done, fault_ok, fault_err, wrote_none, on_err_always, on_err_all, if_ok_all}
 use Rattle.ipx_cmd.proofs.captures.BetweenTwoRecords.{midway_start, midway_moved, midway_took, shrinks}
