@@ -1,5 +1,5 @@
 -- What holds of what an event adds to the queue holds of all that waits then, and all of it stands for that event more.
-use Rattle.std.proofs.Common.{◌≡◌, sym, subst, ℕ, List, [], ◌∷◌, ◌++◌}
+use Rattle.std.proofs.Common.{◌≡◌, sym, subst, ℕ, List, [], ◌∷◌, ◌++◌, arith}
 use Rattle.std.specs.List.{AllByRecursion}
 use Rattle.ipx_router.specs.History.{Event}
 use Rattle.ipx_router.specs.Stands.{State}
@@ -22,9 +22,7 @@ module _ {X : Type 0} (P : X → Type 0) where
 -- what waited still comes to a port that there is, where what was added does
 pub still_coming : (net new_net : Internet) (front back new_back : List Delivery) → new_net ≡ net → AllByRecursion (IsDelivery net) (front ++ back)
     → (AllByRecursion (IsDelivery net) back → AllByRecursion (IsDelivery net) new_back) → AllByRecursion (IsDelivery new_net) (front ++ new_back)
-still_coming net new_net front back new_back same all added =
-    subst (λ n. AllByRecursion (IsDelivery n) (front ++ new_back)) (sym same)
-    (all-append (IsDelivery net) front new_back (all_front (IsDelivery net) front back all) (added (all_behind (IsDelivery net) front back all)))
+still_coming net new_net front back new_back same all added = grind (arith, all-append, all_front, all_behind)
 
 -- what the routers stand for after an event, over all that waits
 pub stands_then : (most_routes most_services : ℕ) (routers new_routers : List State) (front back new_back : List Delivery) (old : Moment)

@@ -1,12 +1,11 @@
 -- Deliveries that are put into a batch one packet after another.
-use Rattle.std.proofs.Common.{◌≡◌, refl, sym, ap, ◌∙◌, subst, ℕ, ◌+◌, ◌-◌, ◌*◌, ◌<◌, ◌≤◌, Some, slice_get, List, [], ◌∷◌, ◌++◌, map, drop, flat_map, get_or, length, arith, append_assoc, length-append}
-use Rattle.std.proofs.Math.Nat.{mul-le-mul_right}
+use Rattle.std.proofs.Common.{◌≡◌, refl, ℕ, ◌+◌, ◌-◌, ◌*◌, ◌<◌, ◌≤◌, Some, slice_get, List, [], ◌∷◌, ◌++◌, map, drop, flat_map, get_or, length, arith, append_assoc, length-append, rules}
 use Rattle.std.proofs.lemmas.List.{drop_more, drop_at, get_or_append_left, map-append}
 use Rattle.std.proofs.lemmas.Option.{get_or_from_slice_get}
 use Rattle.ipx_router.specs.Port.{Port, broadcast}
 use Rattle.ipx_router.specs.Relays.{Sent}
 use Rattle.ipx_internet.specs.inside.Stations.{hearers}
-use Rattle.ipx_internet.specs.Batches.{arriving, deliveries_in, AreWithin, delivery_in, pending_at, reaching, heard}
+use Rattle.ipx_internet.specs.Batches.{deliveries_in, AreWithin, pending_at, reaching, heard}
 use Rattle.ipx_internet.specs.Queue.{Delivery}
 use Rattle.ipx_internet.specs.declared.batch.Pending.{Pending}
 use Rattle.ipx_internet.specs.declared.stations.Station.{Station}
@@ -15,18 +14,13 @@ use Rattle.ipx_internet.proofs.lists.EachElement.{all-append, all_then}
 -- ---- the deliveries of one packet
 
 module _ (sent : List Sent) (packet : ℕ) (s : Sent) (there : slice_get sent packet ≡ Some s) where
-  no_sent : Sent
-  no_sent = record { port = 0; link = broadcast; bytes = [] }
-
   is_sent : get_or sent packet (record { port = 0; link = broadcast; bytes = [] }) ≡ s
   is_sent = get_or_from_slice_get sent packet s (record { port = 0; link = broadcast; bytes = [] }) there
 
   -- stations that receive it
   reached : (ts : List Station) → deliveries_in sent (map (pending_at packet) ts) ≡ map (reaching s) ts
   reached [] = refl
-  reached (t ∷ ts) =
-      ap (λ (r : Sent). reaching r t ∷ deliveries_in sent (map (pending_at packet) ts)) is_sent
-      ∙ ap (λ (ds : List Delivery). reaching s t ∷ ds) (reached ts)
+  reached (t ∷ ts) = grind (arith, reached ts, is_sent)
 
   module _ (list : List Station) (ports : List Port) (number : ℕ) (before after : List Pending) (all : List Delivery) where
     -- what was left to do is less by the deliveries of this packet
@@ -34,16 +28,7 @@ module _ (sent : List Sent) (packet : ℕ) (s : Sent) (there : slice_get sent pa
         → after ≡ before ++ map (pending_at packet) (hearers list ports number s)
         → all ≡ deliveries_in sent before ++ flat_map (heard list ports number) (drop packet sent)
         → all ≡ deliveries_in sent after ++ flat_map (heard list ports number) (drop (packet + 1) sent)
-    one_packet lt added so_far =
-        let rest = flat_map (heard list ports number) (drop (packet + 1) sent) in
-        let these = map (pending_at packet) (hearers list ports number s) in
-        so_far
-        ∙ ap (λ ss. deliveries_in sent before ++ flat_map (heard list ports number) ss)
-        (drop_more sent packet (record { port = 0; link = broadcast; bytes = [] }) lt ∙ ap (λ (r : Sent). r ∷ drop (packet + 1) sent) is_sent)
-        ∙ sym (append_assoc (deliveries_in sent before) (heard list ports number s) rest)
-        ∙ ap (λ ds. (deliveries_in sent before ++ ds) ++ rest) (sym (reached (hearers list ports number s)))
-        ∙ ap (λ ds. ds ++ rest) (sym (map-append (delivery_in sent) before these))
-        ∙ ap (λ (ps : List Pending). deliveries_in sent ps ++ rest) (sym added)
+    one_packet lt added so_far = grind (arith, drop_more, is_sent, append_assoc, reached, map-append)
 
 -- ---- what it receives is there
 
@@ -53,9 +38,7 @@ all_within sent packet (t ∷ ts) lt = (lt, all_within sent packet ts lt)
 
 pub still_within : (sent : List Sent) (packet : ℕ) (ts : List Station) (before after : List Pending) → packet < length sent
     → after ≡ before ++ map (pending_at packet) ts → AreWithin sent before → AreWithin sent after
-still_within sent packet ts before after lt added within =
-    subst (λ ps. AreWithin sent ps) (sym added)
-    (all-append (λ p. p.packet < length sent) before (map (pending_at packet) ts) within (all_within sent packet ts lt))
+still_within sent packet ts before after lt added within = grind (arith, all-append, all_within)
 
 -- ---- room
 
@@ -63,9 +46,7 @@ one_more : (n most : ℕ) → (1 + n) * most ≡ most + n * most
 one_more n most = omega arith
 
 one_fewer : (n k most : ℕ) → k < n → (n - k) * most ≡ most + (n - (k + 1)) * most
-one_fewer n k most lt =
-    let e : n - k ≡ 1 + (n - (k + 1)) = omega (arith, lt) in
-    ap (λ m. m * most) e ∙ one_more (n - (k + 1)) most
+one_fewer n k most lt = search (rules, one_more)
 
 -- where there is room for what each packet that is left may need, there is for one
 pub room_for_one : (used n k most capacity few : ℕ) → k < n → used + (n - k) * most ≤ capacity → few ≤ most → used + few ≤ capacity
@@ -79,25 +60,18 @@ room_for_others used n k most capacity few more new lt room small grown same = o
 -- where each packet may have the most deliveries, there is room for those of at most so many packets
 pub room_for_all : (used capacity needed most count before : ℕ) → used ≤ capacity → needed * most ≤ capacity - used → count - before ≤ needed
     → used + (count - before) * most ≤ capacity
-room_for_all used capacity needed most count before fits room few =
-    let fewer = mul-le-mul_right most few in
-    omega (arith, fits, room, fewer)
+room_for_all used capacity needed most count before fits room few = grind arith
 
 -- ---- as more is sent
 
 -- what was received is still there
 pub within_longer : (sent more longer : List Sent) (pending : List Pending) → longer ≡ sent ++ more → AreWithin sent pending → AreWithin longer pending
-within_longer sent more longer pending e within =
-    let longer_is : length longer ≡ length sent + length more = ap length e ∙ length-append sent more in
-    all_then (λ p. p.packet < length sent) (λ p. p.packet < length longer) (λ p lt. omega (arith, lt, longer_is)) pending within
+within_longer sent more longer pending e within = grind (arith, length-append, all_then)
 
 -- and is the same
 same_deliveries : (sent more : List Sent) (pending : List Pending) → AreWithin sent pending → deliveries_in (sent ++ more) pending ≡ deliveries_in sent pending
 same_deliveries sent more [] within = refl
-same_deliveries sent more (p ∷ pending) within =
-    let one = get_or_append_left sent more (record { port = 0; link = broadcast; bytes = [] }) p.packet within.0 in
-    ap (λ (s : Sent). arriving p s ∷ deliveries_in (sent ++ more) pending) one
-    ∙ ap (λ ds. delivery_in sent p ∷ ds) (same_deliveries sent more pending within.1)
+same_deliveries sent more (p ∷ pending) within = grind (arith, same_deliveries sent more pending within.1, get_or_append_left)
 
 -- an event of a router appends the deliveries of what it sends
 pub event_delivers : (list : List Station) (ports then : List Port) (number before : ℕ) (sent more longer : List Sent)
@@ -105,9 +79,4 @@ pub event_delivers : (list : List Station) (ports then : List Port) (number befo
     → AreWithin sent pending → longer ≡ sent ++ more → before ≡ length sent → then ≡ ports → all ≡ deliveries_in sent pending
     → deliveries_in longer after ≡ deliveries_in longer pending ++ flat_map (heard list then number) (drop before longer)
     → deliveries_in longer after ≡ all ++ flat_map (heard list ports number) more
-event_delivers list ports then number before sent more longer pending after all within e from same view delivered =
-    delivered
-    ∙ ap (λ ss. deliveries_in ss pending ++ flat_map (heard list then number) (drop before ss)) e
-    ∙ ap (λ ds. ds ++ flat_map (heard list then number) (drop before (sent ++ more))) (same_deliveries sent more pending within ∙ sym view)
-    ∙ ap (λ ss. all ++ flat_map (heard list then number) ss) (drop_at sent more before (sym from))
-    ∙ ap (λ ps. all ++ flat_map (heard list ps number) more) same
+event_delivers list ports then number before sent more longer pending after all within e from same view delivered = grind (arith, same_deliveries, drop_at)

@@ -1,12 +1,13 @@
 -- The first delivery that waits is handed out to its router.
-use Rattle.std.proofs.Common.{◌≡◌, refl, sym, ap, ◌∙◌, subst, ℕ, zero, suc, ◌+◌, ◌<◌, ◌≤◌, List, [], ◌∷◌, ◌++◌, length, drop, slice_get, Some, Result, Ok, Err, OnErr, arith}
+use Rattle.std.proofs.lemmas.Grind.{common_steps}
+use Rattle.std.proofs.Common.{◌≡◌, refl, sym, ap, ◌∙◌, subst, ℕ, ◌+◌, ◌<◌, ◌≤◌, List, [], ◌∷◌, ◌++◌, length, drop, slice_get, Some, Result, OnErr, arith}
 use Rattle.std.specs.List.{AllByRecursion}
 use Rattle.std.proofs.lemmas.List.{drop_more, length-map}
 use Rattle.std.proofs.lemmas.Option.{slice_get_within, get_or_from_slice_get}
 use Rattle.ipx_wire.specs.Piece.{IsBytes}
 use Rattle.ipx_router.specs.History.{Packet}
 use Rattle.ipx_router.specs.Stands.{State}
-use Rattle.ipx_internet.specs.Internet.{Internet, IsPlace, ports_of}
+use Rattle.ipx_internet.specs.Internet.{Internet, ports_of}
 use Rattle.ipx_internet.specs.Moment.{Moment, StandsFor, IsThere, net_at}
 use Rattle.ipx_internet.specs.Queue.{Delivery, Queued, queued, settled_one}
 use Rattle.ipx_internet.specs.Rounds.{IsDelivery}
@@ -26,18 +27,12 @@ module _ {X : Type 0} where
 -- ---- where a place is
 
 pub within_net : (net : Internet) (router port : ℕ) → port < length (ports_of net router) → router < length net
-within_net [] zero port less = absurd (omega (arith, less))
-within_net [] (suc router) port less = absurd (omega (arith, less))
-within_net (ports ∷ net) zero port less = omega arith
-within_net (ports ∷ net) (suc router) port less = let rest = within_net net router port less in omega (arith, rest)
+within_net net router port less = grind (arith, common_steps)
 
 -- where something waits, there is a router
 pub some_router : (routers : List State) (queue : List Delivery) → AllByRecursion (IsDelivery (net_among routers)) queue → 0 < length queue → 0 < length routers
 some_router routers [] coming waits = absurd (omega (arith, waits))
-some_router routers (d ∷ queue) coming waits =
-    let less = within_net (net_among routers) d.to.router d.to.port coming.0.place in
-    let size = length-map routers (λ (s : State). s.ports) in
-    omega (arith, less, size)
+some_router routers (d ∷ queue) coming waits = grind (arith, within_net, length-map)
 
 -- ---- what is handed out
 
@@ -53,11 +48,7 @@ module _ (most_routes most_services : ℕ) (routers : List State) (front back : 
 
   -- its router has the port
   pub it_is_there : AllByRecursion (IsDelivery net) (drop done front ++ back) → (bytes : List ℕ) → IsThere (moment routers []) d.to.router (Packet d.to.port bytes)
-  it_is_there coming bytes =
-      let place : IsPlace net d.to = (subst (λ ds. AllByRecursion (IsDelivery net) ds) first coming).0.place in
-      let less = within_net net d.to.router d.to.port place in
-      let size = length-map routers (λ (s : State). s.ports) in
-      (omega (arith, less, size), place)
+  it_is_there coming bytes = grind (arith, first, within_net, length-map)
 
   -- and it is bytes
   pub it_is_bytes : AllByRecursion (IsDelivery net) (drop done front ++ back) → IsBytes d.bytes
@@ -88,12 +79,7 @@ module _ (most_routes most_services : ℕ) (routers after : List State) (list : 
   pub still_simulated : AreRouters most_routes most_services after list → net_among after ≡ net_among routers
       → AllByRecursion (IsDelivery (net_among routers)) (drop done front)
       → AllByRecursion (IsDelivery (net_among routers)) later → done ≤ length front → IsSimulated most_routes most_services after list front done later
-  still_simulated are same coming more within = record {
-    sound = are;
-    coming = subst (λ (n : Internet). AllByRecursion (IsDelivery n) (drop done front ++ later)) (sym same)
-        (all-append (IsDelivery (net_among routers)) (drop done front) later coming more);
-    within = within;
-  }
+  still_simulated are same coming more within = grind (arith, all-append)
 
 pub coming_front : (net : Internet) (front back : List Delivery) → AllByRecursion (IsDelivery net) (front ++ back) → AllByRecursion (IsDelivery net) front
 coming_front net front back all = all_front (IsDelivery net) front back all
@@ -102,13 +88,10 @@ pub coming_behind : (net : Internet) (front back : List Delivery) → AllByRecur
 coming_behind net front back all = all_behind (IsDelivery net) front back all
 
 pub at_error : {T E : Type 0} {X : Type 0} (r : Result T E) → X → OnErr r X
-at_error (Ok x) holds = tt
-at_error (Err e) holds = holds
+at_error r holds = grind arith
 
 -- the same, of a moment that is given
 pub at_moment : (most_routes most_services : ℕ) (m n o : Moment) → m ≡ n
     → ((q : Queued) → StandsFor most_routes most_services m q → StandsFor most_routes most_services o (settled_one (net_at m) most_routes most_services q))
     → (q : Queued) → StandsFor most_routes most_services n q → StandsFor most_routes most_services o (settled_one (net_at n) most_routes most_services q)
-at_moment most_routes most_services m n o is step =
-    subst (λ (x : Moment). (q : Queued) → StandsFor most_routes most_services x q
-    → StandsFor most_routes most_services o (settled_one (net_at x) most_routes most_services q)) is step
+at_moment most_routes most_services m n o is step = grind arith

@@ -1,5 +1,5 @@
 -- Routers that each have a past have histories together.
-use Rattle.std.proofs.Common.{◌≡◌, refl, ap, ◌∙◌, ℕ, zero, suc, List, [], ◌∷◌, length, map, Some, slice_get}
+use Rattle.std.proofs.Common.{◌≡◌, refl, ap, ◌∙◌, ℕ, zero, suc, List, [], ◌∷◌, length, map, Some, slice_get, arith}
 use Rattle.std.specs.List.{AllByRecursion}
 use Rattle.std.proofs.lemmas.List.{length-map}
 use Rattle.ipx_router.specs.History.{History, IsOnPort, IsOfBytes}
@@ -9,7 +9,7 @@ use Rattle.ipx_internet.specs.Internet.{ports_of}
 use Rattle.ipx_internet.specs.Moment.{Moment}
 use Rattle.ipx_internet.specs.Passed.{HasHistories}
 use Rattle.ipx_internet.specs.Queue.{history_of}
-use Rattle.ipx_internet.proofs.lists.FoundInAList.{nothing, it_is}
+use Rattle.ipx_internet.proofs.lists.FoundInAList.{nothing}
 
 module _ (most_routes most_services : ℕ) where
   abbrev Pasts : List State → Type 0
@@ -37,8 +37,7 @@ module _ (most_routes most_services : ℕ) where
   stand : (routers : List State) (all : Pasts routers) (k : ℕ) (s : State) → slice_get routers k ≡ Some s
       → RouterStandsFor most_routes most_services s (history_of (histories routers all) k)
   stand [] all k s there = nothing there
-  stand (t ∷ routers) all zero s there =
-      it_is (λ (r : State). RouterStandsFor most_routes most_services r all.0.past) s t there all.0.stands
+  stand (t ∷ routers) all zero s there = grind arith
   stand (t ∷ routers) all (suc k) s there = stand routers all.1 k s there
 
   pub have_histories : (m : Moment) → Pasts m.routers → HasHistories most_routes most_services m

@@ -1,5 +1,6 @@
 -- One event of one of some routers: the others stay, and routers and what waits stand for that event more.
-use Rattle.std.proofs.Common.{◌≡◌, ◌≢◌, true, zero, suc, refl, sym, ap, ap₂, ◌∙◌, subst, ℕ, ◌<◌, List, [], ◌∷◌, ◌++◌, length, map, flat_map, slice_get, slice_set, get_or, Some, append_assoc, length-set, get_or-set_same, get_or-set_other, inl, inr, arith}
+use Rattle.std.proofs.lemmas.Grind.{common_steps}
+use Rattle.std.proofs.Common.{◌≡◌, ◌≢◌, true, refl, sym, ap, ◌∙◌, subst, ℕ, ◌<◌, List, [], ◌∷◌, ◌++◌, length, map, flat_map, slice_get, slice_set, get_or, Some, append_assoc, length-set, get_or-set_same, get_or-set_other, inl, inr, arith}
 use Rattle.std.specs.List.{AllByRecursion}
 use Rattle.std.specs.Option.{option_map}
 use Rattle.std.proofs.Math.Seq.{map-set_same}
@@ -16,7 +17,7 @@ use Rattle.ipx_router.specs.Stands.{State, StandsFor as RouterStandsFor}
 use Rattle.ipx_router.specs.declared.outcome.Outcome.{Outcome}
 use Rattle.ipx_internet.specs.Batches.{heard, reaching}
 use Rattle.ipx_internet.specs.Delivery.{receives, delivered}
-use Rattle.ipx_internet.specs.Internet.{Internet, Place, IsInternet, NodesDiffer, IsPlace, ports_of}
+use Rattle.ipx_internet.specs.Internet.{Internet, Place, IsPlace, ports_of}
 use Rattle.ipx_internet.specs.Moment.{StandsFor}
 use Rattle.ipx_internet.specs.Queue.{Delivery, Queued, deliveries_of, history_of, queued}
 use Rattle.ipx_internet.specs.Rounds.{IsDelivery}
@@ -34,9 +35,7 @@ module _ {X : Type 0} where
   all_got P xs k x all got = subst P (get_or_from_slice_get xs k x x got) (all_at P xs k x all (slice_get_within xs k x got))
 
   all-set : (P : X → Type 0) (xs : List X) (k : ℕ) (x : X) → AllByRecursion P xs → P x → AllByRecursion P (slice_set xs k x)
-  all-set P [] k x all one = tt
-  all-set P (y ∷ xs) zero x all one = (one, all.1)
-  all-set P (y ∷ xs) (suc k) x all one = (all.0, all-set P xs k x all.1 one)
+  all-set P xs k x all one = grind (arith, common_steps)
 
   -- what is read at a place that was just written, and at another one
   written : (xs : List X) (k : ℕ) (x y : X) → k < length xs → slice_get (slice_set xs k x) k ≡ Some y → x ≡ y
@@ -54,8 +53,7 @@ module _ {X : Type 0} where
   got_at xs k x within is = slice_get-get_or xs k x within ∙ ap (λ z. Some z) (sym is)
 
 flat_map_same : {X Y : Type 0} (f g : X → List Y) → ((x : X) → f x ≡ g x) → (xs : List X) → flat_map f xs ≡ flat_map g xs
-flat_map_same f g same [] = refl
-flat_map_same f g same (x ∷ xs) = ap₂ (λ a b. a ++ b) (same x) (flat_map_same f g same xs)
+flat_map_same f g same xs = grind arith
 
 -- ---- deliveries
 
@@ -104,17 +102,7 @@ module _ (most_routes most_services : ℕ) (routers : List State) (number : ℕ)
 
   pub routers_after : (list : List Station) → AreRouters most_routes most_services routers list → HasPast most_routes most_services new
       → AreRouters most_routes most_services after list
-  routers_after list are past = record {
-    internet = subst (λ (n : Internet). IsInternet n) (sym same_net) are.internet;
-    nodes = subst (λ (n : Internet). NodesDiffer n) (sym same_net) are.nodes;
-    pasts = all-set (λ r. HasPast most_routes most_services r) routers number new are.pasts past;
-    stationed = subst (λ (n : Internet). AreOf n list) (sym same_net) are.stationed;
-  }
-
-  -- what it stood for
-  its_history : (before : List Delivery) (q : Queued) → StandsFor most_routes most_services (moment routers before) q
-      → RouterStandsFor most_routes most_services s (history_of q.histories number)
-  its_history before q stands = stands.routers number s there
+  routers_after list are past = grind (arith, same_net, all-set)
 
   module _ (event : Event) (list : List Station) (of : AreOf net list) (old later : List Delivery)
       (sent : (h : History) → RouterStandsFor most_routes most_services s h

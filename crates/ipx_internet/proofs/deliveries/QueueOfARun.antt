@@ -1,5 +1,5 @@
 -- A run does with its queue what the queue of an internet says.
-use Rattle.std.proofs.Common.{◌≡◌, refl, ap, ◌∙◌, ℕ, zero, suc, List, [], ◌∷◌, ◌++◌, length, map, flat_map, replicate, Option}
+use Rattle.std.proofs.Common.{◌≡◌, refl, ap, ◌∙◌, ℕ, zero, suc, List, [], ◌∷◌, ◌++◌, length, map, flat_map, replicate, Option, rules}
 use Rattle.std.proofs.lemmas.List.{map-append}
 use Rattle.ipx_router.specs.History.{Event, History, Packet}
 use Rattle.ipx_router.specs.Relays.{Sent}
@@ -48,5 +48,4 @@ module _ (net : Internet) (most_routes most_services : ℕ) where
   pub many_deliveries : (run : Run) (n : ℕ)
       → forgotten (run_of net most_routes most_services run (replicate n Settles)) ≡ settled net most_routes most_services n (forgotten run)
   many_deliveries run zero = refl
-  many_deliveries run (suc n) =
-      many_deliveries (stepped net most_routes most_services run Settles) n ∙ ap (λ (q : Queued). settled net most_routes most_services n q) (deliveries run)
+  many_deliveries run (suc n) = search (rules, many_deliveries (stepped net most_routes most_services run Settles) n, deliveries)

@@ -1,5 +1,5 @@
 -- Logs of three routers in a ring: what is of one course, what a path visits, and what is no log.
-use Rattle.std.proofs.Common.{◌≡◌, refl, ap, subst, ℕ, ◌<◌, true, false, List, [], ◌∷◌, length, map, Option, None, Some, arith}
+use Rattle.std.proofs.Common.{◌≡◌, refl, ap, ℕ, ◌<◌, true, false, List, [], ◌∷◌, length, map, Option, None, Some, arith}
 use Rattle.std.proofs.lemmas.Bool.{both_ways}
 use Rattle.ipx_wire.specs.Address.{address_bytes}
 use Rattle.ipx_wire.specs.Crossed.{network_bytes}
@@ -8,7 +8,7 @@ use Rattle.ipx_router.specs.Port.{broadcast}
 use Rattle.ipx_internet.specs.Course.{IsInCourse, starts, goes_on, IsPath, leaves, leads_on, visited}
 use Rattle.ipx_internet.specs.Different.{AreDifferent}
 use Rattle.ipx_internet.specs.Internet.{Internet, Place}
-use Rattle.ipx_internet.specs.Log.{Sending, Reception, reception_at, IsForward, IsLog}
+use Rattle.ipx_internet.specs.Log.{Sending, Reception, IsForward, IsLog}
 use Rattle.ipx_internet.proofs.examples.Words.{network, port_on, to_all, at}
 
 abbrev ring : Internet
@@ -37,9 +37,7 @@ descends = goes_on second (omega arith) refl (goes_on first (omega arith) refl s
 
 pub not_back : (place : ℕ) → place ≡ 0 → IsInCourse log 1 place → ⊥
 not_back place here starts = omega (arith, here)
-not_back place here (goes_on s within of rest) =
-    let none : None ≡ Some s = subst (λ (k : ℕ). (reception_at log k).origin ≡ Some s) here of in
-    both_ways false refl (ap (λ (o : Option Sending). elim o [ None ↦ false | Some t ↦ true ]) none)
+not_back place here (goes_on s within of rest) = grind arith
 
 -- both forwards are one path, over three networks
 pub both : IsForward ring log first → IsForward ring log second → IsPath ring log 0 (first ∷ second ∷ [])

@@ -1,4 +1,5 @@
 -- What holds of lists: of each of their elements, of those that pass a test, of elements that differ.
+use Rattle.std.proofs.lemmas.Grind.{common_steps}
 use Rattle.std.proofs.Common.{◌≡◌, ◌≢◌, refl, sym, ap, ◌∙◌, subst, ℕ, zero, suc, ◌+◌, ◌<◌, ◌≤◌, ◌==◌, Bool, true, false, not, List, [], ◌∷◌, ◌++◌, length, map, filter, flat_map, get_or, slice_get, Some, AllPairs, inl, inr, arith}
 use Rattle.std.specs.List.{AllByRecursion, list_any}
 use Rattle.std.specs.List.Sorted.{IsStrictlyIncreasing}
@@ -39,11 +40,7 @@ module _ {X : Type 0} where
   -- what a filter keeps passes too
   pub all_passed : (P : X → Type 0) (p : X → Bool) (xs : List X) → AllByRecursion P xs → AllByRecursion (λ x. P x × (p x ≡ true)) (filter p xs)
   all_passed P p [] all = tt
-  all_passed P p (x ∷ xs) all =
-      elim (cases_Bool (p x)) [
-        | inl e ↦ rw e ((all.0, e), all_passed P p xs all.1)
-        | inr e ↦ rw e (all_passed P p xs all.1)
-      ]
+  all_passed P p (x ∷ xs) all = grind (arith, all_passed P p xs all.1)
 
   pub all-filter : (P : X → Type 0) (p : X → Bool) (xs : List X) → AllByRecursion P xs → AllByRecursion P (filter p xs)
   all-filter P p xs all = all_then (λ x. P x × (p x ≡ true)) P (λ x both. both.0) (filter p xs) (all_passed P p xs all)
@@ -52,21 +49,12 @@ module _ {X : Type 0} where
 
   pub differ-filter : (p : X → Bool) (xs : List X) → AreDifferent xs → AreDifferent (filter p xs)
   differ-filter p [] differ = tt
-  differ-filter p (x ∷ xs) differ =
-      elim (cases_Bool (p x)) [
-        | inl e ↦ rw e (all-filter (λ y. y ≢ x) p xs differ.0, differ-filter p xs differ.1)
-        | inr e ↦ rw e (differ-filter p xs differ.1)
-      ]
+  differ-filter p (x ∷ xs) differ = grind (arith, differ-filter p xs differ.1, all-filter)
 
   -- those that pass a test and those that don't are all
   pub length_parted : (p : X → Bool) (xs : List X) → length xs ≡ length (filter p xs) + length (filter (λ x. not (p x)) xs)
   length_parted p [] = refl
-  length_parted p (x ∷ xs) =
-      let rest = length_parted p xs in
-      elim (cases_Bool (p x)) [
-        | inl e ↦ rw e (omega (arith, rest))
-        | inr e ↦ rw e (omega (arith, rest))
-      ]
+  length_parted p (x ∷ xs) = grind (arith, length_parted p xs)
 
   -- where all are the same and differ, there is one
   pub at_most_one : (P : X → Type 0) → ((x y : X) → P x → P y → x ≡ y) → (xs : List X) → AllByRecursion P xs → AreDifferent xs → length xs ≤ 1
@@ -87,11 +75,7 @@ module _ {X : Type 0} where
       or_from (test x) (list_any test (xs ++ ys)) parts.0 (none_joined test xs ys parts.1 two)
 
   pub none_of_both : (test : X → Bool) (xs ys : List X) → list_any test (xs ++ ys) ≡ false → (list_any test xs ≡ false) × (list_any test ys ≡ false)
-  none_of_both test [] ys none = (refl, none)
-  none_of_both test (x ∷ xs) ys none =
-      let parts = or_parts (test x) (list_any test (xs ++ ys)) none in
-      let deeper = none_of_both test xs ys parts.1 in
-      (or_from (test x) (list_any test xs) parts.0 deeper.0, deeper.1)
+  none_of_both test xs ys none = grind (arith, common_steps, or_parts, or_from)
 
 -- ---- elements that have numbers
 
@@ -168,10 +152,7 @@ module _ {X : Type 0} where
 
   pub differ-map : {Y : Type 0} (f : X → Y) → ((a b : X) → f a ≡ f b → a ≡ b) → (xs : List X) → AreDifferent xs → AreDifferent (map f xs)
   differ-map f injective [] differ = tt
-  differ-map f injective (x ∷ xs) differ = (
-    all_mapped (λ y. y ≢ f x) f xs (all_then (λ y. y ≢ x) (λ y. f y ≢ f x) (λ y other same. other (injective y x same)) xs differ.0),
-    differ-map f injective xs differ.1,
-  )
+  differ-map f injective (x ∷ xs) differ = grind (arith, differ-map f injective xs differ.1, all_mapped, all_then)
 
   -- elements whose images differ do
   pub differ-unmap : {Y : Type 0} (f : X → Y) (xs : List X) → AreDifferent (map f xs) → AreDifferent xs

@@ -61,11 +61,7 @@ module _ {X : Type 0} where
   -- lists that are short make one that isn't long
   pub flat_map_few : {Y : Type 0} (f : X → List Y) (few : ℕ) (xs : List X) → AllByRecursion (λ x. length (f x) ≤ few) xs → length (flat_map f xs) ≤ length xs * few
   flat_map_few f few [] all = omega arith
-  flat_map_few f few (x ∷ xs) all =
-      let one = all.0 in
-      let rest = flat_map_few f few xs all.1 in
-      let joined = length-append (f x) (flat_map f xs) in
-      omega (arith, one, rest, joined)
+  flat_map_few f few (x ∷ xs) all = grind (arith, flat_map_few f few xs all.1, length-append)
 
 -- ---- numbers
 
@@ -89,10 +85,7 @@ is_number k n below = by (numbers n) (number_in k n below)
 
 pub length-numbers : (n : ℕ) → length (numbers n) ≡ n
 length-numbers zero = refl
-length-numbers (suc n) =
-    let rest = length-numbers n in
-    let joined = length-append (numbers n) (n ∷ []) in
-    omega (arith, rest, joined)
+length-numbers (suc n) = grind (arith, length-numbers n, length-append)
 
 pub at_most_greatest : (n : ℕ) (ns : List ℕ) → IsIn n ns → n ≤ greatest ns
 at_most_greatest n [] there = absurd there

@@ -111,18 +111,12 @@ module _ {X : Type 0} (key : X → ℕ) (xs : List X) (place : ℕ) (y : X) (poi
 
   pub put_is : (n : ℕ) → filter (λ x. key x == n) (insert xs place y)
       ≡ (if key y == n then filter (λ x. key x == n) xs ++ y ∷ [] else filter (λ x. key x == n) xs)
-  put_is n = elim (cases_eq (key y) n) [
-    | inl e ↦ rw (sym e, eq-eqb (key y) (key y) refl) put_last
-    | inr other ↦ rw (ne_eqb (key y) n other) (put_aside n (ne_eqb (key y) n other))
-  ]
+  put_is n = grind (arith, cases_eq, eq-eqb, put_last, ne_eqb, put_aside)
 
   -- no number has more elements than before, but that of the insert
   pub still_few : (old new : ℕ) → old ≤ new → ((n : ℕ) → length (filter (λ x. key x == n) xs) ≤ old)
       → length (filter (λ x. key x == key y) (insert xs place y)) ≤ new → (n : ℕ) → length (filter (λ x. key x == n) (insert xs place y)) ≤ new
-  still_few old new more few last n = elim (cases_eq (key y) n) [
-    | inl e ↦ rw (sym e) last
-    | inr other ↦ let before = few n in rw (put_aside n (ne_eqb (key y) n other)) (omega (arith, before, more))
-  ]
+  still_few old new more few last n = grind (arith, cases_eq, put_aside, ne_eqb)
 
   -- some number still has that many: the same as before, or that of the insert
   pub still_full : (old new fullest : ℕ) → length (filter (λ x. key x == fullest) xs) ≡ old

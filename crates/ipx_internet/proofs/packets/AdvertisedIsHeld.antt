@@ -1,6 +1,6 @@
 -- What a router advertises on a port of what it holds: each entry is that of another port that is up, or of a route that was learned
 -- elsewhere, one hop farther, or says that nothing is reached; services likewise.
-use Rattle.std.proofs.Common.{◌≡◌, ℕ, ◌==◌, not, if◌then◌else◌, Bool, true, false, List, [], ◌∷◌, ◌++◌, map, filter, Option, Some, None, IfSome, inl, inr, is_eq}
+use Rattle.std.proofs.Common.{◌≡◌, ℕ, ◌==◌, not, if◌then◌else◌, Bool, true, false, List, [], ◌∷◌, ◌++◌, map, filter, Option, Some, None, IfSome, inl, inr, is_eq, arith}
 use Rattle.std.specs.List.{AllByRecursion}
 use Rattle.std.specs.declared.cmp.Ordering.{Ordering}
 use Rattle.std.proofs.lemmas.Bool.{cases_Bool, and_parts, not-true}
@@ -29,10 +29,7 @@ all_after P key_of order same before after all =
 
 -- nothing, or one item where a test fails
 pub unless : {X : Type 0} (P : X → Type 0) (c : Bool) (x : X) → (c ≡ false → P x) → AllByRecursion P (if c then [] else x ∷ [])
-unless P c x step = elim (cases_Bool c) [
-  | inl e ↦ rw e tt
-  | inr e ↦ let is = step e in rw e (is, tt)
-]
+unless P c x step = grind arith
 
 -- ---- routes
 

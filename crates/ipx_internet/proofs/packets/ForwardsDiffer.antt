@@ -1,8 +1,7 @@
 -- What is sent for a packet that isn't for the router itself: forwards, no two of them the same.
-use Rattle.std.proofs.Common.{◌≡◌, refl, sym, subst, ℕ, ◌<◌, ◌⊎◌, ◌||◌, not, Bool, true, false, List, [], ◌∷◌, ◌++◌, length, map, Option, None, Some, Result, Ok, Err, slice_get, inl, inr}
+use Rattle.std.proofs.Common.{◌≡◌, refl, sym, subst, ℕ, ◌<◌, ◌⊎◌, ◌||◌, Bool, true, false, List, [], ◌∷◌, ◌++◌, length, map, Option, None, Some, Result, Ok, Err, slice_get, inl, inr, arith}
 use Rattle.std.specs.List.{AllByRecursion}
 use Rattle.std.specs.List.Sorted.{IsStrictlyIncreasing}
-use Rattle.std.proofs.lemmas.Bool.{and_parts, or_cases, and_right, not-true}
 use Rattle.ipx_wire.specs.Packet.{Parts, packet_of}
 use Rattle.ipx_wire.specs.Piece.{IsBytes}
 use Rattle.ipx_wire.specs.declared.packet.PacketFault.{PacketFault}
@@ -10,7 +9,7 @@ use Rattle.ipx_router.specs.Facts.{routes_held, offers}
 use Rattle.ipx_router.specs.Heard.{Heard, heard, heard_near}
 use Rattle.ipx_router.specs.History.{Event, History, Packet, IsOnPort, IsOfBytes, running, ports_up}
 use Rattle.ipx_router.specs.Packets.{IsRelayed}
-use Rattle.ipx_router.specs.Port.{Port, IsPort, port_at, is_up, is_local}
+use Rattle.ipx_router.specs.Port.{Port, IsPort, port_at, is_up}
 use Rattle.ipx_router.specs.Relays.{Sent, IsTableRoute, relayed}
 use Rattle.ipx_router.specs.Sends.{Holding, holding, heard_sends, packet_sends, sends}
 use Rattle.ipx_router.specs.Why.{why, is_near, is_far, is_propagated}
@@ -18,7 +17,6 @@ use Rattle.ipx_router.specs.declared.route_offer.RouteOffer.{RouteOffer}
 use Rattle.ipx_router.specs.declared.why.Why.{Why}
 use Rattle.ipx_internet.specs.Different.{AreDifferent}
 use Rattle.ipx_internet.proofs.lists.EachElement.{all_listed, rising_differ, differ-unmap}
-use Rattle.ipx_internet.proofs.lists.FoundInAList.{nothing}
 
 -- the laws of routers that runs rest on
 pub record Routing : Type 0 where
@@ -43,13 +41,7 @@ module _ (ports : List Port) (number : ℕ) (bytes : List ℕ) where
   goes_on p = is_propagated p.header || is_far (port_at ports number) p.header
 
   not_near : (p : Parts) → goes_on p ≡ true → is_near (port_at ports number) p.header ≡ false
-  not_near p on = elim (or_cases (is_propagated p.header) (is_far (port_at ports number) p.header) on) [
-    | inl all ↦ rw all refl
-    | inr far ↦
-        and_right (not (is_propagated p.header)) (is_local (port_at ports number) p.header.destination.network)
-        (not-true (is_local (port_at ports number) p.header.destination.network)
-        (and_parts (not (is_propagated p.header)) (not (is_local (port_at ports number) p.header.destination.network)) far).1)
-  ]
+  not_near p on = grind arith
 
   -- what is heard, by what the checks and the reader say
   abbrev heard_by : Option Why → Result Parts PacketFault → Option Heard
@@ -92,8 +84,7 @@ module _ (ports : List Port) (number : ℕ) (bytes : List ℕ) where
 -- a packet that no check drops came to a router that runs
 pub runs_then : (ports : List Port) (up : List ℕ) (routes : List RouteOffer) (runs : Bool) (number : ℕ) (bytes : List ℕ)
     → why ports up routes runs number bytes ≡ None → runs ≡ true
-runs_then ports up routes true number bytes passed = refl
-runs_then ports up routes false number bytes passed = nothing (sym passed)
+runs_then ports up routes runs number bytes passed = grind arith
 
 -- what is sent for it
 pub record AreForwards (ports : List Port) (up : List ℕ) (routes : List RouteOffer) (runs : Bool) (number : ℕ) (bytes : List ℕ) (sents : List Sent) : Type 0 where

@@ -1,13 +1,12 @@
 -- What holds of all services of a list holds of the nearest of them, and of either of two lists.
-use Rattle.std.proofs.Common.{Bool, true, false, if◌then◌else◌, List, [], ◌∷◌, inl, inr}
+use Rattle.std.proofs.Common.{Bool, if◌then◌else◌, List, [], ◌∷◌, inl, inr, arith}
 use Rattle.std.specs.List.{AllByRecursion}
 use Rattle.std.proofs.lemmas.Bool.{cases_Bool}
 use Rattle.ipx_wire.specs.declared.service.Service.{Service}
 use Rattle.ipx_router.specs.Sends.{is_nearer, nearest_of}
 
 pub either : (P : Service → Type 0) (c : Bool) (xs ys : List Service) → AllByRecursion P xs → AllByRecursion P ys → AllByRecursion P (if c then xs else ys)
-either P true xs ys one two = one
-either P false xs ys one two = two
+either P c xs ys one two = grind arith
 
 pub nearest_all : (P : Service → Type 0) (services : List Service) → AllByRecursion P services → AllByRecursion P (nearest_of services)
 nearest_all P [] all = tt

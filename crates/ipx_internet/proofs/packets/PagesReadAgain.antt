@@ -1,5 +1,5 @@
 -- A router's own responses, read again: the pages of entries or of services that were written.
-use Rattle.std.proofs.Common.{◌≡◌, refl, subst, ℕ, ◌≤◌, Bool, List, [], length, map, Ok, arith, lit<, append-nil}
+use Rattle.std.proofs.Common.{◌≡◌, refl, subst, ℕ, ◌≤◌, Bool, List, [], length, map, Ok, arith, append-nil}
 use Rattle.std.specs.List.{AllByRecursion}
 use Rattle.ipx_wire.specs.Packet.{packet_of}
 use Rattle.ipx_wire.specs.Piece.{IsBytes}
@@ -18,7 +18,6 @@ use Rattle.ipx_router.specs.Pages.{pages}
 use Rattle.ipx_router.specs.Port.{Port, IsPort, port_at, own_address, everyone, own_services, every_server}
 use Rattle.ipx_router.specs.Sends.{entries_sent, rip_sends, services_sent, sap_sends}
 use Rattle.ipx_router.proofs.bytes.FieldsAreBytes.{IsPlace, IsTellable, rip_are_bytes, sap_are_bytes, parts_bytes}
-use Rattle.ipx_router.proofs.bytes.ListsOfBytes.{bytes_same}
 use Rattle.ipx_router.proofs.sending.OwnPacketsAreValid.{Writable}
 use Rattle.ipx_router.proofs.lists.ItemsOfPages.{IsPage, all_pages}
 use Rattle.ipx_router.proofs.bytes.LawsOfLayouts.{Readings, Rereadings, alone}
@@ -47,28 +46,16 @@ Tellable Q service = IsTellable service × Q service
 -- ---- the ports' addresses
 
 pub own_is : (port : Port) → IsPort port → IsPlace (own_address port)
-own_is port is = record {
-  ranges = record { network = omega (arith, is.ordinary_network); node = is.six_bytes; socket = lit< tt };
-  node = is.bytes;
-}
+own_is port is = grind arith
 
 pub services_is : (port : Port) → IsPort port → IsPlace (own_services port)
-services_is port is = record {
-  ranges = record { network = omega (arith, is.ordinary_network); node = is.six_bytes; socket = lit< tt };
-  node = is.bytes;
-}
+services_is port is = grind arith
 
 pub everyone_is : (port : Port) → IsPort port → IsPlace (everyone port)
-everyone_is port is = record {
-  ranges = record { network = omega (arith, is.ordinary_network); node = refl; socket = lit< tt };
-  node = bytes_same 6 255 (lit< tt);
-}
+everyone_is port is = grind arith
 
 pub every_server_is : (port : Port) → IsPort port → IsPlace (every_server port)
-every_server_is port is = record {
-  ranges = record { network = omega (arith, is.ordinary_network); node = refl; socket = lit< tt };
-  node = bytes_same 6 255 (lit< tt);
-}
+every_server_is port is = grind arith
 
 -- ---- pages
 

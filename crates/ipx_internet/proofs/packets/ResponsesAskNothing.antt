@@ -1,5 +1,5 @@
 -- What a response says asks nothing, whichever process reads it.
-use Rattle.std.proofs.Common.{◌≡◌, refl, sym, subst, ◌⊎◌, ℕ, Bool, true, false, List, length, Some, None, Result, Ok, Err, IfOk, nat_lt, inl, inr}
+use Rattle.std.proofs.Common.{◌≡◌, refl, sym, subst, ◌⊎◌, ℕ, Bool, true, false, List, length, Some, None, Result, Ok, Err, IfOk, nat_lt, inl, inr, arith}
 use Rattle.std.proofs.lemmas.Bool.{cases_Bool}
 use Rattle.ipx_wire.specs.Packet.{Parts}
 use Rattle.ipx_wire.specs.Rip.{RipParts, operation_field, operation_of, operated, rip_of}
@@ -25,8 +25,7 @@ pub rip_answers : (page : List RipEntry) → Answers (rip_payload Response page)
 rip_answers page = inl refl
 
 pub sap_answers : (nearest : Bool) (page : List Service) → Answers (sap_payload nearest page)
-sap_answers true page = inr refl
-sap_answers false page = inl refl
+sap_answers nearest page = grind arith
 
 -- a response, of either kind
 abbrev pub IsAnswering : Heard → Type 0

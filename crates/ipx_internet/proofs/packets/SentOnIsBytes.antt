@@ -1,4 +1,5 @@
 -- What a router sends on of bytes are bytes.
+use Rattle.std.proofs.lemmas.Grind.{common_steps}
 use Rattle.std.proofs.Common.{◌≡◌, sym, subst, ℕ, zero, suc, ◌+◌, ◌*◌, ◌/◌, ◌^◌, ◌<◌, ◌≤◌, List, [], ◌∷◌, ◌++◌, take, drop, replicate, length, arith, lit<}
 use Rattle.std.specs.Int.{byte_at, bytes_high_first}
 use Rattle.std.specs.List.{AllByRecursion}
@@ -27,16 +28,10 @@ at_each_place : (bs : List ℕ) → AreBytes bs → IsBytes bs
 at_each_place bs all i = all_or IsByte bs i 0 all (lit< tt)
 
 taken : (n : ℕ) (bs : List ℕ) → AreBytes bs → AreBytes (take n bs)
-taken zero [] all = tt
-taken zero (b ∷ bs) all = tt
-taken (suc n) [] all = tt
-taken (suc n) (b ∷ bs) all = (all.0, taken n bs all.1)
+taken n bs all = grind (arith, common_steps)
 
 dropped : (n : ℕ) (bs : List ℕ) → AreBytes bs → AreBytes (drop n bs)
-dropped zero [] all = tt
-dropped zero (b ∷ bs) all = all
-dropped (suc n) [] all = tt
-dropped (suc n) (b ∷ bs) all = dropped n bs all.1
+dropped n bs all = grind (arith, common_steps)
 
 of_number : (k n : ℕ) → AreBytes (bytes_high_first k n)
 of_number zero n = tt

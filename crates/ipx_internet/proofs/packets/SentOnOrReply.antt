@@ -6,8 +6,7 @@ use Rattle.ipx_wire.specs.Forward.{forwarded, propagated}
 use Rattle.ipx_wire.specs.Packet.{Parts, IsPacket, packet_of}
 use Rattle.ipx_wire.specs.Piece.{IsBytes}
 use Rattle.ipx_wire.specs.Rip.{IsEntry, RipParts}
-use Rattle.ipx_wire.specs.Write.{packet_bytes, rip_packet_parts}
-use Rattle.ipx_wire.specs.WriteServices.{sap_packet_parts}
+use Rattle.ipx_wire.specs.Write.{packet_bytes}
 use Rattle.ipx_wire.specs.declared.address.Address.{Address}
 use Rattle.ipx_wire.specs.declared.network.Network.{Network}
 use Rattle.ipx_wire.specs.declared.rip.Operation.{Operation}
@@ -45,7 +44,7 @@ use Rattle.ipx_router.proofs.telling.ToldFitsFields.{told_fits, told_services_fi
 use Rattle.ipx_router.proofs.bytes.LawsOfLayouts.{Readings, Rereadings}
 use Rattle.ipx_internet.proofs.lists.EachElement.{all_of, all_then, all-append, all-filter, all-flat_map}
 use Rattle.ipx_internet.proofs.packets.PagesReadAgain.{IsRipPage, IsSapPage, Tellable, everyone_is, every_server_is, rip_pages, sap_pages}
-use Rattle.ipx_internet.proofs.packets.ResponsesAskNothing.{Answers, rip_answers, sap_answers, IsAnswering}
+use Rattle.ipx_internet.proofs.packets.ResponsesAskNothing.{Answers, IsAnswering}
 
 -- the laws of packets and of routers that settling rests on
 pub record Layouts : Type 0 where
@@ -70,23 +69,11 @@ pub record IsReply (port : Port) (bytes : List ℕ) : Type 0 where
   pub answers : Answers packet.payload
 
 pub rip_reply : (P : RipEntry → Type 0) (port : Port) (from to : Address) (bytes : List ℕ) → to.network ≡ port.network → IsRipPage P from to bytes → IsReply port bytes
-rip_reply P port from to bytes home is = record {
-  packet = rip_packet_parts from to Response is.page;
-  read = is.read;
-  plain = refl;
-  home = home;
-  answers = rip_answers is.page;
-}
+rip_reply P port from to bytes home is = grind arith
 
 pub sap_reply : (Q : Service → Type 0) (port : Port) (from to : Address) (nearest : Bool) (bytes : List ℕ) → to.network ≡ port.network → IsSapPage Q from to nearest bytes
     → IsReply port bytes
-sap_reply Q port from to nearest bytes home is = record {
-  packet = sap_packet_parts from to nearest is.page;
-  read = is.read;
-  plain = refl;
-  home = home;
-  answers = sap_answers nearest is.page;
-}
+sap_reply Q port from to nearest bytes home is = grind arith
 
 -- a page of changes, broadcast on a port
 abbrev pub IsNewsSent : (RipEntry → Type 0) → (Service → Type 0) → Port → List ℕ → Type 0
@@ -99,8 +86,7 @@ pub record IsCast (up : List ℕ) (P : ℕ → RipEntry → Type 0) (Q : ℕ →
   pub news : IsNewsSent (P s.port) (Q s.port) (port_at ports s.port) s.bytes
 
 pub news_reply : (P : RipEntry → Type 0) (Q : Service → Type 0) (port : Port) (bytes : List ℕ) → IsNewsSent P Q port bytes → IsReply port bytes
-news_reply P Q port bytes (inl is) = rip_reply P port (own_address port) (everyone port) bytes refl is
-news_reply P Q port bytes (inr is) = sap_reply Q port (own_services port) (every_server port) false bytes refl is
+news_reply P Q port bytes given = grind arith
 
 -- ---- what is sent on
 
@@ -204,8 +190,7 @@ module _ (laws : Layouts) (ports : List Port) (are : AllByRecursion IsPort ports
       ]
 
   pub either_fits : (c : Bool) (xs ys : List Service) → AllByRecursion IsTellable xs → AllByRecursion IsTellable ys → AllByRecursion IsTellable (if c then xs else ys)
-  either_fits true xs ys one two = one
-  either_fits false xs ys one two = two
+  either_fits c xs ys one two = grind arith
 
   -- ---- broadcasts
 
@@ -300,10 +285,7 @@ module _ (laws : Layouts) (ports : List Port) (are : AllByRecursion IsPort ports
         judged o = elim o [ Some reason ↦ [] | None ↦ for heard_now ]
 
     said_all : (P : Sent → Type 0) (m : Heard) → heard_now ≡ Some m → AllByRecursion P (heard_sends ports before after number m) → AllByRecursion P sent
-    said_all P m e all = elim (said m e) [
-      | inl none ↦ subst (λ (ss : List Sent). AllByRecursion P ss) (sym none) tt
-      | inr these ↦ subst (λ (ss : List Sent). AllByRecursion P ss) (sym these) all
-    ]
+    said_all P m e all = grind (arith, said)
 
     is_port : (j : ℕ) → j < length ports → IsPort (port_at ports j)
     is_port j there = port-all IsPort ports j are there

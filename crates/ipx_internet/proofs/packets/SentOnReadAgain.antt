@@ -25,9 +25,7 @@ pub record Wire : Type 0 where
 module _ (w : Wire) (bytes : List ℕ) (p : Parts) (is : IsPacket bytes p) where
   -- what is sent on is read as it was changed
   pub read_forwarded : p.header.control < most_routers → IsPacket (packet_bytes (forwarded p)) (forwarded p)
-  read_forwarded few =
-      let P : List ℕ → Type 0 = λ bytes. IsPacket bytes (forwarded p) in
-      subst P (append-nil (packet_bytes (forwarded p))) (w.forwarded_again bytes p [] is (omega (arith, few)))
+  read_forwarded few = grind (arith, append-nil)
 
   pub read_propagated : (arrived outgoing : Network) (networks : List Network) → IsCrossed p.header.control p.payload networks → IsNetwork outgoing
       → IsPacket (packet_bytes (propagated arrived outgoing p)) (propagated arrived outgoing p)

@@ -37,9 +37,7 @@ place_in net place within =
 
 -- a network has no more ports than the greatest number
 pub network_small : (net : Internet) (place : Place) → IsPlace net place → length (on_network net (network_of net place)) ≤ most_on_network net
-network_small net place within =
-    at_most_greatest (length (on_network net (network_of net place))) (map (λ place. length (on_network net (network_of net place))) (places net))
-    (in_image (λ place. length (on_network net (network_of net place))) place (places net) (place_in net place within))
+network_small net place within = grind (arith, at_most_greatest, in_image, place_in)
 
 -- a packet reaches no more ports than the others of the network
 pub delivered_few : (net : Internet) (from : Place) (link : Node) → IsPlace net from → length (delivered net from link) ≤ most_on_network net - 1

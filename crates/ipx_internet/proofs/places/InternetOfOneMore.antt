@@ -1,4 +1,5 @@
 -- One router more, none of whose ports has network and node of a port of another: it stays an internet.
+use Rattle.std.proofs.lemmas.Grind.{common_steps}
 use Rattle.std.proofs.Common.{◌≡◌, sym, ap, ◌∙◌, subst, ℕ, ◌+◌, ◌<◌, List, [], ◌∷◌, ◌++◌, length, drop, inl, inr, arith, length-append}
 use Rattle.std.specs.List.{AllByRecursion}
 use Rattle.std.proofs.lemmas.Bool.{cases_lt}
@@ -28,23 +29,17 @@ module _ (net : Internet) (ports : List Port) where
   same_port place less = ap (λ (ps : List Port). port_at ps place.port) (same_ports place.router less)
 
   still_place : (place : Place) → IsPlace net place → IsPlace wider place
-  still_place place there =
-      subst (λ (ps : List Port). place.port < length ps) (sym (same_ports place.router (within_net net place.router place.port there))) there
+  still_place place there = grind (arith, same_ports, within_net)
 
   was_place : (place : Place) → place.router < length net → IsPlace wider place → IsPlace net place
   was_place place less there = subst (λ (ps : List Port). place.port < length ps) (same_ports place.router less) there
 
   -- a port of the router that is new
   last_number : (place : Place) → length net < place.router + 1 → IsPlace wider place → place.router ≡ length net
-  last_number place from there =
-      let less = within_net wider place.router place.port there in
-      let size = length-append net (ports ∷ []) in
-      omega (arith, from, less, size)
+  last_number place from there = grind (arith, common_steps, within_net, length-append)
 
   last_ports : (router : ℕ) → router ≡ length net → ports_of wider router ≡ ports
-  last_ports router is =
-      let none_more : length net ≡ length net + 0 = omega arith in
-      ap (λ n. ports_of wider n) (is ∙ none_more) ∙ get_or-append-add net (ports ∷ []) 0 []
+  last_ports router is = grind (arith, common_steps, get_or-append-add)
 
   -- a port of it and one of another have different nodes, where they are on one network
   module _ (fresh : SharesNode net ports → ⊥) where
@@ -83,10 +78,7 @@ module _ (net : Internet) (ports : List Port) where
     ]
 
   is_wider : IsInternet net → AllByRecursion IsPort ports → AreApart ports → IsInternet wider
-  is_wider is are apart = record {
-    ports = all-append (AllByRecursion IsPort) net (ports ∷ []) is.ports (are, tt);
-    apart = all-append AreApart net (ports ∷ []) is.apart (apart, tt);
-  }
+  is_wider is are apart = grind (arith, all-append)
 
 pub wider_net : (routers : List State) (r : State) → net_among (routers ++ r ∷ []) ≡ net_among routers ++ r.ports ∷ []
 wider_net routers r = map-append (λ (s : State). s.ports) routers (r ∷ [])

@@ -1,6 +1,5 @@
 -- The most stations that are on one network are the most ports that are.
-use Rattle.std.proofs.Common.{◌≡◌, refl, ap, ◌∙◌, ℕ, ◌≤◌, ◌==◌, ◌⊎◌, List, [], ◌∷◌, length, map, filter, inl, inr, arith}
-use Rattle.std.proofs.lemmas.Bool.{cases_Bool, eqb-true}
+use Rattle.std.proofs.Common.{◌≡◌, refl, ap, ◌∙◌, ℕ, ◌≤◌, ◌==◌, ◌⊎◌, List, [], ◌∷◌, length, map, filter, inl, arith}
 use Rattle.std.proofs.lemmas.List.{length-map}
 use Rattle.ipx_wire.specs.declared.network.Network.{Network}
 use Rattle.ipx_internet.specs.Internet.{Internet, Place, network_of, places}
@@ -20,35 +19,16 @@ module _ (net : Internet) (list : List Station) (are : AreOf net list) (most : �
 
   no_more : (ps : List Place) → greatest (map beside ps) ≤ most
   no_more [] = omega arith
-  no_more (place ∷ ps) =
-      let rest = no_more ps in
-      let few = index.few (network_of net place) in
-      let same = as_many (network_of net place) in
-      omega (arith, rest, few, same)
+  no_more (place ∷ ps) = grind (arith, no_more ps, as_many)
 
   -- of some ports none is on a network, or one is
   none_or_one : (network : Network) (ps : List Place) → (filter (λ p. (network_of net p).0 == network.0) ps ≡ [])
       ⊎ ((place : Place) × IsIn place ps × ((network_of net place).0 ≡ network.0))
   none_or_one network [] = inl refl
-  none_or_one network (p ∷ ps) = elim (cases_Bool ((network_of net p).0 == network.0)) [
-    | inl here ↦ inr (p, inl refl, eqb-true (network_of net p).0 network.0 here)
-    | inr other ↦ elim (none_or_one network ps) [
-      | inl none ↦ inl (rw other none)
-      | inr one ↦ inr (one.0, inr one.1, one.2)
-    ]
-  ]
+  none_or_one network (p ∷ ps) = grind (arith, none_or_one network ps)
 
   no_fewer : most ≤ most_on_network net
-  no_fewer =
-      let full = index.full in
-      let same = as_many index.fullest in
-      elim (none_or_one index.fullest (places net)) [
-        | inl none ↦ let empty : length (on_network net index.fullest) ≡ 0 = ap length none in omega (arith, full, same, empty)
-        | inr one ↦
-            let all : beside one.0 ≤ most_on_network net = at_most_greatest (beside one.0) (map beside (places net)) (in_image beside one.0 (places net) one.1) in
-            let at : beside one.0 ≡ length (on_network net index.fullest) = ap (λ (n : Network). length (on_network net n)) (same_number (network_of net one.0) index.fullest one.2) in
-            omega (arith, full, same, all, at)
-      ]
+  no_fewer = grind (arith, as_many, none_or_one, at_most_greatest, in_image, same_number)
 
   pub most_stations : most ≡ most_on_network net
   most_stations = let few = no_more (places net) in let enough = no_fewer in omega (arith, few, enough)

@@ -1,5 +1,5 @@
 -- Whether a station has a node: just where a port of the internet has it.
-use Rattle.std.proofs.Common.{◌≡◌, ◌↔◌, refl, sym, ap, ◌∙◌, ℕ, zero, suc, ◌<◌, ◌==◌, Bool, true, false, List, [], ◌∷◌, map, filter, length, slice_get, Option, None, Some, inl, inr, arith}
+use Rattle.std.proofs.Common.{◌≡◌, ◌↔◌, refl, sym, ap, ◌∙◌, ℕ, zero, suc, ◌<◌, ◌==◌, Bool, true, false, List, [], ◌∷◌, map, filter, length, slice_get, None, Some, inl, inr, arith}
 use Rattle.std.specs.List.{AllByRecursion, list_any}
 use Rattle.std.proofs.lemmas.Bool.{cases_Bool, both_ways, eq-eqb, eqb-true, or_cases, or_left, or_right}
 use Rattle.std.proofs.lemmas.Option.{get_or_from_slice_get}
@@ -8,7 +8,7 @@ use Rattle.ipx_router.specs.Port.{Port, port_at, same_node}
 use Rattle.ipx_internet.specs.Internet.{Internet, Place, port_of, network_of, IsPlace, places}
 use Rattle.ipx_internet.specs.Moment.{HasNode, SharesNode}
 use Rattle.ipx_internet.specs.Most.{on_network}
-use Rattle.ipx_internet.specs.inside.Stations.{stations_on, station_at, AreOf}
+use Rattle.ipx_internet.specs.inside.Stations.{stations_on, AreOf}
 use Rattle.ipx_internet.specs.declared.stations.Station.{Station}
 use Rattle.ipx_internet.proofs.lists.EachElement.{all_passed}
 use Rattle.ipx_internet.proofs.lists.HowManyPass.{IsIn}
@@ -22,9 +22,7 @@ port_found ports k p e = get_or_from_slice_get ports k p (port_at [] 0) e
 
 pub no_port : (ports : List Port) (k : ℕ) → slice_get ports k ≡ None → k < length ports → ⊥
 no_port [] k e less = absurd (omega (arith, less))
-no_port (p ∷ ports) zero e less =
-    let there : Option Port → Bool = λ o. elim o [ Some q ↦ true | None ↦ false ] in
-    both_ways true (ap there e) refl
+no_port (p ∷ ports) zero e less = grind arith
 no_port (p ∷ ports) (suc k) e less = no_port ports k e (omega (arith, less))
 
 -- a station on the port's network has its node
@@ -72,8 +70,7 @@ module _ {X : Type 0} where
 module _ (nodes : (a b : Node) → (same_node a b ≡ true ↔ a ≡ b)) (net : Internet) (list : List Station) (of : AreOf net list) where
   -- as of the ports on the network
   seen : (p : Port) → is_taken list p ≡ list_any (λ place. same_node (port_of net place).node p.node) (on_network net p.network)
-  seen p = ap (λ ss. list_any (λ s. same_node s.node p.node) ss) (of.each p.network)
-      ∙ any_image (λ s. same_node s.node p.node) (station_at net) (on_network net p.network)
+  seen p = grind (arith, any_image)
 
   pub taken_has : (p : Port) → is_taken list p ≡ true → HasNode net p
   taken_has p taken =
@@ -89,12 +86,7 @@ module _ (nodes : (a b : Node) → (same_node a b ≡ true ↔ a ≡ b)) (net : 
       }
 
   pub has_taken : (p : Port) → HasNode net p → is_taken list p ≡ true
-  has_taken p has =
-      let test : Place → Bool = λ place. (network_of net place).0 == p.network.0 in
-      seen p
-      ∙ finds (λ place. same_node (port_of net place).node p.node) has.place (on_network net p.network)
-      (stays_in test has.place (places net) (place_in net has.place has.there) (eq-eqb _ _ (ap (λ n. n.0) has.network)))
-      ((nodes (port_of net has.place).node p.node).1 has.node)
+  has_taken p has = grind (arith, seen, finds, stays_in, place_in, eq-eqb)
 
   -- none of some ports is taken
   pub shares_none : (ports : List Port) → ((k : ℕ) → k < length ports → is_taken list (port_at ports k) ≡ false) → SharesNode net ports → ⊥

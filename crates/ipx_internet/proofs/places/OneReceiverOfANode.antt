@@ -1,7 +1,7 @@
 -- Who receives a packet: what a delivery says of the port, and that a packet for one node has one receiver.
-use Rattle.std.proofs.Common.{◌≡◌, ◌≢◌, refl, sym, ap, ap₂, ◌∙◌, subst, ℕ, zero, suc, ◌<◌, ◌==◌, ◌||◌, true, false, List, [], ◌∷◌, length, inl, inr, arith}
+use Rattle.std.proofs.Common.{◌≡◌, ◌≢◌, refl, ap, ℕ, zero, suc, ◌<◌, ◌||◌, true, false, List, [], ◌∷◌, length, arith}
 use Rattle.std.specs.List.{AllByRecursion}
-use Rattle.std.proofs.lemmas.Bool.{and_parts, or_cases, not-true, eqb-true, eqb-false, cases_eq, both_ways}
+use Rattle.std.proofs.lemmas.Bool.{cases_eq}
 use Rattle.ipx_wire.specs.declared.network.Network.{Network}
 use Rattle.ipx_wire.specs.declared.node.Node.{Node}
 use Rattle.ipx_router.specs.Port.{Port, IsPort, AreApart, broadcast, port_at, same_node}
@@ -17,17 +17,13 @@ pub one_port : (ports : List Port) → AreApart ports → (i j : ℕ) → i < le
     → (port_at ports i).network ≡ (port_at ports j).network → i ≡ j
 one_port [] apart i j one two e = absurd (omega (arith, one))
 one_port (p ∷ ports) apart zero zero one two e = refl
-one_port (p ∷ ports) apart zero (suc j) one two e =
-    absurd (all_at (λ q. q.network ≢ p.network) ports j (port_at [] 0) apart.0 (omega (arith, two)) (sym e))
-one_port (p ∷ ports) apart (suc i) zero one two e =
-    absurd (all_at (λ q. q.network ≢ p.network) ports i (port_at [] 0) apart.0 (omega (arith, one)) e)
+one_port (p ∷ ports) apart zero (suc j) one two e = grind (arith, all_at)
+one_port (p ∷ ports) apart (suc i) zero one two e = grind (arith, all_at)
 one_port (p ∷ ports) apart (suc i) (suc j) one two e = ap suc (one_port ports apart.1 i j (omega (arith, one)) (omega (arith, two)) e)
 
 -- networks of one number are one
 pub same_number : (a b : Network) → a.0 ≡ b.0 → a ≡ b
-same_number a b e =
-    let with_number : ℕ → Network = λ n. record { 0 = n } in
-    ap with_number e
+same_number a b e = grind arith
 
 module _ (net : Internet) (is : IsInternet net) where
   -- ports of a router that there is or isn't
@@ -44,15 +40,10 @@ module _ (net : Internet) (is : IsInternet net) where
   -- places on one network in one router are one
   same_router : (r s i j : ℕ) → r ≡ s → IsPlace net (record { router = r; port = i }) → IsPlace net (record { router = s; port = j })
       → network_of net (record { router = r; port = i }) ≡ network_of net (record { router = s; port = j }) → i ≡ j
-  same_router r s i j e one two nets =
-      let P : ℕ → Type 0 = λ s. IsPlace net (record { router = s; port = j }) in
-      let Q : ℕ → Type 0 = λ s. network_of net (record { router = r; port = i }) ≡ network_of net (record { router = s; port = j }) in
-      one_port (ports_of net r) (apart_at r) i j one (subst P (sym e) two) (subst Q (sym e) nets)
+  same_router r s i j e one two nets = grind (arith, one_port, apart_at)
 
   pub same_place : (a b : Place) → a.router ≡ b.router → IsPlace net a → IsPlace net b → network_of net a ≡ network_of net b → a ≡ b
-  same_place a b e one two nets =
-      let place : ℕ → ℕ → Place = λ router port. record { router = router; port = port } in
-      ap₂ place e (same_router a.router b.router a.port b.port e one two nets)
+  same_place a b e one two nets = grind (arith, same_router)
 
 -- ---- a delivery
 
@@ -63,29 +54,14 @@ pub record Receives (net : Internet) (from : Place) (link : Node) (to : Place) :
   pub node : (same_node (port_of net to).node link || same_node link broadcast) ≡ true
 
 pub receives_is : (net : Internet) (from : Place) (link : Node) (to : Place) → receives net from link to ≡ true → Receives net from link to
-receives_is net from link to e =
-    let parts = and_parts _ _ e in
-    let first = and_parts _ _ parts.0 in
-    record {
-      other = eqb-false to.router from.router (not-true (to.router == from.router) first.0);
-      network = same_number (network_of net to) (network_of net from) (eqb-true (network_of net to).0 (network_of net from).0 first.1);
-      node = parts.1;
-    }
+receives_is net from link to e = grind arith
 
 -- what isn't for all has the receiver's node
 for_one : (w : Wire) (net : Internet) (from : Place) (link : Node) (to : Place) → Receives net from link to → same_node link broadcast ≡ false
     → (port_of net to).node ≡ link
-for_one w net from link to received one = elim (or_cases _ _ received.node) [
-  | inl e ↦ (w.same_nodes (port_of net to).node link).0 e
-  | inr all ↦ absurd (both_ways (same_node link broadcast) one all)
-]
+for_one w net from link to received one = grind arith
 
 -- a packet for one node is received by one port
 pub one_receiver : Wire → (net : Internet) → IsInternet net → NodesDiffer net → (from : Place) (link : Node) (a b : Place) → same_node link broadcast ≡ false
     → IsPlace net a → IsPlace net b → Receives net from link a → Receives net from link b → a ≡ b
-one_receiver w net is differ from link a b one at_a at_b first second =
-    let nets : network_of net a ≡ network_of net b = first.network ∙ sym second.network in
-    elim (cases_eq a.router b.router) [
-      | inl e ↦ same_place net is a b e at_a at_b nets
-      | inr apart ↦ absurd (differ a b at_a at_b apart nets (for_one w net from link a first one ∙ sym (for_one w net from link b second one)))
-    ]
+one_receiver w net is differ from link a b one at_a at_b first second = grind (arith, cases_eq, same_place, for_one)

@@ -1,13 +1,13 @@
 -- One router more: its ports are the last places, and their stations the last on each network.
-use Rattle.std.proofs.Common.{◌≡◌, refl, sym, ap, ap₂, ◌∙◌, ℕ, suc, ◌+◌, ◌<◌, ◌==◌, Bool, if◌then◌else◌, List, [], ◌∷◌, ◌++◌, length, map, filter, flat_map, inl, inr, arith, append-nil, append_assoc, length-append}
+use Rattle.std.proofs.Common.{◌≡◌, refl, sym, ap, ap₂, ◌∙◌, ℕ, suc, ◌+◌, ◌<◌, ◌==◌, Bool, if◌then◌else◌, List, [], ◌∷◌, ◌++◌, length, map, filter, flat_map, inl, inr, arith, append-nil, append_assoc, length-append, rules}
 use Rattle.std.specs.List.{AllByRecursion}
 use Rattle.std.proofs.lemmas.Bool.{cases_Bool}
-use Rattle.std.proofs.lemmas.Grind.{flat_map-append}
+use Rattle.std.proofs.lemmas.Grind.{flat_map-append, common_steps}
 use Rattle.std.proofs.lemmas.List.{get_or_append_left, get_or-append-add, map-append}
 use Rattle.std.proofs.lemmas.List.Elements.{filter-append}
 use Rattle.ipx_wire.specs.declared.network.Network.{Network}
 use Rattle.ipx_router.specs.Port.{Port, port_at, numbers}
-use Rattle.ipx_internet.specs.Internet.{Internet, Place, ports_of, port_of, network_of, places}
+use Rattle.ipx_internet.specs.Internet.{Internet, Place, ports_of, network_of, places}
 use Rattle.ipx_internet.specs.Most.{on_network}
 use Rattle.ipx_internet.specs.inside.Stations.{stations_on, station, station_at, AreOf}
 use Rattle.ipx_internet.specs.declared.stations.Station.{Station}
@@ -24,23 +24,13 @@ module _ {X : Type 0} where
   image_same : {Y : Type 0} (p q : X → Bool) (f g : X → Y) (xs : List X) → AllByRecursion (λ x. (p x ≡ q x) × (f x ≡ g x)) xs
       → map f (filter p xs) ≡ map g (filter q xs)
   image_same p q f g [] all = refl
-  image_same p q f g (x ∷ xs) all =
-      let rest = image_same p q f g xs all.1 in
-      elim (cases_Bool (q x)) [
-        | inl e ↦ rw (all.0.0 ∙ e, e) (ap₂ (λ y ys. y ∷ ys) all.0.1 rest)
-        | inr e ↦ rw (all.0.0 ∙ e, e) rest
-      ]
+  image_same p q f g (x ∷ xs) all = grind (arith, image_same p q f g xs all.1)
 
   -- the same by a test of the images
   image_filter : {Y Z : Type 0} (f : X → Y) (g : Y → Z) (h : X → Z) (p : Y → Bool) (q : Z → Bool) → ((x : X) → g (f x) ≡ h x) → ((x : X) → p (f x) ≡ q (h x))
       → (xs : List X) → map g (filter p (map f xs)) ≡ filter q (map h xs)
   image_filter f g h p q images tests [] = refl
-  image_filter f g h p q images tests (x ∷ xs) =
-      let rest = image_filter f g h p q images tests xs in
-      elim (cases_Bool (q (h x))) [
-        | inl e ↦ rw (tests x ∙ e, e) (ap₂ (λ y ys. y ∷ ys) (images x) rest)
-        | inr e ↦ rw (tests x ∙ e, e) rest
-      ]
+  image_filter f g h p q images tests (x ∷ xs) = grind (arith, image_filter f g h p q images tests xs)
 
 -- ---- stations of one router
 
@@ -98,21 +88,11 @@ module _ (net : Internet) (ports : List Port) where
   old_ports router less = get_or_append_left net (ports ∷ []) [] router less
 
   new_ports : ports_of wider (length net) ≡ ports
-  new_ports = let zero_more : length net ≡ length net + 0 = omega arith in
-      ap (λ n. ports_of wider n) zero_more ∙ get_or-append-add net (ports ∷ []) 0 []
+  new_ports = grind (arith, common_steps, get_or-append-add)
 
   -- its places are those before, and those of the last router
   places_wider : places wider ≡ places net ++ map (at (length net)) (numbers (length ports))
-  places_wider =
-      let n = length net in
-      let size : length wider ≡ suc n = let joined = length-append net (ports ∷ []) in omega (arith, joined) in
-      let front : flat_map (of_router wider) (numbers n) ≡ places net =
-      flat_map_same (of_router wider) (of_router net) (numbers n)
-      (all_then (λ r. r < n) (λ r. of_router wider r ≡ of_router net r) (λ r less. ap (λ (ps : List Port). map (at r) (numbers (length ps))) (old_ports r less))
-      (numbers n) (numbers_below n)) in
-      let last : of_router wider n ++ [] ≡ map (at n) (numbers (length ports)) =
-      append-nil (of_router wider n) ∙ ap (λ (ps : List Port). map (at n) (numbers (length ps))) new_ports in
-      ap (λ m. flat_map (of_router wider) (numbers m)) size ∙ flat_map-append (of_router wider) (numbers n) (n ∷ []) ∙ ap₂ (λ a b. a ++ b) front last
+  places_wider = search (rules, length-append, flat_map_same, all_then, old_ports, numbers_below, append-nil, new_ports, flat_map-append)
 
   -- the places before are of routers before
   places_before : AllByRecursion (λ place. place.router < length net) (places net)
@@ -127,36 +107,17 @@ module _ (net : Internet) (ports : List Port) where
     on other place = (network_of other place).0 == network.0
 
     before : map (station_at wider) (filter (on wider) (places net)) ≡ map (station_at net) (on_network net network)
-    before =
-        image_same (on wider) (on net) (station_at wider) (station_at net) (places net)
-        (all_then (λ place. place.router < length net) (λ place. (on wider place ≡ on net place) × (station_at wider place ≡ station_at net place))
-        (λ place less.
-        let same : port_of wider place ≡ port_of net place = ap (λ (ps : List Port). port_at ps place.port) (old_ports place.router less) in
-        (ap (λ (p : Port). p.network.0 == network.0) same, ap (λ (p : Port). station place.router place.port p) same))
-        (places net) places_before)
+    before = grind (arith, image_same, all_then, old_ports, places_before)
 
     behind : map (station_at wider) (filter (on wider) (map (at (length net)) (numbers (length ports))))
         ≡ stations_on (stations_of (length net) ports (length ports)) network
-    behind =
-        image_filter (at (length net)) (station_at wider) (λ j. station (length net) j (port_at ports j)) (on wider) (λ s. s.network.0 == network.0)
-        (λ j. ap (λ (ps : List Port). station (length net) j (port_at ps j)) new_ports)
-        (λ j. ap (λ (ps : List Port). (port_at ps j).network.0 == network.0) new_ports)
-        (numbers (length ports))
+    behind = grind (arith, image_filter, new_ports)
 
     stations_wider : map (station_at wider) (on_network wider network)
         ≡ map (station_at net) (on_network net network) ++ stations_on (stations_of (length net) ports (length ports)) network
-    stations_wider =
-        ap (λ ps. map (station_at wider) (filter (on wider) ps)) places_wider
-        ∙ ap (λ ps. map (station_at wider) ps) (filter-append (on wider) (places net) (map (at (length net)) (numbers (length ports))))
-        ∙ map-append (station_at wider) (filter (on wider) (places net)) (filter (on wider) (map (at (length net)) (numbers (length ports))))
-        ∙ ap₂ (λ a b. a ++ b) before behind
+    stations_wider = grind (arith, places_wider, filter-append, map-append, before, behind)
 
 -- the stations of a router's ports behind those of an internet are those of the internet with that router
 pub are_wider : (net : Internet) (ports : List Port) (number : ℕ) (old new : List Station) → AreOf net old → length net ≡ number
     → HasFirst number ports (length ports) old new → AreOf (net ++ ports ∷ []) new
-are_wider net ports number old new of is has = record {
-  each = λ network.
-      has network
-      ∙ ap₂ (λ a n. a ++ stations_on (stations_of n ports (length ports)) network) (of.each network) (sym is)
-      ∙ sym (stations_wider net ports network);
-}
+are_wider net ports number old new of is has = grind (arith, stations_wider)

@@ -1,12 +1,11 @@
 -- The stations that hear what a port sends are those of the ports that receive it.
-use Rattle.std.proofs.Common.{◌≡◌, refl, sym, ap, ap₂, ◌∙◌, ℕ, ◌≤◌, ◌==◌, ◌&&◌, ◌||◌, not, Bool, false, List, [], ◌∷◌, length, map, filter, inl, inr, arith}
+use Rattle.std.proofs.Common.{◌≡◌, refl, ap₂, ◌∙◌, ℕ, ◌≤◌, ◌==◌, ◌&&◌, Bool, false, List, [], ◌∷◌, length, map, filter, inl, inr, arith}
 use Rattle.std.proofs.lemmas.Bool.{cases_Bool}
 use Rattle.std.proofs.lemmas.List.{length-map}
 use Rattle.ipx_wire.specs.declared.network.Network.{Network}
 use Rattle.ipx_wire.specs.declared.node.Node.{Node}
-use Rattle.ipx_router.specs.Port.{same_node, broadcast}
 use Rattle.ipx_internet.specs.Delivery.{receives, delivered}
-use Rattle.ipx_internet.specs.Internet.{Internet, Place, port_of, network_of, places}
+use Rattle.ipx_internet.specs.Internet.{Internet, Place, network_of}
 use Rattle.ipx_internet.specs.inside.Stations.{stations_on, station_at, place_of, hears, IsIndex, AreOf}
 use Rattle.ipx_internet.specs.declared.stations.Station.{Station}
 
@@ -30,44 +29,21 @@ module _ {X Y : Type 0} (f : X → Y) (g : Y → X) (p r : X → Bool) (h : Y �
 
 no_more_pass : {X : Type 0} (p : X → Bool) (xs : List X) → length (filter p xs) ≤ length xs
 no_more_pass p [] = omega arith
-no_more_pass p (x ∷ xs) =
-    let rest = no_more_pass p xs in
-    elim (cases_Bool (p x)) [
-      | inl e ↦ rw e (omega (arith, rest))
-      | inr e ↦ rw e (omega (arith, rest))
-    ]
+no_more_pass p (x ∷ xs) = grind (arith, no_more_pass p xs)
 
 module _ (net : Internet) (list : List Station) (of : AreOf net list) (from : Place) (link : Node) (network : Network)
     (is : network.0 ≡ (network_of net from).0) where
-  reordered : (a b c : Bool) → ((a && b) && c) ≡ (b && (a && c))
-  reordered a b c = elim (cases_Bool a) [
-    | inl e ↦ elim (cases_Bool b) [ inl f ↦ rw (e, f) refl | inr f ↦ rw (e, f) refl ]
-    | inr e ↦ elim (cases_Bool b) [ inl f ↦ rw (e, f) refl | inr f ↦ rw (e, f) refl ]
-  ]
-
   -- a port receives what its station, being on the network, hears
   received : (place : Place) → receives net from link place ≡ (((network_of net place).0 == network.0) && hears from.router link (station_at net place))
-  received place =
-      let a = not (place.router == from.router) in
-      let c = same_node (port_of net place).node link || same_node link broadcast in
-      ap (λ n. (a && ((network_of net place).0 == n)) && c) (sym is) ∙ reordered a ((network_of net place).0 == network.0) c
+  received place = grind arith
 
   -- by router and port
   pub heard : map place_of (filter (hears from.router link) (stations_on list network)) ≡ delivered net from link
-  heard =
-      ap (λ ss. map place_of (filter (hears from.router link) ss)) (of.each network)
-      ∙ passes_both (station_at net) place_of (λ place. (network_of net place).0 == network.0) (receives net from link)
-      (hears from.router link) (λ place. refl) received
-      (places net)
+  heard = grind (arith, passes_both, received)
 
   -- as many as may be on one network
   pub heard_few : (most : ℕ) → ((network : Network) → length (stations_on list network) ≤ most) → length (delivered net from link) ≤ most
-  heard_few most few =
-      let one = few network in
-      let fewer = no_more_pass (hears from.router link) (stations_on list network) in
-      let images = length-map (filter (hears from.router link) (stations_on list network)) place_of in
-      let same = ap (λ ps. length ps) heard in
-      omega (arith, one, fewer, images, same)
+  heard_few most few = grind (arith, no_more_pass, length-map, heard)
 
 -- the same at the port's network itself
 pub heard_at : (net : Internet) (list : List Station) → AreOf net list → (from : Place) (link : Node)

@@ -1,5 +1,5 @@
 -- Each change of an event is of a key that one of its offers told of.
-use Rattle.std.proofs.Common.{◌≡◌, refl, sym, ap, ◌∙◌, Bool, true, not, List, [], map, filter, Option, None, Some, inl, inr, Ordering, true≢false}
+use Rattle.std.proofs.Common.{◌≡◌, refl, sym, ap, ◌∙◌, Bool, true, not, List, [], map, filter, Option, inl, inr, Ordering, true≢false, arith}
 use Rattle.std.specs.List.{AllByRecursion}
 use Rattle.ipx_table.specs.Reading.{Reading}
 use Rattle.ipx_router.specs.Changes.{Change, same_or_none, put_keys, change_at, differs, changes}
@@ -16,8 +16,7 @@ module _ {O K : Type 0} (reading : Reading O K) (order : K → K → Ordering) (
     pub told : Told reading order P key c.after
 
   alike : (o : Option O) → same_or_none reading.key order same o o ≡ true
-  alike None = refl
-  alike (Some o) = itself o
+  alike o = grind arith
 
   module _ (P : O → Type 0) (before after : List O)
       (lefts : (key : K) → Left reading order P key (offer_at reading.key order key before) (offer_at reading.key order key after)) where

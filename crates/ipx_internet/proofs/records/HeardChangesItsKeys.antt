@@ -1,9 +1,7 @@
 -- What a packet leaves the tables with: each key has what it had, or an entry that was heard told of it.
-use Rattle.std.proofs.Common.{◌≡◌, refl, sym, subst, ℕ, List, [], ◌∷◌, ◌++◌, map, Option, None, Some, IfSome, inl, inr}
+use Rattle.std.proofs.Common.{◌≡◌, refl, ℕ, List, [], ◌∷◌, ◌++◌, Option, None, Some, IfSome, arith}
 use Rattle.std.specs.List.{AllByRecursion}
-use Rattle.std.proofs.lemmas.Bool.{cases_Bool}
-use Rattle.ipx_table.specs.Facts.{Fact, Offered}
-use Rattle.ipx_table.specs.Stands.{held}
+use Rattle.ipx_table.specs.Facts.{Offered}
 use Rattle.ipx_wire.specs.declared.network.Network.{Network}
 use Rattle.ipx_wire.specs.declared.node.Node.{Node}
 use Rattle.ipx_wire.specs.declared.rip.Operation.{Operation}
@@ -11,12 +9,12 @@ use Rattle.ipx_wire.specs.declared.rip.Operation.TheVariants.{Request, Response}
 use Rattle.ipx_wire.specs.declared.rip.RipEntry.{RipEntry}
 use Rattle.ipx_wire.specs.declared.sap.Sap.TheVariants.{Query, Response as SapResponse}
 use Rattle.ipx_wire.specs.declared.sap_entries.SapEntry.{SapEntry}
-use Rattle.ipx_router.specs.Facts.{route_offer, routes_offered, routes_heard, services_offered, services_heard, heard_after, route_facts, service_facts, route_facts_of, service_facts_of, routes_held, services_held, offers}
+use Rattle.ipx_router.specs.Facts.{route_offer, routes_offered, routes_heard, services_offered, services_heard, heard_after, routes_held, services_held, offers}
 use Rattle.ipx_router.specs.Heard.{Heard, HeardRip, HeardSap}
 use Rattle.ipx_router.specs.History.{History, Packet}
-use Rattle.ipx_router.specs.Port.{Port, takes_no_route}
-use Rattle.ipx_router.specs.Routes.{route_reading, network_order, route_rules}
-use Rattle.ipx_router.specs.Services.{service_reading, service_order, service_rules}
+use Rattle.ipx_router.specs.Port.{Port}
+use Rattle.ipx_router.specs.Routes.{route_reading, network_order}
+use Rattle.ipx_router.specs.Services.{service_reading, service_order}
 use Rattle.ipx_router.specs.inside.Touched.{offer_at}
 use Rattle.ipx_router.specs.declared.route_offer.RouteOffer.{RouteOffer}
 use Rattle.ipx_router.specs.declared.service_offer.ServiceOffer.{ServiceOffer}
@@ -47,10 +45,7 @@ module _ (E : RipEntry → Type 0) (S : SapEntry → Type 0) (P : RouteOffer →
   pub routes_are : (ports : List Port) (node : Node) (entries : List RipEntry) → AllByRecursion E entries
       → AllByRecursion (OffersOf P) (routes_offered ports number node entries)
   routes_are ports node [] all = tt
-  routes_are ports node (e ∷ entries) all = elim (cases_Bool (takes_no_route ports e.network)) [
-    | inl none ↦ rw none (routes_are ports node entries all.1)
-    | inr taken ↦ rw taken (route node e all.0, routes_are ports node entries all.1)
-  ]
+  routes_are ports node (e ∷ entries) all = grind (arith, routes_are ports node entries all.1)
 
   pub services_are : (node : Node) (entries : List SapEntry) → AllByRecursion S entries → AllByRecursion (OffersOf Q) (services_offered number node entries)
   services_are node [] all = tt
@@ -68,8 +63,7 @@ module _ (E : RipEntry → Type 0) (S : SapEntry → Type 0) (P : RouteOffer →
 
   by_operation : (ports : List Port) (node : Node) (operation : Operation) (entries : List RipEntry) → AllByRecursion E entries
       → AllByRecursion (OffersOf P) (elim operation [ Response ↦ routes_offered ports number node entries | Request ↦ [] ])
-  by_operation ports node Response entries all = routes_are ports node entries all
-  by_operation ports node Request entries all = tt
+  by_operation ports node operation entries all = grind (arith, routes_are)
 
   pub heard_routes : (ports : List Port) (o : Option Heard) → IfSome o (EachHeard E S) → AllByRecursion (OffersOf P) (routes_heard ports number o)
   heard_routes ports None all = tt
@@ -77,10 +71,7 @@ module _ (E : RipEntry → Type 0) (S : SapEntry → Type 0) (P : RouteOffer →
   heard_routes ports (Some (HeardRip source rip)) all = by_operation ports source.node rip.operation rip.entries all
 
   pub heard_services : (o : Option Heard) → IfSome o (EachHeard E S) → AllByRecursion (OffersOf Q) (services_heard number o)
-  heard_services None all = tt
-  heard_services (Some (HeardRip source rip)) all = tt
-  heard_services (Some (HeardSap source (Query nearest kind))) all = tt
-  heard_services (Some (HeardSap source (SapResponse nearest entries))) all = services_are source.node entries all
+  heard_services o all = grind (arith, services_are)
 
   -- ---- over a history
 
@@ -88,23 +79,9 @@ module _ (E : RipEntry → Type 0) (S : SapEntry → Type 0) (P : RouteOffer →
     pub routes_left : (key : Network)
         → Left route_reading network_order P key (offer_at route_reading.key network_order key (offers (routes_held ports capacity history)))
         (offer_at route_reading.key network_order key (offers (routes_held ports capacity (history ++ Packet number bytes ∷ []))))
-    routes_left key =
-        let new = routes_heard ports number (heard_after ports history number bytes) in
-        let After : List (Fact RouteOffer) → Type 0 = λ facts.
-        Left route_reading network_order P key (offer_at route_reading.key network_order key (offers (routes_held ports capacity history)))
-        (offer_at route_reading.key network_order key (offers (held (route_rules ports capacity) facts))) in
-        subst After (sym (facts_from-more (route_facts_of ports) [] history (Packet number bytes)))
-        (several route_reading network_order network_total capacity (map (λ p. p.route_share) ports) P new (route_facts ports history)
-        (heard_routes ports (heard_after ports history number bytes) all) key)
+    routes_left key = grind (arith, Left, facts_from-more, several, network_total, heard_routes)
 
     pub services_left : (key : ℕ × List ℕ)
         → Left service_reading service_order Q key (offer_at service_reading.key service_order key (offers (services_held ports capacity history)))
         (offer_at service_reading.key service_order key (offers (services_held ports capacity (history ++ Packet number bytes ∷ []))))
-    services_left key =
-        let new = services_heard number (heard_after ports history number bytes) in
-        let After : List (Fact ServiceOffer) → Type 0 = λ facts.
-        Left service_reading service_order Q key (offer_at service_reading.key service_order key (offers (services_held ports capacity history)))
-        (offer_at service_reading.key service_order key (offers (held (service_rules ports capacity) facts))) in
-        subst After (sym (facts_from-more (service_facts_of ports) [] history (Packet number bytes)))
-        (several service_reading service_order service_total capacity (map (λ p. p.service_share) ports) Q new (service_facts ports history)
-        (heard_services (heard_after ports history number bytes) all) key)
+    services_left key = grind (arith, Left, facts_from-more, several, service_total, heard_services)

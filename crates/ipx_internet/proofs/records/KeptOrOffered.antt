@@ -1,5 +1,5 @@
 -- What offers leave a key of a table with: what it had, nothing, or one of the offers.
-use Rattle.std.proofs.Common.{◌≡◌, refl, sym, ap, ◌∙◌, subst, ◌⊎◌, ℕ, true, false, List, [], ◌∷◌, ◌++◌, find, Option, None, Some, option_map, inl, inr, Ordering, is_eq, append_assoc, append-nil}
+use Rattle.std.proofs.Common.{◌≡◌, sym, ap, ◌∙◌, subst, ◌⊎◌, ℕ, true, false, List, [], ◌∷◌, ◌++◌, find, Option, None, Some, option_map, inl, inr, Ordering, is_eq, append_assoc, append-nil, arith}
 use Rattle.std.specs.List.{AllByRecursion}
 use Rattle.std.specs.Cmp.{IsTotalOrder}
 use Rattle.std.proofs.lemmas.Bool.{cases_Bool}
@@ -8,10 +8,8 @@ use Rattle.ipx_table.specs.Alive.{alive}
 use Rattle.ipx_table.specs.Facts.{Fact, Offered, Second, PortEnd, End}
 use Rattle.ipx_table.specs.Reading.{Reading, Rules, rules_of}
 use Rattle.ipx_table.specs.Stands.{held}
-use Rattle.ipx_table.specs.Taken.{known_of, offer_left, taken_down, taken_over}
+use Rattle.ipx_table.specs.Taken.{offer_left, taken_over}
 use Rattle.ipx_table.specs.declared.held.Held.{Held}
-use Rattle.ipx_table.specs.declared.taken.Taken.{Taken}
-use Rattle.ipx_table.specs.declared.taken.Taken.TheVariants.{Withdrawn, Nothing, Refreshed, Replaced, Worse, Admitted, Full}
 use Rattle.ipx_table.proofs.Exchanging.{left}
 use Rattle.ipx_table.proofs.History.{alive_after-offered}
 use Rattle.ipx_table.proofs.Living.{kept}
@@ -40,13 +38,8 @@ module _ {O K : Type 0} (reading : Reading O K) (order : K → K → Ordering) w
   abbrev pub Left : (O → Type 0) → K → Option O → Option O → Type 0
   Left P key before after = (after ≡ before) ⊎ Told P key after
 
-  same_told : (P : O → Type 0) (key : K) (mid after : Option O) → after ≡ mid → Told P key mid → Told P key after
-  same_told P key mid after e told = subst (λ (o : Option O). Told P key o) (sym e) told
-
   left_then : (P : O → Type 0) (key : K) (before mid after : Option O) → Left P key before mid → Left P key mid after → Left P key before after
-  left_then P key before mid after first (inr told) = inr told
-  left_then P key before mid after (inl same) (inl e) = inl (e ∙ same)
-  left_then P key before mid after (inr told) (inl e) = inr (same_told P key mid after e told)
+  left_then P key before mid after first given = grind arith
 
   module _ (total : IsTotalOrder order) (capacity : ℕ) (shares : List ℕ) where
     abbrev rules : Rules O
@@ -72,33 +65,9 @@ module _ {O K : Type 0} (reading : Reading O K) (order : K → K → Ordering) w
     abbrev Leaves : O → Option O → Option O → Type 0
     Leaves offer before after = (after ≡ before) ⊎ ((after ≡ None) ⊎ ((after ≡ Some offer) × (reading.is_down offer ≡ false)))
 
-    up_answer : (offer : O) (before : Option O) → reading.is_down offer ≡ false → (t : Taken) → Leaves offer before (offer_left t before offer)
-    up_answer offer before up Withdrawn = inr (inl refl)
-    up_answer offer before up Nothing = inl refl
-    up_answer offer before up (Refreshed changed) = inr (inr (refl, up))
-    up_answer offer before up Replaced = inr (inr (refl, up))
-    up_answer offer before up Worse = inl refl
-    up_answer offer before up Admitted = inr (inr (refl, up))
-    up_answer offer before up Full = inl refl
-
-    down_answer : (offer : O) (before : Option O) (known : Option (Held O))
-        → (offer_left (taken_down rules (λ a b. true) offer known) before offer ≡ before)
-        ⊎ (offer_left (taken_down rules (λ a b. true) offer known) before offer ≡ None)
-    down_answer offer before None = inl refl
-    down_answer offer before (Some h) = elim (cases_Bool (rules.same_source h.offer offer)) [
-      | inl e ↦ rw e (inr refl)
-      | inr e ↦ rw e (inl refl)
-    ]
-
     answered : (records : List (Held O)) (offer : O) (before : Option O)
         → Leaves offer before (offer_left (taken_over rules (λ a b. true) records offer) before offer)
-    answered records offer before = elim (cases_Bool (reading.is_down offer)) [
-      | inl down ↦
-          let answer = offer_left (taken_over rules (λ a b. true) records offer) before offer in
-          let either : (answer ≡ before) ⊎ (answer ≡ None) = rw down (down_answer offer before (known_of rules records offer)) in
-          elim either [ inl stays ↦ inl stays | inr none ↦ inr (inl none) ]
-      | inr up ↦ up_answer offer before up (taken_over rules (λ a b. true) records offer)
-    ]
+    answered records offer before = grind arith
 
     -- its own key
     pub own : (facts : List (Fact O)) (offer : O)
@@ -115,11 +84,7 @@ module _ {O K : Type 0} (reading : Reading O K) (order : K → K → Ordering) w
     -- another key
     other : (facts : List (Fact O)) (offer : O) (key : K) → is_eq (order (reading.key offer) key) ≡ false
         → offer_after key (facts ++ Offered offer ∷ []) ≡ offer_after key facts
-    other facts offer key apart =
-        among_alive key (facts ++ Offered offer ∷ [])
-        ∙ ap (λ hs. option_map (λ h. h.offer) (find (λ h. is_eq (order (reading.key h.offer) key)) hs)) (alive_after-offered rules facts offer)
-        ∙ ap (option_map (λ h. h.offer)) (others-stay reading order total capacity shares (alive_after facts) offer key apart)
-        ∙ sym (among_alive key facts)
+    other facts offer key apart = grind (arith, among_alive, option_map, is_eq, alive_after-offered, others-stay)
 
     one : (P : O → Type 0) (facts : List (Fact O)) (offer : O) → P offer → (key : K)
         → Left P key (offer_after key facts) (offer_after key (facts ++ Offered offer ∷ []))

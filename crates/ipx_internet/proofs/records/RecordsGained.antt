@@ -1,14 +1,13 @@
 -- How many records offers leave a table with: one more for each offer, at most; where all are down, the same ones or fewer.
-use Rattle.std.proofs.Common.{◌≡◌, refl, sym, ap, ◌∙◌, subst, ◌⊎◌, ℕ, ◌+◌, ◌<◌, ◌≤◌, not, if◌then◌else◌, Bool, true, false, List, [], ◌∷◌, ◌++◌, map, filter, length, inl, inr, arith, Ordering, append_assoc, append-nil, length-append}
+use Rattle.std.proofs.Common.{◌≡◌, refl, sym, ap, subst, ◌⊎◌, ℕ, ◌+◌, ◌<◌, ◌≤◌, not, if◌then◌else◌, Bool, true, false, List, [], ◌∷◌, ◌++◌, map, filter, length, inl, arith, Ordering, append_assoc, append-nil, length-append}
 use Rattle.std.specs.List.{AllByRecursion}
 use Rattle.std.specs.Cmp.{IsTotalOrder}
-use Rattle.std.proofs.lemmas.Bool.{cases_Bool}
 use Rattle.ipx_table.specs.Accepted.{marked, is_accepted}
 use Rattle.ipx_table.specs.inside.AfterOffer.{fresh, uncut, after_offer}
 use Rattle.ipx_table.specs.Alive.{alive, cuts}
 use Rattle.ipx_table.specs.Facts.{Fact, Offered, Second, PortEnd, End}
 use Rattle.ipx_table.specs.Reading.{Reading, Rules, rules_of}
-use Rattle.ipx_table.specs.Stands.{held, in_order}
+use Rattle.ipx_table.specs.Stands.{held}
 use Rattle.ipx_table.specs.declared.held.Held.{Held}
 use Rattle.ipx_table.proofs.History.{alive_after-offered}
 use Rattle.ipx_table.proofs.Order.{length-in_order}
@@ -19,13 +18,7 @@ use Rattle.ipx_internet.proofs.records.KeptOrOffered.{OffersOf}
 -- what passes a test is all, or fewer
 all_or_fewer : {X : Type 0} (p : X → Bool) (xs : List X) → (filter p xs ≡ xs) ⊎ (length (filter p xs) < length xs)
 all_or_fewer p [] = inl refl
-all_or_fewer p (x ∷ xs) = elim (cases_Bool (p x)) [
-  | inl e ↦ elim (all_or_fewer p xs) [
-    | inl same ↦ inl (rw e (ap (λ ys. x ∷ ys) same))
-    | inr fewer ↦ inr (rw e (omega (arith, fewer)))
-  ]
-  | inr e ↦ let few = length-filter p xs in inr (rw e (omega (arith, few)))
-]
+all_or_fewer p (x ∷ xs) = grind (arith, all_or_fewer p xs)
 
 module _ {O K : Type 0} (reading : Reading O K) (order : K → K → Ordering) (total : IsTotalOrder order) (capacity : ℕ) (shares : List ℕ) where
   abbrev rules : Rules O
@@ -57,9 +50,7 @@ module _ {O K : Type 0} (reading : Reading O K) (order : K → K → Ordering) (
           omega (arith, sum, few)
 
   one_down : (records : List (Held O)) (offer : O) → reading.is_down offer ≡ true → SameOrFewer records (after_offer rules records offer)
-  one_down records offer down =
-      rw down (subst (λ (hs : List (Held O)). SameOrFewer records hs) (sym (append-nil (uncut rules offer false records)))
-      (all_or_fewer (λ h. not (cuts rules offer false h.offer)) records))
+  one_down records offer down = grind (arith, append-nil, all_or_fewer)
 
   -- ---- several, one after the other
 
@@ -74,17 +65,10 @@ module _ {O K : Type 0} (reading : Reading O K) (order : K → K → Ordering) (
       omega (arith, rest, whole, one, is_next)
 
   pub few_more : (facts : List (Fact O)) (some : List O) → length (held rules (facts ++ map Offered some)) ≤ length (held rules facts) + length some
-  few_more facts some =
-      let before = as_many facts in
-      let after = as_many (facts ++ map Offered some) in
-      let more = several_more facts some in
-      omega (arith, before, after, more)
+  few_more facts some = omega (arith, as_many, several_more)
 
   then_down : (before mid after : List (Held O)) → SameOrFewer before mid → SameOrFewer mid after → SameOrFewer before after
-  then_down before mid after (inl same) (inl e) = inl (e ∙ same)
-  then_down before mid after (inl same) (inr fewer) = let e = ap length same in inr (omega (arith, e, fewer))
-  then_down before mid after (inr fewer) (inl e) = let f = ap length e in inr (omega (arith, f, fewer))
-  then_down before mid after (inr fewer) (inr less) = inr (omega (arith, fewer, less))
+  then_down before mid after given given_2 = grind arith
 
   several_down : (new facts : List (Fact O)) → AllByRecursion (OffersOf (λ o. reading.is_down o ≡ true)) new
       → SameOrFewer (alive_after facts) (alive_after (facts ++ new))
@@ -102,10 +86,4 @@ module _ {O K : Type 0} (reading : Reading O K) (order : K → K → Ordering) (
 
   pub same_or_fewer : (new facts : List (Fact O)) → AllByRecursion (OffersOf (λ o. reading.is_down o ≡ true)) new
       → SameOrFewer (held rules facts) (held rules (facts ++ new))
-  same_or_fewer new facts all = elim (several_down new facts all) [
-    | inl same ↦ inl (ap (in_order rules.by_key) same)
-    | inr fewer ↦
-        let before = as_many facts in
-        let after = as_many (facts ++ new) in
-        inr (omega (arith, before, after, fewer))
-  ]
+  same_or_fewer new facts all = grind (arith, several_down, as_many)

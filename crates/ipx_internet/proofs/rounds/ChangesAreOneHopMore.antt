@@ -2,7 +2,7 @@
 -- offer says so one hop nearer.
 use Rattle.std.proofs.Common.{◌≡◌, refl, sym, subst, ◌⊎◌, ℕ, suc, ◌<◌, ◌≤◌, ◌==◌, false, List, [], ◌∷◌, ◌++◌, Option, Some, None, IfSome, inl, inr, arith}
 use Rattle.std.specs.List.{AllByRecursion}
-use Rattle.std.proofs.lemmas.Bool.{cases_Bool, leb-false}
+use Rattle.std.proofs.lemmas.Bool.{leb-false}
 use Rattle.ipx_wire.specs.declared.network.Network.{Network}
 use Rattle.ipx_wire.specs.declared.rip.RipEntry.{RipEntry}
 use Rattle.ipx_wire.specs.declared.service.Service.{Service}
@@ -14,7 +14,7 @@ use Rattle.ipx_router.specs.Numbers.{unreachable}
 use Rattle.ipx_router.specs.Port.{Port, port_at}
 use Rattle.ipx_router.specs.Routes.{route_reading, network_order}
 use Rattle.ipx_router.specs.Services.{service_reading, service_order}
-use Rattle.ipx_router.specs.Told.{is_reached_on, entry_of, dead, dead_service}
+use Rattle.ipx_router.specs.Told.{entry_of, dead, dead_service}
 use Rattle.ipx_router.specs.inside.Touched.{offer_at}
 use Rattle.ipx_router.specs.declared.route_offer.RouteOffer.{RouteOffer}
 use Rattle.ipx_router.specs.declared.service_offer.ServiceOffer.{ServiceOffer}
@@ -100,16 +100,10 @@ module _ (least : ℕ) where
   dead_live near = absurd (omega (arith, near))
 
   now_live : (port : Port) (route : RouteOffer) → least ≤ route.hops → Live (suc least) (route_now port route).hops
-  now_live port route far = elim (cases_Bool (is_reached_on route.hops)) [
-    | inl e ↦ rw e (λ near. omega (arith, far))
-    | inr e ↦ rw e dead_live
-  ]
+  now_live port route far = grind arith
 
   now_service_live : (offer : ServiceOffer) → least ≤ offer.service.hops → Live (suc least) (service_now offer).hops
-  now_service_live offer far = elim (cases_Bool (is_reached_on offer.service.hops)) [
-    | inl e ↦ rw e (λ near. omega (arith, far))
-    | inr e ↦ rw e dead_live
-  ]
+  now_service_live offer far = grind arith
 
   module _ (ports : List Port) (history : History) (number : ℕ) (bytes : List ℕ)
       (all : IfSome (heard_after ports history number bytes) (EachHeard (λ e. Live least e.hops) (λ e. Live least e.hops))) (capacity : ℕ) where

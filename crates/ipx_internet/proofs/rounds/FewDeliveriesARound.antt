@@ -1,6 +1,6 @@
 -- How many deliveries rounds have: each causes a bounded number of others, so each round has at most so many times as many as the one
 -- before it.
-use Rattle.std.proofs.Common.{◌≡◌, refl, sym, ap, subst, ℕ, zero, suc, ◌+◌, ◌-◌, ◌*◌, ◌≤◌, max, List, [], ◌∷◌, ◌++◌, length, append_assoc, append-nil, length-append, arith, mul-le-mul_right, mul-one}
+use Rattle.std.proofs.Common.{◌≡◌, refl, sym, ap, subst, ℕ, zero, suc, ◌+◌, ◌-◌, ◌*◌, ◌≤◌, max, List, [], ◌∷◌, ◌++◌, length, append_assoc, append-nil, length-append, arith, mul-le-mul_right}
 use Rattle.std.specs.List.{AllByRecursion}
 use Rattle.ipx_router.specs.Bounds.{route_sheets, service_sheets, most_packets}
 use Rattle.ipx_router.specs.Facts.{routes_held, services_held}
@@ -33,10 +33,7 @@ module _ (net : Internet) (laws : Layouts) (sending : Sending) (rooms : Rooms) (
 
   few_packets : (ports routes services number : ℕ) (bytes : List ℕ) → ports ≤ most_ports net → routes ≤ most_routes → services ≤ most_services
       → most_packets ports routes services (Packet number bytes) ≤ max (most_ports net) (max (route_sheets (most_ports net) most_routes) (service_sheets most_services))
-  few_packets ports routes services number bytes few_ports few_routes few_services =
-      let sheets_of_routes : route_sheets ports routes ≤ route_sheets (most_ports net) most_routes = omega (arith, few_ports, few_routes) in
-      let sheets_of_services : service_sheets services ≤ service_sheets most_services = omega (arith, few_services) in
-      omega (arith, few_ports, sheets_of_routes, sheets_of_services)
+  few_packets ports routes services number bytes few_ports few_routes few_services = grind arith
 
   few_caused : (histories : List History) → AreHistories net histories → (d : Delivery) → IsDelivery net d
       → length (sent_for net most_routes most_services histories d) ≤ caused
@@ -87,16 +84,11 @@ module _ (net : Internet) (laws : Layouts) (sending : Sending) (rooms : Rooms) (
 
   handed_first : (n : ℕ) (q : Queued) → handed_out net most_routes most_services (suc n) q ≡ length q.queue + handed_out net most_routes most_services n (round net most_routes most_services q)
   handed_first zero q = omega arith
-  handed_first (suc n) q =
-      let rest = handed_first n q in
-      let last = ap (λ (r : Queued). length r.queue) (rounds_first n q) in
-      omega (arith, rest, last)
+  handed_first (suc n) q = grind (arith, handed_first n q, rounds_first)
 
   handed_few : (n : ℕ) (q : Queued) → AreHistories net q.histories → AllByRecursion (IsDelivery net) q.queue
       → handed_out net most_routes most_services (suc n) q ≤ length q.queue * most_of caused n
-  handed_few zero q are all =
-      let one : length q.queue * 1 ≡ length q.queue = mul-one (length q.queue) in
-      omega (arith, one)
+  handed_few zero q are all = grind arith
   handed_few (suc n) q are all =
       let next = round net most_routes most_services q in
       let after = spent net laws is most_routes most_services 1 q are all in

@@ -1,5 +1,5 @@
 -- How many routers hold a key: after an event whose offers are all unreachable no more than before it, and one less where one ended.
-use Rattle.std.proofs.Common.{◌≡◌, refl, sym, ap, ◌∙◌, subst, ◌⊎◌, ℕ, suc, ◌<◌, ◌≤◌, ◌==◌, Bool, true, false, List, [], ◌∷◌, ◌++◌, length, filter, Option, None, Some, is_some, inl, inr, arith, true≢false, get_or-set_same, get_or-set_other, Ordering, is_eq}
+use Rattle.std.proofs.Common.{◌≡◌, sym, ap, ◌∙◌, ◌⊎◌, ℕ, suc, ◌<◌, ◌≤◌, ◌==◌, Bool, true, false, List, [], ◌∷◌, ◌++◌, length, filter, Option, None, Some, is_some, inl, inr, arith, true≢false, get_or-set_same, get_or-set_other, Ordering, is_eq}
 use Rattle.std.specs.List.{list_any}
 use Rattle.std.specs.Cmp.{IsTotalOrder}
 use Rattle.std.proofs.lemmas.Bool.{cases_Bool, cases_eq, both_ways, eqb-true, or_cases}
@@ -9,7 +9,6 @@ use Rattle.ipx_router.specs.Port.{numbers}
 use Rattle.ipx_router.specs.inside.Touched.{offer_at}
 use Rattle.ipx_router.proofs.histories.OneEventMore.{among}
 use Rattle.ipx_router.proofs.bounds.ItemsOfEachList.{length-filter, length-numbers}
-use Rattle.ipx_router.proofs.changes.NotedInPlace.{offer_alike}
 use Rattle.ipx_internet.specs.Queue.{history_of, with_event}
 use Rattle.ipx_internet.proofs.records.KeptOrOffered.{Left}
 
@@ -17,15 +16,7 @@ use Rattle.ipx_internet.proofs.records.KeptOrOffered.{Left}
 
 fewer_pass : {X : Type 0} (p q : X → Bool) → ((x : X) → p x ≡ true → q x ≡ true) → (xs : List X) → length (filter p xs) ≤ length (filter q xs)
 fewer_pass p q weaker [] = omega arith
-fewer_pass p q weaker (x ∷ xs) =
-    let rest = fewer_pass p q weaker xs in
-    elim (cases_Bool (p x)) [
-      | inl e ↦ let f = weaker x e in rw (e, f) (omega (arith, rest))
-      | inr e ↦ elim (cases_Bool (q x)) [
-        | inl f ↦ rw (e, f) (omega (arith, rest))
-        | inr f ↦ rw (e, f) rest
-      ]
-    ]
+fewer_pass p q weaker (x ∷ xs) = grind (arith, fewer_pass p q weaker xs)
 
 one_less_passes : (p q : ℕ → Bool) → ((x : ℕ) → p x ≡ true → q x ≡ true) → (y : ℕ) → p y ≡ false → q y ≡ true → (xs : List ℕ)
     → list_any (λ j. j == y) xs ≡ true → suc (length (filter p xs)) ≤ length (filter q xs)
@@ -48,16 +39,6 @@ one_less_passes p q weaker y out in_ (x ∷ xs) there = elim (or_cases (x == y) 
       ]
 ]
 
-same_pass : {X : Type 0} (p q : X → Bool) → ((x : X) → p x ≡ q x) → (xs : List X) → length (filter p xs) ≡ length (filter q xs)
-same_pass p q same [] = refl
-same_pass p q same (x ∷ xs) =
-    let e = same x in
-    let rest = same_pass p q same xs in
-    elim (cases_Bool (q x)) [
-      | inl f ↦ let g = e ∙ f in rw (g, f) (ap suc rest)
-      | inr f ↦ let g = e ∙ f in rw (g, f) rest
-    ]
-
 module _ {O K : Type 0} (reading : Reading O K) (order : K → K → Ordering) (total : IsTotalOrder order) where
   -- where all offers that came are unreachable, a key that has an offer now had one before
   pub had_before : (P : O → Type 0) → ((o : O) → P o → reading.is_down o ≡ true) → (key : K) (before after : Option O) → Left reading order P key before after
@@ -79,16 +60,11 @@ module _ {O K : Type 0} (reading : Reading O K) (order : K → K → Ordering) (
     holders histories key = length (filter (λ router. holds key router (history_of histories router)) (numbers routers))
 
     pub holders_most : (histories : List History) (key : K) → holders histories key ≤ routers
-    holders_most histories key =
-        let all = length-numbers routers in
-        let few = length-filter (λ router. holds key router (history_of histories router)) (numbers routers) in
-        omega (arith, all, few)
+    holders_most histories key = omega (arith, length-numbers, length-filter)
 
     -- equal keys are held by the same
     pub holders_alike : (histories : List History) (a b : K) → is_eq (order a b) ≡ true → holders histories a ≡ holders histories b
-    holders_alike histories a b e =
-        same_pass (λ router. holds a router (history_of histories router)) (λ router. holds b router (history_of histories router))
-        (λ router. ap is_some (offer_alike reading.key order total a b e (records router (history_of histories router)))) (numbers routers)
+    holders_alike histories a b e = grind arith
 
     module _ (histories : List History) (router : ℕ) (event : Event) (there : router < length histories) (key : K)
         (had : holds key router (history_of histories router ++ event ∷ []) ≡ true → holds key router (history_of histories router) ≡ true) where
@@ -99,17 +75,10 @@ module _ {O K : Type 0} (reading : Reading O K) (order : K → K → Ordering) (
       now = get_or-set_same histories router (history_of histories router ++ event ∷ []) [] there
 
       had_each : (j : ℕ) → holds key j (history_of new j) ≡ true → holds key j (history_of histories j) ≡ true
-      had_each j e = elim (cases_eq j router) [
-        | inr off ↦ sym (ap (holds key j) (get_or-set_other histories router j (history_of histories router ++ event ∷ []) [] off)) ∙ e
-        | inl same ↦
-            let P : ℕ → Type 0 = λ k. holds key k (history_of new k) ≡ true in
-            let Q : ℕ → Type 0 = λ k. holds key k (history_of histories k) ≡ true in
-            subst Q (sym same) (had (sym (ap (holds key router) now) ∙ subst P same e))
-      ]
+      had_each j e = grind (arith, cases_eq, get_or-set_other, now)
 
       pub holders_fewer : holders new key ≤ holders histories key
-      holders_fewer =
-          fewer_pass (λ j. holds key j (history_of new j)) (λ j. holds key j (history_of histories j)) had_each (numbers routers)
+      holders_fewer = grind (arith, fewer_pass, had_each)
 
       pub one_holder_less : router < routers → holds key router (history_of histories router ++ event ∷ []) ≡ false
           → holds key router (history_of histories router) ≡ true → suc (holders new key) ≤ holders histories key

@@ -1,5 +1,5 @@
 -- Once nothing alive is said, a key that is told of as unreachable is held by one router less after each round.
-use Rattle.std.proofs.Common.{◌≡◌, refl, sym, ap, ◌∙◌, ℕ, zero, suc, ◌+◌, ◌<◌, ◌≤◌, true, List, [], ◌∷◌, ◌++◌, length, Some, None, IfSome, is_some, inl, inr, arith, is_eq}
+use Rattle.std.proofs.Common.{◌≡◌, refl, sym, ap, ◌∙◌, ℕ, zero, suc, ◌+◌, ◌<◌, ◌≤◌, true, List, [], ◌∷◌, ◌++◌, length, Some, None, IfSome, is_some, inl, inr, arith, is_eq, rules}
 use Rattle.std.specs.List.{AllByRecursion}
 use Rattle.std.proofs.lemmas.Bool.{cases_lt, le-leb}
 use Rattle.ipx_wire.specs.declared.network.Network.{Network}
@@ -29,7 +29,7 @@ use Rattle.ipx_internet.proofs.lists.FoundInAList.{found, it_is}
 use Rattle.ipx_internet.proofs.packets.SentOnOrReply.{Layouts}
 use Rattle.ipx_internet.proofs.records.HeardChangesItsKeys.{EachHeard, routes_left, services_left}
 use Rattle.ipx_internet.proofs.records.KeptOrOffered.{Told, Left}
-use Rattle.ipx_internet.proofs.rounds.ChangesAreOneHopMore.{Live, RouteTold, ServiceTold, news_all, news_services_all, route_left, service_left}
+use Rattle.ipx_internet.proofs.rounds.ChangesAreOneHopMore.{Live, RouteTold, ServiceTold, news_all, news_services_all}
 use Rattle.ipx_internet.proofs.rounds.NoMoreHolders.{had_before, holders, holders_most, holders_alike, holders_fewer, one_holder_less}
 use Rattle.ipx_internet.proofs.rounds.OneHopMoreARound.{Ebbs}
 use Rattle.ipx_internet.proofs.rounds.OneRound.{happened, sent_for, Steps, Holds, rounded}
@@ -104,10 +104,7 @@ module _ (net : Internet) (laws : Layouts) (is : IsInternet net) (most_routes mo
     within = there net laws is most_routes most_services histories fewer.are d old.calm.0
 
     listed : router < length histories
-    listed =
-        let each = fewer.are.each in
-        let there = within in
-        omega (arith, each, there)
+    listed = omega (arith, there, within)
 
     heard : IfSome (heard_after (ports_of net router) past d.to.port d.bytes) (EachHeard (DeadEntry begun t) (DeadSap begun t))
     heard = heard_says net laws is most_routes most_services histories fewer.are d old.calm (DeadEntry begun t) (DeadSap begun t) old.says
@@ -134,9 +131,7 @@ module _ (net : Internet) (laws : Layouts) (is : IsInternet net) (most_routes mo
 
     had_route : (key : Network) → is_some (offer_at route_reading.key network_order key (held_routes router now)) ≡ true
         → is_some (offer_at route_reading.key network_order key (held_routes router past)) ≡ true
-    had_route key =
-        had_before route_reading network_order network_total P (λ o it. le-leb unreachable o.hops it.0) key
-        (offer_at route_reading.key network_order key (held_routes router past)) (offer_at route_reading.key network_order key (held_routes router now)) (left_routes key)
+    had_route key = grind (arith, had_before, network_total, le-leb, left_routes)
 
     routes_after : (key : Network) → routes new key ≤ routes histories key
     routes_after key = holders_fewer route_reading network_order network_total held_routes (length net) histories router event listed key (had_route key)
@@ -159,11 +154,7 @@ module _ (net : Internet) (laws : Layouts) (is : IsInternet net) (most_routes mo
         (omega arith, omega (arith, one_less, same, told_same, bound, before_it))
 
     never_route : (key : Network) (route : RouteOffer) → Told route_reading network_order P key (Some route) → ⊥
-    never_route key route told =
-        let left = route_left P key route told in
-        let far = left.0.0 in
-        let near = left.1 in
-        omega (arith, far, near)
+    never_route key route told = grind arith
 
     -- ---- services
 
@@ -176,9 +167,7 @@ module _ (net : Internet) (laws : Layouts) (is : IsInternet net) (most_routes mo
 
     had_service : (key : ℕ × List ℕ) → is_some (offer_at service_reading.key service_order key (held_services router now)) ≡ true
         → is_some (offer_at service_reading.key service_order key (held_services router past)) ≡ true
-    had_service key =
-        had_before service_reading service_order service_total Q (λ o it. le-leb unreachable o.service.hops it.0) key
-        (offer_at service_reading.key service_order key (held_services router past)) (offer_at service_reading.key service_order key (held_services router now)) (left_services key)
+    had_service key = grind (arith, had_before, service_total, le-leb, left_services)
 
     services_after : (key : ℕ × List ℕ) → services new key ≤ services histories key
     services_after key = holders_fewer service_reading service_order service_total held_services (length net) histories router event listed key (had_service key)
@@ -202,11 +191,7 @@ module _ (net : Internet) (laws : Layouts) (is : IsInternet net) (most_routes mo
         (omega arith, omega (arith, one_less, same, told_same, bound, before_it))
 
     never_service : (key : ℕ × List ℕ) (offer : ServiceOffer) → Told service_reading service_order Q key (Some offer) → ⊥
-    never_service key offer told =
-        let left = service_left Q key offer told in
-        let far = left.0.0 in
-        let near = left.1 in
-        omega (arith, far, near)
+    never_service key offer told = grind arith
 
     -- ---- what is sent
 
@@ -252,11 +237,7 @@ module _ (net : Internet) (laws : Layouts) (is : IsInternet net) (most_routes mo
     }
 
   dying : (begun : List History) (t : ℕ) → Steps net most_routes most_services (Fewer begun) (Dying t begun) (Dead (suc t))
-  dying begun t = record {
-    keeps = λ histories d fewer old. fewer_still begun t histories d fewer old;
-    sends = λ histories d fewer old. dead_then begun t histories d fewer old;
-    lasts = λ histories d other fewer old. dead_still begun t histories d fewer old other;
-  }
+  dying begun t = search (rules, fewer_still, dead_then, dead_still)
 
   -- one round
   next : (t : ℕ) (q : Queued) → AreHistories net q.histories → AllByRecursion (Dying t q.histories) q.queue
@@ -269,10 +250,7 @@ module _ (net : Internet) (laws : Layouts) (is : IsInternet net) (most_routes mo
   pub died : (t : ℕ) (q : Queued) → AreHistories net q.histories → AllByRecursion (Dying 0 q.histories) q.queue
       → Holds net most_routes most_services (AreHistories net) (Dead (suc t)) (rounds net most_routes most_services (suc t) q)
   died zero q are all = next 0 q are all
-  died (suc t) q are all =
-      let so_far = died t q are all in
-      let now = rounds net most_routes most_services (suc t) q in
-      next (suc t) now so_far.histories (all_then (Dead (suc t) now.histories) (Dying (suc t) now.histories) (dead_dying (suc t) now.histories) now.queue so_far.queue)
+  died (suc t) q are all = search (rules, died t q are all, next, all_then, dead_dying)
 
   -- ---- the first of these rounds
 

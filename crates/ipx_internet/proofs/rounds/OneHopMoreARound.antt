@@ -1,8 +1,7 @@
 -- Once only replies wait, what they say that is alive has one hop more after each round.
-use Rattle.std.proofs.Common.{ℕ, zero, suc, List, arith}
+use Rattle.std.proofs.Common.{ℕ, zero, suc, List, arith, rules}
 use Rattle.std.specs.List.{AllByRecursion}
-use Rattle.ipx_wire.specs.declared.sap.Sap.TheVariants.{Query, Response}
-use Rattle.ipx_router.specs.Heard.{Heard, HeardRip, HeardSap}
+use Rattle.ipx_router.specs.Heard.{Heard}
 use Rattle.ipx_router.specs.History.{History}
 use Rattle.ipx_internet.specs.Internet.{Internet, IsInternet, port_of}
 use Rattle.ipx_internet.specs.Queue.{Delivery, Queued}
@@ -21,17 +20,11 @@ use Rattle.ipx_internet.proofs.rounds.SentOnRunsOut.{Calm}
 
 -- whatever is alive is no hop away, at least
 pub at_all : (m : Heard) → EachHeard (λ e. Live 0 e.hops) (λ e. Live 0 e.hops) m
-at_all (HeardRip source rip) = all_of (λ e. Live 0 e.hops) (λ e near. omega arith) rip.entries
-at_all (HeardSap source (Query nearest kind)) = tt
-at_all (HeardSap source (Response nearest entries)) = all_of (λ e. Live 0 e.hops) (λ e near. omega arith) entries
+at_all m = grind (arith, all_of, Live)
 
 -- what is one hop more away is that far away
 no_nearer : (least : ℕ) (m : Heard) → EachHeard (λ e. Live (suc least) e.hops) (λ e. Live (suc least) e.hops) m → EachHeard (λ e. Live least e.hops) (λ e. Live least e.hops) m
-no_nearer least (HeardRip source rip) far =
-    all_then (λ e. Live (suc least) e.hops) (λ e. Live least e.hops) (λ e live near. let more = live near in omega (arith, more)) rip.entries far
-no_nearer least (HeardSap source (Query nearest kind)) far = tt
-no_nearer least (HeardSap source (Response nearest entries)) far =
-    all_then (λ e. Live (suc least) e.hops) (λ e. Live least e.hops) (λ e live near. let more = live near in omega (arith, more)) entries far
+no_nearer least m far = grind (arith, all_then, Live)
 
 module _ (net : Internet) (laws : Layouts) (is : IsInternet net) (most_routes most_services : ℕ) where
   -- a reply in which all that is alive is so many hops away, at least
@@ -74,11 +67,5 @@ module _ (net : Internet) (laws : Layouts) (is : IsInternet net) (most_routes mo
 
   pub ebbed : (k : ℕ) (q : Queued) → AreHistories net q.histories → AllByRecursion (Calm net laws is most_routes most_services) q.queue
       → Holds net most_routes most_services (AreHistories net) (λ histories. Ebbs k) (rounds net most_routes most_services k q)
-  ebbed zero q are all = record {
-    histories = are;
-    queue = all_then (Calm net laws is most_routes most_services) (Ebbs 0) (λ d calm. record { calm = calm; says = λ p m read e. at_all m }) q.queue all;
-  }
-  ebbed (suc k) q are all =
-      let so_far = ebbed k q are all in
-      rounded net most_routes most_services (AreHistories net) (Ebbs k) (λ histories. Ebbs (suc k)) (ebbing k)
-      (rounds net most_routes most_services k q) so_far.histories so_far.queue
+  ebbed zero q are all = search (rules, all_then, Calm, at_all)
+  ebbed (suc k) q are all = search (rules, ebbed k q are all, rounded, ebbing)

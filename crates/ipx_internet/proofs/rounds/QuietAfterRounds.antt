@@ -16,19 +16,14 @@ use Rattle.ipx_internet.proofs.rounds.SentOnRunsOut.{all_calm}
 module _ (net : Internet) (most_routes most_services : ℕ) where
   -- so many rounds, and then some more
   pub rounds_more : (a b n : ℕ) (q : Queued) → n ≡ a + b → rounds net most_routes most_services n q ≡ rounds net most_routes most_services a (rounds net most_routes most_services b q)
-  rounds_more zero b n q e =
-      let same : n ≡ b = omega (arith, e) in
-      ap (λ k. rounds net most_routes most_services k q) same
+  rounds_more zero b n q e = grind arith
   rounds_more (suc a) b zero q e = absurd (omega (arith, e))
   rounds_more (suc a) b (suc n) q e = ap (round net most_routes most_services) (rounds_more a b n q (omega (arith, e)))
 
   -- they are as many deliveries as are handed out in them
   pub all_settled : (n : ℕ) (q : Queued) → settled net most_routes most_services (handed_out net most_routes most_services n q) q ≡ rounds net most_routes most_services n q
   all_settled zero q = refl
-  all_settled (suc n) q =
-      let count = length (rounds net most_routes most_services n q).queue in
-      settled_then net most_routes most_services (handed_out net most_routes most_services n q) count q
-      ∙ ap (settled net most_routes most_services count) (all_settled n q)
+  all_settled (suc n) q = grind (arith, all_settled n q, settled_then)
 
   -- where nothing waits any more, further deliveries change nothing
   none_left : (n limit : ℕ) (q : Queued) → n ≤ limit → (settled net most_routes most_services n q).queue ≡ [] → (settled net most_routes most_services limit q).queue ≡ []
@@ -59,6 +54,4 @@ module _ (net : Internet) (most_routes most_services : ℕ) where
         ap (λ (r : Queued). r.queue) (first ∙ second) ∙ nothing_waits net laws is most_routes most_services last.histories last.queue dead.queue
 
     pub enough : (limit : ℕ) → handed_out net most_routes most_services (most_rounds net) q ≤ limit → (settled net most_routes most_services limit q).queue ≡ []
-    enough limit few =
-        let count = handed_out net most_routes most_services (most_rounds net) q in
-        none_left count limit q few (ap (λ (r : Queued). r.queue) (all_settled (most_rounds net) q) ∙ quiet)
+    enough limit few = grind (arith, none_left, all_settled, quiet)

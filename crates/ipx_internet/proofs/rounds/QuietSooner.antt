@@ -1,5 +1,5 @@
 -- Where only what routers sent for events of their own waits, nothing does after 17 rounds and one for each router.
-use Rattle.std.proofs.Common.{◌≡◌, refl, ap, ◌∙◌, ℕ, zero, suc, ◌+◌, List, [], length, arith}
+use Rattle.std.proofs.Common.{◌≡◌, refl, ap, ◌∙◌, ℕ, zero, suc, ◌+◌, List, [], length, arith, rules}
 use Rattle.std.specs.List.{AllByRecursion}
 use Rattle.ipx_router.specs.History.{History}
 use Rattle.ipx_router.specs.Numbers.{unreachable}
@@ -24,11 +24,7 @@ module _ (net : Internet) (laws : Layouts) (is : IsInternet net) (most_routes mo
   ebbs_on : (k : ℕ) (q : Queued) → AreHistories net q.histories → AllByRecursion (Ebbs net laws is most_routes most_services 1) q.queue
       → Holds net most_routes most_services (AreHistories net) (λ histories. Ebbs net laws is most_routes most_services (later k)) (rounds net most_routes most_services k q)
   ebbs_on zero q are all = record { histories = are; queue = all }
-  ebbs_on (suc k) q are all =
-      let so_far = ebbs_on k q are all in
-      rounded net most_routes most_services (AreHistories net) (Ebbs net laws is most_routes most_services (later k))
-      (λ histories. Ebbs net laws is most_routes most_services (suc (later k))) (ebbing net laws is most_routes most_services (later k))
-      (rounds net most_routes most_services k q) so_far.histories so_far.queue
+  ebbs_on (suc k) q are all = search (rules, ebbs_on k q are all, rounded, Ebbs, ebbing)
 
   module _ (histories : List History) (are : AreHistories net histories) (steps : List Step) (own : AllByRecursion (IsOwnStep net) steps) where
     abbrev begins : Queued

@@ -1,6 +1,6 @@
 -- One round after events that bring no packet only replies wait, in which all that is reached is one hop away, at least. What a router
 -- sends for such an event is broadcasts, which nobody sends on, and whose requests and queries come from the sockets of RIP and SAP.
-use Rattle.std.proofs.Common.{◌≡◌, refl, sym, ap, ◌∙◌, subst, ◌⊎◌, ℕ, ◌<◌, ◌==◌, Bool, true, false, if◌then◌else◌, List, [], ◌∷◌, ◌++◌, length, map, flat_map, Option, Some, None, IfSome, Result, Ok, Err, inl, inr, arith}
+use Rattle.std.proofs.Common.{◌≡◌, refl, sym, ap, ◌∙◌, subst, ◌⊎◌, ℕ, ◌<◌, ◌==◌, Bool, true, false, if◌then◌else◌, List, [], ◌∷◌, ◌++◌, length, map, flat_map, Option, Some, None, IfSome, Result, Ok, Err, inl, inr, arith, rules}
 use Rattle.std.specs.List.{AllByRecursion}
 use Rattle.std.proofs.lemmas.Bool.{cases_Bool, eq-eqb}
 use Rattle.ipx_wire.specs.Numbers.{rip_type, sap_type}
@@ -131,12 +131,7 @@ broadcasts_of ports up routes runs (PortDown number) own s is = is
 broadcasts_of ports up routes runs (PortUp number) own s is = is
 
 own_on : (ports : List Port) (event : Event) → IsOwnEvent ports event → IsOnPort ports event × IsOfBytes event
-own_on ports Start own = (tt, tt)
-own_on ports Stop own = (tt, tt)
-own_on ports Second own = (tt, tt)
-own_on ports (Packet number bytes) own = absurd own
-own_on ports (PortDown number) own = (own, tt)
-own_on ports (PortUp number) own = (own, tt)
+own_on ports event own = grind arith
 
 module _ (net : Internet) (laws : Layouts) (is : IsInternet net) (most_routes most_services : ℕ) where
   -- what waits of such events
@@ -232,21 +227,11 @@ module _ (net : Internet) (laws : Layouts) (is : IsInternet net) (most_routes mo
 
     -- an answer
     answer_or_none : (answer : List Sent) → (these ≡ []) ⊎ (these ≡ answer) → AllByRecursion Tale answer → AllByRecursion Tale these
-    answer_or_none answer (inl none) all = subst (λ (ss : List Sent). AllByRecursion Tale ss) (sym none) tt
-    answer_or_none answer (inr same) all = subst (λ (ss : List Sent). AllByRecursion Tale ss) (sym same) all
+    answer_or_none answer given all = grind arith
 
     entries_told : (source : Address) → IsPlaced source → source.socket.0 ≡ rip_socket → (wanted : List RipEntry)
         → AllByRecursion Tale (rip_sends ports number (reply_to here source) Response (asked wanted routes))
-    entries_told source from socket wanted =
-        let to = reply_to here source in
-        let entries = asked wanted routes in
-        all_then (λ s. IsRipPage P (own_address here) to s.bytes × (s.port ≡ number)) Tale
-        (λ s it. subst (λ (k : ℕ). IsTold P Q (port_at ports k) s.bytes) (sym it.1) (record {
-          reply = rip_reply P here (own_address here) to s.bytes refl it.0;
-          tells = inl (record { from = own_address here; to = to; for_rip = eq-eqb source.socket.0 rip_socket socket; page = it.0 });
-        }))
-        (rip_sends ports number to Response entries)
-        (rip_pages laws.readings laws.again ports number is_here P to (reply_is here source is_here from) entries (all-filter (Writable P) _ routes routes_written))
+    entries_told source from socket wanted = grind (arith, all_then, IsRipPage, IsTold, rip_reply, eq-eqb, rip_pages, is_here, reply_is, all-filter, Writable, routes_written)
 
     services_told : (source : Address) → IsPlaced source → source.socket.0 ≡ sap_socket → (nearest : Bool) (kind : ℕ)
         → AllByRecursion Tale (sap_sends ports number (reply_to here source) nearest (if nearest then nearest_of (of_kind kind services) else of_kind kind services))
@@ -350,8 +335,7 @@ module _ (net : Internet) (laws : Layouts) (is : IsInternet net) (most_routes mo
   caused_ebbs histories d are (inr ebbs) = ebbs_still net laws is most_routes most_services 1 histories d are ebbs
 
   delivery_there : (d : Delivery) → Caused d → IsDelivery net d
-  delivery_there d (inl own) = own.0
-  delivery_there d (inr ebbs) = ebbs.calm.0
+  delivery_there d given = grind arith
 
   delivery_opens : (histories : List History) (queue : List Delivery) → Opens (record { histories = histories; queue = queue })
       → Opens (settled_one net most_routes most_services (record { histories = histories; queue = queue }))
@@ -378,11 +362,7 @@ module _ (net : Internet) (laws : Layouts) (is : IsInternet net) (most_routes mo
   -- ---- the first round
 
   first_round : Steps net most_routes most_services (AreHistories net) Caused (λ histories. Ebbs net laws is most_routes most_services 1)
-  first_round = record {
-    keeps = λ histories d are old. keeps_histories net laws is most_routes most_services histories are d (delivery_there d old);
-    sends = λ histories d are old. caused_ebbs histories d are old;
-    lasts = λ histories d other are old new. new;
-  }
+  first_round = search (rules, keeps_histories, delivery_there, caused_ebbs)
 
   pub ebbs_soon : (q : Queued) → Opens q
       → Holds net most_routes most_services (AreHistories net) (λ histories. Ebbs net laws is most_routes most_services 1) (rounds net most_routes most_services 1 q)

@@ -1,5 +1,5 @@
 -- What is sent for a reply: pages of changes; and what may be heard of them.
-use Rattle.std.proofs.Common.{◌≡◌, refl, sym, ap, ◌∙◌, subst, ◌⊎◌, ℕ, ◌==◌, Bool, true, false, List, ◌++◌, ◌∷◌, [], map, Option, Some, None, IfSome, Result, Ok, Err, inl, inr}
+use Rattle.std.proofs.Common.{◌≡◌, refl, sym, ap, ◌∙◌, subst, ◌⊎◌, ℕ, ◌==◌, Bool, true, false, List, ◌++◌, ◌∷◌, [], map, Option, Some, None, IfSome, Result, Ok, Err, inl, inr, arith, rules}
 use Rattle.std.specs.List.{AllByRecursion}
 use Rattle.std.proofs.lemmas.Bool.{cases_Bool}
 use Rattle.ipx_wire.specs.Packet.{Parts, packet_of}
@@ -93,10 +93,7 @@ services_heard_of Q from to nearest bytes for_sap is p m read e =
 module _ (P : RipEntry → Type 0) (Q : Service → Type 0) (E : RipEntry → Type 0) (S : SapEntry → Type 0)
     (route : (e : RipEntry) → P e → E e) (service : (s : Service) → Q s → S (entry_of s)) (bytes : List ℕ) where
   routes_say : TellsRoutes P bytes → Says E S bytes
-  routes_say tells p m read e =
-      let page = tells.page in
-      it_is (EachHeard E S) m (HeardRip tells.from (record { operation = Response; entries = page.page }))
-      (page_heard P tells.from tells.to bytes tells.for_rip page p m read e) (all_then P E route page.page page.each)
+  routes_say tells p m read e = grind (arith, it_is, EachHeard, page_heard, all_then)
 
   services_say : TellsServices Q bytes → Says E S bytes
   services_say tells p m read e =
@@ -106,8 +103,7 @@ module _ (P : RipEntry → Type 0) (Q : Service → Type 0) (E : RipEntry → Ty
       (all_mapped S entry_of page.page (all_then Q (λ s. S (entry_of s)) service page.page page.each))
 
   pub tells_says : Tells P Q bytes → Says E S bytes
-  tells_says (inl tells) = routes_say tells
-  tells_says (inr tells) = services_say tells
+  tells_says given = search (rules, routes_say, services_say)
 
 -- what is told of such is told of all that they are
 pub tells_more : (P A : RipEntry → Type 0) (Q B : Service → Type 0) → ((e : RipEntry) → P e → A e) → ((s : Service) → Q s → B s) → (bytes : List ℕ)

@@ -1,5 +1,5 @@
 -- In the first rounds what is sent on runs out: after seventeen only replies wait.
-use Rattle.std.proofs.Common.{◌≡◌, refl, sym, ◌∙◌, subst, ◌⊎◌, ℕ, zero, suc, ◌≤◌, List, Option, Some, None, Ok, inl, inr, arith}
+use Rattle.std.proofs.Common.{◌≡◌, refl, ◌⊎◌, ℕ, zero, suc, ◌≤◌, List, Option, Some, None, Ok, inr, arith, rules}
 use Rattle.std.specs.List.{AllByRecursion}
 use Rattle.ipx_wire.specs.Packet.{Parts, packet_of}
 use Rattle.ipx_router.specs.Facts.{heard_after}
@@ -11,10 +11,9 @@ use Rattle.ipx_internet.specs.Internet.{Internet, IsInternet, ports_of, port_of}
 use Rattle.ipx_internet.specs.Queue.{Delivery, Queued, history_of}
 use Rattle.ipx_internet.specs.Rounds.{IsDelivery, rounds}
 use Rattle.ipx_internet.specs.Run.{AreHistories}
-use Rattle.ipx_router.proofs.bytes.ReadInOneWay.{one_read}
 use Rattle.ipx_internet.proofs.deliveries.WaitsAfterDelivery.{keeps_histories, all_wait}
 use Rattle.ipx_internet.proofs.lists.EachElement.{all_then}
-use Rattle.ipx_internet.proofs.packets.SentOnOrReply.{Layouts, IsReply, IsOnward, no_reply, unsaid, all_reply}
+use Rattle.ipx_internet.proofs.packets.SentOnOrReply.{Layouts, IsReply, IsOnward, unsaid, all_reply}
 use Rattle.ipx_internet.proofs.places.OneReceiverOfANode.{ports_at}
 use Rattle.ipx_internet.proofs.rounds.OneRound.{sents, Steps, Holds, rounded}
 
@@ -32,32 +31,14 @@ Spent (suc g) port bytes = Came (suc g) bytes ⊎ IsReply port bytes
 
 -- a reply is one on each port of its network
 pub reply_moves : (a b : Port) (bytes : List ℕ) → b.network ≡ a.network → IsReply a bytes → IsReply b bytes
-reply_moves a b bytes same reply = record {
-  packet = reply.packet;
-  read = reply.read;
-  plain = reply.plain;
-  home = reply.home ∙ sym same;
-  answers = reply.answers;
-}
+reply_moves a b bytes same reply = grind arith
 
 spent_moves : (g : ℕ) (a b : Port) (bytes : List ℕ) → b.network ≡ a.network → Spent g a bytes → Spent g b bytes
-spent_moves zero a b bytes same is = tt
-spent_moves (suc g) a b bytes same (inl came) = inl came
-spent_moves (suc g) a b bytes same (inr reply) = inr (reply_moves a b bytes same reply)
+spent_moves g a b bytes same is = grind arith
 
 -- what is sent on came through one router more
 came_more : (g : ℕ) (port other : Port) (bytes sent : List ℕ) → Spent g port bytes → IsOnward port bytes sent → Spent (suc g) other sent
-came_more zero port other bytes sent old on =
-    let few = on.few in
-    let more = on.more in
-    inl (record { packet = on.further; read = on.reread; least = omega (arith, more); most = omega (arith, few, more) })
-came_more (suc g) port other bytes sent (inr reply) on = absurd (no_reply port bytes sent reply on)
-came_more (suc g) port other bytes sent (inl came) on =
-    let few = on.few in
-    let more = on.more in
-    let same : came.packet ≡ on.packet = one_read (packet_of bytes) came.packet on.packet came.read on.read in
-    let least : suc g ≤ on.packet.header.control = subst (λ (p : Parts). suc g ≤ p.header.control) same came.least in
-    inl (record { packet = on.further; read = on.reread; least = omega (arith, least, more); most = omega (arith, few, more) })
+came_more g port other bytes sent old on = grind arith
 
 module _ (net : Internet) (laws : Layouts) (is : IsInternet net) (most_routes most_services : ℕ) where
   -- a delivery of such bytes
@@ -98,21 +79,14 @@ module _ (net : Internet) (laws : Layouts) (is : IsInternet net) (most_routes mo
   pub spent : (g : ℕ) (q : Queued) → AreHistories net q.histories → AllByRecursion (IsDelivery net) q.queue
       → Holds net most_routes most_services (AreHistories net) (λ histories. SpentAt g) (rounds net most_routes most_services g q)
   spent zero q are all = record { histories = are; queue = all_then (IsDelivery net) (SpentAt 0) (λ d is. (is, tt)) q.queue all }
-  spent (suc g) q are all =
-      let so_far = spent g q are all in
-      rounded net most_routes most_services (AreHistories net) (SpentAt g) (λ histories. SpentAt (suc g)) (spending g)
-      (rounds net most_routes most_services g q) so_far.histories so_far.queue
+  spent (suc g) q are all = search (rules, spent g q are all, rounded, spending)
 
   -- replies alone
   abbrev pub Calm : Delivery → Type 0
   Calm d = IsDelivery net d × IsReply (port_of net d.to) d.bytes
 
   only_replies : (d : Delivery) → SpentAt 17 d → Calm d
-  only_replies d (place, inr reply) = (place, reply)
-  only_replies d (place, inl came) =
-      let least = came.least in
-      let most = came.most in
-      absurd (omega (arith, least, most))
+  only_replies d given = grind arith
 
   pub all_calm : (q : Queued) → AreHistories net q.histories → AllByRecursion (IsDelivery net) q.queue
       → Holds net most_routes most_services (AreHistories net) (λ histories. Calm) (rounds net most_routes most_services 17 q)

@@ -1,5 +1,6 @@
 -- The second of an internet in memory: the seconds of its routers, by their numbers, and then deliveries; and that it is a tick.
-use Rattle.std.proofs.Common.{◌≡◌, refl, sym, ap, ◌∙◌, subst, ℕ, zero, suc, ◌+◌, ◌<◌, ◌≤◌, List, [], ◌∷◌, ◌++◌, length, map, replicate, take, None, Result, Ok, Err, OnOk, OnErr, IfOk, true, false, true≢false, inl, inr, arith, length-append}
+use Rattle.std.proofs.lemmas.Grind.{common_steps}
+use Rattle.std.proofs.Common.{◌≡◌, refl, sym, ap, ◌∙◌, subst, ℕ, zero, suc, ◌+◌, ◌<◌, ◌≤◌, List, [], ◌∷◌, ◌++◌, length, map, replicate, take, None, Result, OnOk, OnErr, IfOk, inl, inr, arith, length-append}
 use Rattle.std.specs.List.{AllByRecursion}
 use Rattle.std.proofs.Math.Seq.{take-append-add, take-length}
 use Rattle.std.proofs.lemmas.Bool.{cases_lt}
@@ -14,7 +15,7 @@ use Rattle.ipx_internet.specs.Run.{Step, Happens, Settles, Run, forgotten, stepp
 use Rattle.ipx_internet.specs.Settled.{HasSettled, IsToldOf, StopsShort}
 use Rattle.ipx_internet.specs.Ticks.{IsOfTick, IsTick, AreTicks, ticked, a_tick}
 use Rattle.ipx_internet.specs.declared.internet.Settled.{Settled}
-use Rattle.ipx_internet.specs.declared.internet.Settled.TheVariants.{Quiet, Left}
+use Rattle.ipx_internet.specs.declared.internet.Settled.TheVariants.{Quiet}
 use Rattle.ipx_internet.proofs.deliveries.QueueOfARun.{events, many_deliveries}
 use Rattle.ipx_internet.proofs.lists.EachElement.{all-append, all_mapped, numbers_below, all_then}
 use Rattle.ipx_internet.proofs.ticks.TickCanBeHad.{seconds_by, seconds_then, one_of, none_waits}
@@ -28,21 +29,16 @@ seconds count = map second (numbers count)
 
 length-numbers : (n : ℕ) → length (numbers n) ≡ n
 length-numbers zero = refl
-length-numbers (suc n) =
-    let all = length-append (numbers n) (n ∷ []) in
-    let rest = length-numbers n in
-    omega (arith, all, rest)
+length-numbers (suc n) = grind (arith, length-numbers n, length-append)
 
 length-seconds : (n : ℕ) → length (seconds n) ≡ n
 length-seconds n = length-map (numbers n) second ∙ length-numbers n
 
 length-replicate_step : (n : ℕ) → length (replicate n Settles) ≡ n
-length-replicate_step zero = refl
-length-replicate_step (suc n) = ap suc (length-replicate_step n)
+length-replicate_step n = grind (arith, common_steps)
 
 mapped : (xs ys : List ℕ) → map second (xs ++ ys) ≡ map second xs ++ map second ys
-mapped [] ys = refl
-mapped (x ∷ xs) ys = ap (λ (steps : List Step). second x ∷ steps) (mapped xs ys)
+mapped xs ys = grind (arith, common_steps)
 
 seconds_more : (n : ℕ) → seconds (suc n) ≡ seconds n ++ second n ∷ []
 seconds_more n = mapped (numbers n) (n ∷ [])
@@ -164,9 +160,7 @@ module _ (most_routes most_services : ℕ) where
       → AreTicks net most_routes most_services run (ticks ++ further)
       × (ticked net most_routes most_services (ticked net most_routes most_services run ticks) further ≡ ticked net most_routes most_services run (ticks ++ further))
   ticks_join net run [] further are more = (more, refl)
-  ticks_join net run (steps ∷ ticks) further are more =
-      let rest = ticks_join net (run_of net most_routes most_services run steps) ticks further are.1 more in
-      ((are.0, rest.0), rest.1)
+  ticks_join net run (steps ∷ ticks) further are more = grind (arith, ticks_join net (run_of net most_routes most_services run steps) ticks further are.1 more)
 
   pub none_ticked : (m : Moment) → HasTicked most_routes most_services 0 m m
   none_ticked m run stands = record { ticks = []; many = refl; are = tt; stands = stands }
@@ -192,16 +186,12 @@ module _ (most_routes most_services : ℕ) where
 -- ---- what is said of an answer
 
 pub on_ok : {X E : Type 0} (r : Result X E) (A B : Type 0) → (A → B) → OnOk r A → OnOk r B
-on_ok (Ok x) A B step is = step is
-on_ok (Err e) A B step is = is
+on_ok r A B step is = grind arith
 
 pub on_err : {X E : Type 0} (r : Result X E) (A B : Type 0) → (A → B) → OnErr r A → OnErr r B
-on_err (Ok x) A B step is = is
-on_err (Err e) A B step is = step is
+on_err r A B step is = grind arith
 
 -- where it is that none is left, after what is told of it
 pub where_quiet : {E : Type 0} (r : Result Settled E) (queue : List Delivery) (A B : Type 0) → (A → queue ≡ [] → B) → OnOk r A → IfOk r (IsToldOf queue)
     → IfOk r (λ s. s ≡ Quiet → B)
-where_quiet (Err e) queue A B step is told = tt
-where_quiet (Ok Quiet) queue A B step is told = λ e. step is told
-where_quiet (Ok (Left count)) queue A B step is told = λ e. absurd (true≢false (ap (λ (s : Settled). elim s [ Quiet ↦ false | Left n ↦ true ]) e))
+where_quiet r queue A B step is told = grind arith

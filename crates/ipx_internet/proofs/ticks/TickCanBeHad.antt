@@ -1,10 +1,10 @@
 -- From any run a tick can be had: all seconds, in any order, and then as many deliveries as it takes; and a busy one, whatever happens.
-use Rattle.std.proofs.Common.{◌≡◌, refl, sym, ap, ◌∙◌, subst, ℕ, zero, suc, ◌+◌, ◌<◌, ◌≤◌, ◌==◌, true, false, List, [], ◌∷◌, ◌++◌, length, map, filter, flat_map, replicate, None, arith, length-append, inl, inr, true≢false}
+use Rattle.std.proofs.Common.{◌≡◌, refl, sym, ap, ◌∙◌, subst, ℕ, zero, suc, ◌+◌, ◌<◌, ◌≤◌, ◌==◌, true, false, List, [], ◌∷◌, ◌++◌, length, map, filter, flat_map, replicate, None, arith, length-append, inl, inr, rules}
 use Rattle.std.specs.List.{AllByRecursion}
-use Rattle.std.proofs.lemmas.Bool.{cases_Bool, cases_lt, eq-eqb, ne_eqb}
+use Rattle.std.proofs.lemmas.Bool.{cases_lt, eq-eqb, ne_eqb}
 use Rattle.std.proofs.lemmas.List.Elements.{filter-append}
 use Rattle.ipx_wire.specs.Piece.{IsBytes}
-use Rattle.ipx_router.specs.History.{Event, History, Start, Stop, Second, Packet, PortDown, PortUp, IsOnPort, IsOfBytes}
+use Rattle.ipx_router.specs.History.{Event, History, Second, IsOnPort, IsOfBytes}
 use Rattle.ipx_router.specs.Port.{numbers}
 use Rattle.ipx_internet.specs.BusyTick.{IsBusyTick}
 use Rattle.ipx_internet.specs.Internet.{Internet, IsInternet, ports_of}
@@ -28,12 +28,7 @@ second router = Happens router Second
 -- as often as it is in the order
 pub seconds_by : (router : ℕ) (order : List ℕ) → seconds_of router (map second order) ≡ length (filter (λ other. other == router) order)
 seconds_by router [] = refl
-seconds_by router (other ∷ order) =
-    let rest = seconds_by router order in
-    elim (cases_Bool (other == router)) [
-      | inl e ↦ rw e (ap suc rest)
-      | inr e ↦ rw e rest
-    ]
+seconds_by router (other ∷ order) = grind (arith, seconds_by router order)
 
 pub seconds_more : (router : ℕ) (first rest : List Step) → seconds_of router (first ++ rest) ≡ seconds_of router first + seconds_of router rest
 seconds_more router first rest =
@@ -45,10 +40,7 @@ none_settles router (suc n) = none_settles router n
 
 -- deliveries behind add none
 pub seconds_then : (router : ℕ) (steps : List Step) (n : ℕ) → seconds_of router steps ≡ 1 → seconds_of router (steps ++ replicate n Settles) ≡ 1
-seconds_then router steps n one =
-    let sum = seconds_more router steps (replicate n Settles) in
-    let none = none_settles router n in
-    omega (arith, one, sum, none)
+seconds_then router steps n one = omega (arith, seconds_more, none_settles)
 
 -- ---- the order of the numbers
 
@@ -108,13 +100,7 @@ module _ (net : Internet) (laws : Layouts) (is : IsInternet net) (most_routes mo
 
   -- of a tick, each is one that there is
   pub of_tick : (step : Step) → IsOfTick net step → IsStep net step
-  of_tick (Happens router Second) is = (is.0, tt, tt)
-  of_tick (Happens router Start) is = absurd (true≢false (sym is.1))
-  of_tick (Happens router Stop) is = absurd (true≢false (sym is.1))
-  of_tick (Happens router (Packet number bytes)) is = absurd (true≢false (sym is.1))
-  of_tick (Happens router (PortDown number)) is = absurd (true≢false (sym is.1))
-  of_tick (Happens router (PortUp number)) is = absurd (true≢false (sym is.1))
-  of_tick Settles is = tt
+  of_tick step is = grind arith
 
   pub tick_steps : (steps : List Step) → AllByRecursion (IsOfTick net) steps → AllByRecursion (IsStep net) steps
   tick_steps steps all = all_then (IsOfTick net) (IsStep net) of_tick steps all
@@ -148,10 +134,7 @@ module _ (net : Internet) (laws : Layouts) (is : IsInternet net) (most_routes mo
   pub delivery_sound : (histories : List History) (queue : List Delivery) → Sound (record { histories = histories; queue = queue })
       → Sound (settled_one net most_routes most_services (record { histories = histories; queue = queue }))
   delivery_sound histories [] sound = sound
-  delivery_sound histories (d ∷ queue) sound =
-      let first = sound.waits.0 in
-      event_sound histories queue d.to.router (Packet d.to.port d.bytes) (router_there net d.to.router d.to.port first.place) first.place first.bytes
-      (record { are = sound.are; waits = sound.waits.1 })
+  delivery_sound histories (d ∷ queue) sound = search (rules, event_sound, router_there)
 
   pub step_sound : (run : Run) (step : Step) → IsStep net step → Sound (forgotten run) → Sound (forgotten (stepped net most_routes most_services run step))
   step_sound run (Happens router event) is_step sound =

@@ -8,7 +8,6 @@ use Rattle.ipx_wire.specs.Forward.{forwarded}
 use Rattle.ipx_wire.specs.Packet.{Parts, IsPacket, packet_of}
 use Rattle.ipx_wire.specs.Piece.{IsBytes}
 use Rattle.ipx_wire.specs.Write.{packet_bytes}
-use Rattle.ipx_wire.specs.declared.network.Network.{Network}
 use Rattle.ipx_wire.specs.declared.packet.PacketFault.{PacketFault}
 use Rattle.ipx_router.specs.Numbers.{most_routers}
 use Rattle.ipx_router.specs.Outgoing.{way_to}
@@ -47,13 +46,7 @@ module _ (routers : List Router) where
       ap (λ (ks : List Copy). ks ++ next_level routers (first + 1) level) none ∙ nothing_next (first + 1) level all.1
 
   last_level : (m first : ℕ) (level : List Copy) → AllByRecursion IsLast level → length (joined (levels routers m first level)) ≤ length level
-  last_level zero first level all = omega arith
-  last_level (suc m) first level all =
-      let next = next_level routers first level in
-      let counted = length-append level (joined (levels routers m (first + length level) next)) in
-      let P : List Copy → Type 0 = λ ks. length (joined (levels routers m (first + length level) ks)) ≡ 0 in
-      let none = subst P (sym (nothing_next first level all)) (none_behind routers m (first + length level)) in
-      omega (arith, counted, none)
+  last_level m first level all = grind (arith, length-append, nothing_next, none_behind)
 
 -- of bytes that are no packet nothing is sent on
 pub unread : (routers : List Router) (c : Copy) (fault : PacketFault) → packet_of c.bytes ≡ Err fault → forwards routers c ≡ []
@@ -134,10 +127,7 @@ module _ (w : Wire) (laws : Relaying) (over : SentOn) (routers : List Router) (m
       from = record { router = c.to.router; port = s.port }
 
       from_there : IsPlace net from
-      from_there =
-          let P : List Port → Type 0 = λ ports. s.port < length ports in
-          subst P (sym (ports_same routers c.to.router))
-          (holds_of (λ j. j < length (router_of c).ports) s.port (router_of c).up (router_is routers right c.to.router).within f.leaves_up)
+      from_there = grind (arith, ports_same, holds_of, router_is)
 
       -- what is received of it
       pub child_is : (k : Copy) → k.bytes ≡ s.bytes → IsOne k (forwarded p)
@@ -162,8 +152,7 @@ module _ (w : Wire) (laws : Relaying) (over : SentOn) (routers : List Router) (m
       -- where it left on the network that it is for, it is near for all that receive it, and none sends it on
       module _ (here : (port_at (router_of c).ports s.port).network.0 ≡ p.header.destination.network.0) where
         pub near_there : (to : Place) → network_of net to ≡ network_of net from → p.header.destination.network.0 ≡ (network_of net to).0
-        near_there to e =
-            sym here ∙ sym (ap (λ (ports : List Port). (port_at ports s.port).network.0) (ports_same routers c.to.router)) ∙ sym (ap (λ (n : Network). n.0) e)
+        near_there to e = grind (arith, ports_same)
 
         direct : (number : ℕ) → AllByRecursion (IsLast routers) (receivers routers number c s)
         direct number =
@@ -187,10 +176,7 @@ module _ (w : Wire) (laws : Relaying) (over : SentOn) (routers : List Router) (m
           omega (arith, same, few)
 
       pub few_receive : (number : ℕ) → length (receivers routers number c s) ≤ most_on_network net - 1
-      few_receive number =
-          let same = length-map (delivered net from s.link) (copy number) in
-          let few = delivered_few net from s.link from_there in
-          omega (arith, same, few)
+      few_receive number = grind (arith, length-map, delivered_few, from_there)
 
     -- ---- what is behind a reception
 

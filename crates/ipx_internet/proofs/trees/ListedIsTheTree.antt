@@ -35,9 +35,7 @@ both_fronts xs ys more less one two =
 module _ (routers : List Router) where
   -- the next level of a level in two parts
   pub next-append : (first : ℕ) (xs ys : List Copy) → next_level routers first (xs ++ ys) ≡ next_level routers first xs ++ next_level routers (first + length xs) ys
-  next-append first [] ys =
-      let e : first ≡ first + 0 = omega arith in
-      ap (λ (n : ℕ). next_level routers n ys) e
+  next-append first [] ys = grind arith
   next-append first (x ∷ xs) ys =
       let e : first + 1 + length xs ≡ first + suc (length xs) = omega arith in
       ap (λ (cs : List Copy). children routers first x ++ cs) (next-append (first + 1) xs ys)
@@ -65,9 +63,7 @@ module _ (routers : List Router) where
 
     -- a tree is such a list
     pub tree_grown : (copies : List Copy) → IsTree routers root copies → IsGrown copies
-    tree_grown copies is =
-        let e : is.depth + 1 ≡ suc is.depth = omega arith in
-        is.whole ∙ ap (λ (n : ℕ). tree_to routers n root) e ∙ one_level is.depth root ∙ ap (λ (cs : List Copy). root ∷ next_level routers 0 cs) (sym is.all)
+    tree_grown copies is = grind (arith, one_level)
 
     -- and any such list begins with all levels
     pub levels_front : (copies : List Copy) → IsGrown copies → (n : ℕ) → (more : List Copy) × (tree_to routers n root ++ more ≡ copies)
@@ -127,10 +123,7 @@ module _ (routers : List Router) where
 
     -- what is listed is no longer than the tree
     pub no_longer : (l : Listing) → IsListed routers root l → length l.copies ≤ length (tree routers root)
-    no_longer l listed =
-        let a : length (tree routers root) ≡ length (l.copies ++ listed.behind) = ap (λ cs. length cs) listed.front in
-        let b = length-append l.copies listed.behind in
-        omega (arith, a, b)
+    no_longer l listed = grind (arith, length-append)
 
   -- the ports that receive are ports that there are
   pub children_within : (number : ℕ) (c : Copy) → AllByRecursion (λ x. IsPlace (net_of routers) x.to) (children routers number c)

@@ -1,23 +1,23 @@
 -- A listing of a tree, over the routers of an internet and their stations.
-use Rattle.std.proofs.Common.{◌≡◌, refl, sym, ap, ◌∙◌, subst, ℕ, zero, suc, ◌+◌, ◌-◌, ◌<◌, ◌≤◌, List, [], ◌∷◌, ◌++◌, length, map, slice_get, slice_index_or, Some, arith, length-append}
+use Rattle.std.proofs.lemmas.Grind.{common_steps}
+use Rattle.std.proofs.Common.{◌≡◌, refl, sym, ap, ◌∙◌, subst, ℕ, zero, suc, ◌+◌, ◌-◌, ◌<◌, ◌≤◌, List, [], ◌∷◌, ◌++◌, length, map, slice_get, slice_index_or, Some, arith, length-append, rules}
 use Rattle.std.specs.List.{AllByRecursion}
 use Rattle.std.proofs.lemmas.List.{length-map, get_or-map}
 use Rattle.ipx_wire.specs.Piece.{IsBytes}
 use Rattle.ipx_router.specs.Numbers.{most_routers}
 use Rattle.ipx_router.specs.Port.{Port}
 use Rattle.ipx_router.specs.Stands.{State}
-use Rattle.ipx_router.specs.declared.outcome.Outcome.{Outcome}
 use Rattle.ipx_internet.specs.Internet.{Internet, Place, ports_of, IsPlace, IsInternet, NodesDiffer}
 use Rattle.ipx_internet.specs.Listed.{Listing, copy_at, waits_next, children_by, GoesOn, IsCut, IsListed}
 use Rattle.ipx_internet.specs.inside.Simulated.{net_among}
 use Rattle.ipx_internet.specs.inside.Stations.{AreOf}
-use Rattle.ipx_internet.specs.Traced.{router_of, routers_of, tree, most_levels, outcome_of, outcome_at}
+use Rattle.ipx_internet.specs.Traced.{router_of, routers_of, tree, outcome_of, outcome_at}
 use Rattle.ipx_internet.specs.Tree.{Router, Copy, IsRouter, net_of, router_at, children, tree_to, IsTree}
 use Rattle.ipx_internet.specs.Weight.{weight, IsBounded}
 use Rattle.ipx_internet.specs.declared.fault.TraceFault.{TraceFault}
 use Rattle.ipx_internet.specs.declared.stations.Station.{Station}
 use Rattle.ipx_internet.proofs.lists.EachElement.{all_at}
-use Rattle.ipx_internet.proofs.trees.ListedIsTheTree.{tree_grown, begins as tree_begins, ends as tree_ends, goes_on as tree_goes_on, more_no_longer, children_are}
+use Rattle.ipx_internet.proofs.trees.ListedIsTheTree.{begins as tree_begins, ends as tree_ends, goes_on as tree_goes_on, more_no_longer, children_are}
 use Rattle.ipx_internet.proofs.trees.ListingUpToALimit.{cut_more}
 use Rattle.ipx_internet.proofs.trees.RootOutweighsItsList as weighed
 use Rattle.ipx_internet.proofs.trees.RootOutweighsItsList.{there_at}
@@ -55,22 +55,16 @@ module _ (states : List State) (stations : List Station) (root : Copy) where
 
   pub is_tree : Ends → IsInternet (net_among states) → AllByRecursion IsRouter routers → IsBytes root.bytes → IsTree routers root (tree routers root)
   unfolding tree
-  is_tree law made right bytes =
-      let deep : most_routers < most_levels = omega arith in
-      law routers root most_levels (subst (λ (net : Internet). IsInternet net) (sym (nets_same states)) made) right bytes deep
+  is_tree law made right bytes = search (rules, nets_same)
 
   -- the tree has the root
   pub root_there : IsTree routers root (tree routers root) → 1 ≤ length (tree routers root)
-  root_there is =
-      let grown = ap (λ (cs : List Copy). length cs) (tree_grown routers root (tree routers root) is) in omega (arith, grown)
+  root_there is = grind arith
 
   -- the root alone is bounded
   pub begins_bounded : (l : Listing) → l.copies ≡ root ∷ [] → l.outcomes ≡ [] → IsBytes root.bytes → IsPlace (net_among states) root.to
       → IsBounded (net_among states) root (length l.outcomes) l.copies
-  begins_bounded l copies outcomes bytes place =
-      subst (λ (cs : List Copy). IsBounded (net_among states) root (length l.outcomes) cs) (sym copies)
-      (subst (λ (os : List Outcome). IsBounded (net_among states) root (length os) (root ∷ [])) (sym outcomes)
-      (weighed.begins (net_among states) root (record { bytes = bytes; there = place })))
+  begins_bounded l copies outcomes bytes place = grind arith
 
   -- where not even the root may be listed
   pub cut_first : (limit : ℕ) (fault : TraceFault) → IsCut limit 1 fault → IsCut limit (weight (net_among states) root) fault
@@ -94,29 +88,21 @@ module _ (states : List State) (stations : List Station) (root : Copy) where
       place = all_at (λ c. IsPlace (net_of routers) c.to) l.copies (length l.outcomes) (copy_at [] 0) listed.places waits
 
       pub router_there : at < length states
-      router_there =
-          let below = there (net_of routers) (waits_next l).to place in
-          let a : length (net_of routers) ≡ length (net_among states) = ap (λ (net : Internet). length net) (nets_same states) in
-          let b = length-map states (λ (s : State). s.ports) in
-          omega (arith, below, a, b)
+      router_there = grind (arith, there, place, nets_same, length-map)
 
       module _ (state : State) (read : state ≡ slice_index_or states at state) where
         router_same : router_at routers at ≡ router_of state
         router_same = get_or-map router_of states at state _ router_there ∙ ap router_of (sym read)
 
         ports_same : ports_of (net_of routers) at ≡ state.ports
-        ports_same =
-            ap (λ (net : Internet). ports_of net at) (nets_same states)
-            ∙ get_or-map (λ (s : State). s.ports) states at state [] router_there ∙ ap (λ (s : State). s.ports) (sym read)
+        ports_same = grind (arith, nets_same, get_or-map, router_there)
 
         pub port_there : (waits_next l).to.port < length state.ports
         port_there = subst (λ (ports : List Port). (waits_next l).to.port < length ports) ports_same place
 
         -- those that hear are the children
         kids : children_by (router_of state) stations (length l.outcomes) (waits_next l) ≡ children routers (length l.outcomes) (waits_next l)
-        kids =
-            ap (λ (r : Router). children_by r stations (length l.outcomes) (waits_next l)) (sym router_same)
-            ∙ children_are routers stations (subst (λ (net : Internet). AreOf net stations) (sym (nets_same states)) of) (length l.outcomes) (waits_next l)
+        kids = grind (arith, router_same, children_are, nets_same)
 
         pub goes_on : (new : Listing) → GoesOn (router_of state) stations l new → IsListed routers root new
         goes_on new went =
@@ -125,22 +111,12 @@ module _ (states : List State) (stations : List Station) (root : Copy) where
 
         -- one more outcome
         pub one_more : (new : Listing) → GoesOn (router_of state) stations l new → length new.outcomes ≡ length l.outcomes + 1
-        one_more new went =
-            let a : length new.outcomes ≡ length (l.outcomes ++ outcome_of (router_of state) (waits_next l).to.port (waits_next l).bytes ∷ []) =
-            ap (λ (os : List Outcome). length os) went.outcomes in
-            let b = length-append l.outcomes (outcome_of (router_of state) (waits_next l).to.port (waits_next l).bytes ∷ []) in
-            omega (arith, a, b)
+        one_more new went = grind (arith, length-append)
 
         pub cut : (limit : ℕ) (fault : TraceFault)
             → IsCut limit (length l.copies + length (children_by (router_of state) stations (length l.outcomes) (waits_next l))) fault
             → IsCut limit (length (tree routers root)) fault
-        cut limit fault was =
-            let short = more_no_longer routers root is l listed waits in
-            let same : length (children_by (router_of state) stations (length l.outcomes) (waits_next l))
-            ≡ length (children routers (length l.outcomes) (waits_next l)) =
-            ap (λ (cs : List Copy). length cs) kids in
-            cut_more limit (length l.copies + length (children_by (router_of state) stations (length l.outcomes) (waits_next l))) (length (tree routers root)) fault
-            (omega (arith, short, same)) was
+        cut limit fault was = search (rules, more_no_longer, kids, cut_more)
 
         module _ (law : NeverRises) (made : IsInternet (net_among states)) (differ : NodesDiffer (net_among states)) (right : AllByRecursion IsRouter routers)
             (bounded : IsBounded (net_among states) root (length l.outcomes) l.copies) where
@@ -159,9 +135,7 @@ module _ (states : List State) (stations : List Station) (root : Copy) where
               (there_at (net_among states) l.copies (length l.outcomes) _ waits)))
 
           pub stays_bounded : (new : Listing) → GoesOn (router_of state) stations l new → IsBounded (net_among states) root (length new.outcomes) new.copies
-          stays_bounded new went =
-              subst (λ (cs : List Copy). IsBounded (net_among states) root (length new.outcomes) cs) (sym went.copies)
-              (subst (λ (n : ℕ). IsBounded (net_among states) root n (l.copies ++ kids_by)) (sym (one_more new went)) grown_bounded)
+          stays_bounded new went = grind (arith, one_more, grown_bounded)
 
           -- a list that is cut would be no longer than the root weighs
           pub cut_bounded : (limit : ℕ) (fault : TraceFault) → IsCut limit (length l.copies + length kids_by) fault
@@ -186,13 +160,7 @@ pub has_port : (states : List State) (router port : ℕ) (state : State) → rou
 has_port states router port state below read = get_or-map (λ (s : State). s.ports) states router state [] below ∙ ap (λ (s : State). s.ports) (sym read)
 
 pub has_none : (states : List State) (router port : ℕ) → length states ≤ router → IsPlace (net_among states) (record { router = router; port = port }) → ⊥
-has_none states router port past place =
-    let below = there (net_among states) (record { router = router; port = port }) place in
-    let same = length-map states (λ (s : State). s.ports) in
-    omega (arith, below, same, past)
+has_none states router port past place = grind (arith, common_steps, there, place, length-map)
 
 pub some_state : (states : List State) (router port : ℕ) → IsPlace (net_among states) (record { router = router; port = port }) → 0 < length states
-some_state states router port place =
-    let below = there (net_among states) (record { router = router; port = port }) place in
-    let same = length-map states (λ (s : State). s.ports) in
-    omega (arith, below, same)
+some_state states router port place = grind (arith, common_steps, there, place, length-map)

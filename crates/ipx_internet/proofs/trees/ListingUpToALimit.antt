@@ -1,5 +1,6 @@
 -- A listing that grows up to a limit, piece by piece.
-use Rattle.std.proofs.Common.{◌≡◌, refl, sym, ap, ◌∙◌, subst, ℕ, zero, suc, ◌+◌, ◌<◌, ◌≤◌, Bool, true, false, List, [], ◌∷◌, ◌++◌, length, map, filter, drop, get_or, Some, slice_get, arith, length-append}
+use Rattle.std.proofs.lemmas.Grind.{common_steps}
+use Rattle.std.proofs.Common.{◌≡◌, refl, sym, ap, ◌∙◌, subst, ℕ, suc, ◌+◌, ◌<◌, ◌≤◌, Bool, true, false, List, [], ◌∷◌, ◌++◌, length, map, filter, drop, get_or, Some, slice_get, arith, length-append}
 use Rattle.std.proofs.Math.Seq.{drop-cons}
 use Rattle.std.proofs.lemmas.List.{append_assoc, append-nil}
 use Rattle.std.proofs.lemmas.Option.{get_or_from_slice_get, slice_get_within}
@@ -9,16 +10,14 @@ use Rattle.ipx_router.specs.Relays.{Sent}
 use Rattle.ipx_internet.specs.Listed.{sent_bytes, child, listed_from, IsCut, Fills}
 use Rattle.ipx_internet.specs.inside.Stations.{stations_on, hears}
 use Rattle.ipx_internet.specs.declared.fault.TraceFault.{TraceFault}
-use Rattle.ipx_internet.specs.declared.fault.TraceFault.TheVariants.{NoSuchPort, Limit, Memory}
+use Rattle.ipx_internet.specs.declared.fault.TraceFault.TheVariants.{Memory}
 use Rattle.ipx_internet.specs.declared.listing.Listed.{Listed}
 use Rattle.ipx_internet.specs.declared.listing.Parent.{Parent}
 use Rattle.ipx_internet.specs.declared.stations.Station.{Station}
 
 -- what cuts so many short cuts more short too
 pub cut_more : (limit a b : ℕ) (fault : TraceFault) → a ≤ b → IsCut limit a fault → IsCut limit b fault
-cut_more limit a b NoSuchPort more cut = cut
-cut_more limit a b Limit more cut = omega (arith, more, cut)
-cut_more limit a b Memory more cut = cut
+cut_more limit a b fault more cut = grind arith
 
 -- no memory is a reason for any number, where one is allowed
 pub no_memory : (limit count : ℕ) (fault : TraceFault) → 0 < limit → fault ≡ Memory → IsCut limit count fault
@@ -30,10 +29,7 @@ module _ (limit : ℕ) (first now all : List Listed) where
 
   pub goes_on : (piece rest next : List Listed) → Fills limit first now all (piece ++ rest) → next ≡ now ++ piece
       → (length now ≤ limit → length next ≤ limit) → Fills limit first next all rest
-  goes_on piece rest next fills is few = record {
-    whole = ap (λ (xs : List Listed). xs ++ rest) is ∙ append_assoc now piece rest ∙ fills.whole;
-    few = λ h. few (fills.few h);
-  }
+  goes_on piece rest next fills is few = grind (arith, append_assoc)
 
   pub ends : Fills limit first now all [] → now ≡ first ++ all
   ends fills = sym (append-nil now) ∙ fills.whole
@@ -62,10 +58,7 @@ module _ {X Y : Type 0} (f : X → Y) (hears : X → Bool) (xs : List X) (k : �
 
 -- behind the last there is nothing
 pub drop_all : {X : Type 0} (xs : List X) (k : ℕ) → length xs ≤ k → drop k xs ≡ []
-drop_all [] zero past = refl
-drop_all [] (suc k) past = refl
-drop_all (x ∷ xs) zero past = absurd (omega (arith, past))
-drop_all (x ∷ xs) (suc k) past = drop_all xs k (omega (arith, past))
+drop_all xs k past = grind (arith, common_steps)
 
 -- ---- what is left of some packets
 
@@ -87,18 +80,9 @@ pub packet_fills : (limit : ℕ) (first now all : List Listed) (stations : List 
     → Fills limit first now all (listed_from stations ports parent start (drop k sents))
     → Fills limit first now all (map (child parent start (length s.bytes)) (filter (hears parent.router s.link) near)
     ++ listed_from stations ports parent (start + length s.bytes) (drop (k + 1) sents))
-packet_fills limit first now all stations ports parent sents k start s network near on of there fills =
-    let same : near ≡ stations_on stations (port_at ports s.port).network = on ∙ ap (λ (n : Network). stations_on stations n) of in
-    let rest = listed_from stations ports parent (start + length s.bytes) (drop (k + 1) sents) in
-    subst (λ (rest : List Listed). Fills limit first now all rest)
-    (ap (λ (xs : List Sent). listed_from stations ports parent start xs) (from_one sents k s there)
-    ∙ ap (λ (xs : List Station). map (child parent start (length s.bytes)) (filter (hears parent.router s.link) xs) ++ rest) (sym same))
-    fills
+packet_fills limit first now all stations ports parent sents k start s network near on of there fills = grind (arith, from_one)
 
 -- its bytes are appended, and those of the others are left
 pub packet_joins : (first now next : List ℕ) (sents : List Sent) (k : ℕ) (s : Sent) → slice_get sents k ≡ Some s → next ≡ now ++ s.bytes
     → now ++ sent_bytes (drop k sents) ≡ first → next ++ sent_bytes (drop (k + 1) sents) ≡ first
-packet_joins first now next sents k s there is joins =
-    ap (λ (xs : List ℕ). xs ++ sent_bytes (drop (k + 1) sents)) is
-    ∙ append_assoc now s.bytes (sent_bytes (drop (k + 1) sents))
-    ∙ ap (λ (xs : List Sent). now ++ sent_bytes xs) (sym (from_one sents k s there)) ∙ joins
+packet_joins first now next sents k s there is joins = grind (arith, append_assoc, from_one)

@@ -1,5 +1,5 @@
 -- What is so of a log stays so as more is received.
-use Rattle.std.proofs.Common.{◌≡◌, sym, subst, ℕ, ◌<◌, true, List, [], ◌++◌, length, Some, length-append, arith}
+use Rattle.std.proofs.Common.{◌≡◌, sym, subst, ℕ, ◌<◌, true, List, [], ◌++◌, length, Some, length-append, arith, rules}
 use Rattle.std.specs.List.{AllByRecursion}
 use Rattle.std.proofs.lemmas.List.{get_or_append_left}
 use Rattle.ipx_router.specs.Packets.{IsRelayed}
@@ -37,13 +37,7 @@ module _ (net : Internet) (log more : List Reception) where
       }
 
   pub comes_lasts : (s : Sending) (to : Place) (bytes : List ℕ) → Comes net log s to bytes → Comes net (log ++ more) s to bytes
-  comes_lasts s to bytes comes = record {
-    forward = forward_lasts s comes.forward;
-    delivered =
-        subst (λ (r : Reception). receives net (record { router = r.to.router; port = s.sent.port }) s.sent.link to ≡ true)
-        (sym (same_reception s.place comes.forward.there)) comes.delivered;
-    same = comes.same;
-  }
+  comes_lasts s to bytes comes = search (rules, forward_lasts, same_reception)
 
   pub sound_lasts : (place : ℕ) (r : Reception) → IsSound net log place r → IsSound net (log ++ more) place r
   sound_lasts place r sound = record {

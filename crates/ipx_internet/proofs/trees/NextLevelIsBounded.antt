@@ -1,5 +1,5 @@
 -- How large the next level of a tree gets, and what a router sends on: what is listed of the packet, each time by another port.
-use Rattle.std.proofs.Common.{◌≡◌, ◌↔◌, refl, sym, subst, ℕ, zero, suc, ◌+◌, ◌*◌, ◌≤◌, Bool, true, List, [], ◌∷◌, length, map, Option, Some, None, Result, Ok, Err, slice_get, arith, length-append, mul_assoc, mul-add, mul-one}
+use Rattle.std.proofs.Common.{◌≡◌, ◌↔◌, refl, sym, subst, ℕ, zero, suc, ◌+◌, ◌*◌, ◌≤◌, Bool, true, List, [], ◌∷◌, length, map, Option, Some, None, Result, Ok, Err, slice_get, arith, length-append}
 use Rattle.std.specs.List.{AllByRecursion}
 use Rattle.std.specs.List.Sorted.{IsStrictlyIncreasing}
 use Rattle.ipx_wire.specs.Packet.{Parts, IsPacket, packet_of}
@@ -14,7 +14,6 @@ use Rattle.ipx_router.specs.declared.why.Why.{Why}
 use Rattle.ipx_internet.specs.Different.{AreDifferent}
 use Rattle.ipx_internet.specs.Tree.{Router, IsRouter, Copy, sent_on, children, next_level, levels, joined}
 use Rattle.ipx_internet.proofs.lists.EachElement.{all-append, all_listed, rising_differ}
-use Rattle.ipx_internet.proofs.lists.FoundInAList.{nothing}
 use Rattle.ipx_internet.proofs.packets.ForwardsDiffer.{runs_then}
 
 -- the laws of routers that trees rest on
@@ -58,11 +57,7 @@ module _ (routers : List Router) where
 
 -- a level, and what the levels behind it have
 pub grown : (l d m x : ℕ) → x ≤ (l * d) * m → l + x ≤ l * (1 + d * m)
-grown l d m x h =
-    let a : (l * d) * m ≡ l * (d * m) = mul_assoc l d m in
-    let b : l * (1 + d * m) ≡ l * 1 + l * (d * m) = mul-add l 1 (d * m) in
-    let c : l * 1 ≡ l = mul-one l in
-    omega (arith, h, a, b, c)
+grown l d m x h = grind arith
 
 -- ---- what a router sends on
 
@@ -99,8 +94,7 @@ module _ (laws : Relaying) (r : Router) (is : IsRouter r) (number : ℕ) (bytes 
   nothing_sent = []
 
   none_in : (k : ℕ) → slice_get nothing_sent k ≡ Some s → (r.running ≡ true) × IsRelayed r.ports r.up r.routes number bytes s
-  none_in zero e = nothing e
-  none_in (suc k) e = nothing e
+  none_in k e = grind arith
 
   pub is_forward : (k : ℕ) → slice_get (sent_on r number bytes) k ≡ Some s → (r.running ≡ true) × IsRelayed r.ports r.up r.routes number bytes s
   is_forward k there = by (why r.ports r.up r.routes r.running number bytes) (packet_of bytes) refl refl there

@@ -22,8 +22,7 @@ use Rattle.ipx_internet.proofs.trees.PropagatedGoesElsewhere.{Spreads, outlet_is
 
 -- a network that isn't among others isn't the one behind them
 not_last : (network other : Network) (networks : List Network) → is_among network (networks ++ other ∷ []) ≡ false → network ≢ other
-not_last network other networks new e =
-    eqb-false other.0 network.0 (or_parts _ _ (none_of_both (λ n. n.0 == network.0) networks (other ∷ []) new).1).0 (sym (ap (λ n. n.0) e))
+not_last network other networks new e = grind (arith, eqb-false, or_parts, none_of_both)
 
 module _ (w : Wire) (net : Internet) (is : IsInternet net) (log : List Reception) (whole : IsLog net log) where
   -- a propagated packet at a place of the log

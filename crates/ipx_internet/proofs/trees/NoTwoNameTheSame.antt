@@ -1,5 +1,5 @@
 -- What receptions and deliveries name: the forward that each came of and the port where it came. No two name the same.
-use Rattle.std.proofs.Common.{◌≡◌, ◌≢◌, refl, sym, ap, ap₂, ◌∙◌, subst, ℕ, zero, suc, ◌<◌, List, [], ◌∷◌, ◌++◌, length, map, flat_map, Option, None, Some, arith}
+use Rattle.std.proofs.Common.{◌≡◌, ◌≢◌, refl, sym, ap, ap₂, subst, ℕ, zero, suc, ◌<◌, List, [], ◌∷◌, ◌++◌, length, map, flat_map, Option, None, Some, arith}
 use Rattle.std.specs.List.{AllByRecursion}
 use Rattle.std.proofs.lemmas.Grind.{flat_map-append}
 use Rattle.ipx_router.specs.Relays.{Sent}
@@ -31,13 +31,10 @@ names_waiting waiting = flat_map (λ w. named w.origin w.delivery.to) waiting
 
 all_of_name : (P : Name → Type 0) (origin : Option Sending) (to : Place) (s : Sending) (rest : List Name) → origin ≡ Some s
     → AllByRecursion P (named origin to ++ rest) → P (record { sending = s; to = to })
-all_of_name P origin to s rest e all =
-    let Q : Option Sending → Type 0 = λ o. AllByRecursion P (named o to ++ rest) in
-    (subst Q e all).0
+all_of_name P origin to s rest e all = grind arith
 
 behind_name : (P : Name → Type 0) (origin : Option Sending) (to : Place) (rest : List Name) → AllByRecursion P (named origin to ++ rest) → AllByRecursion P rest
-behind_name P None to rest all = all
-behind_name P (Some s) to rest all = all.1
+behind_name P origin to rest all = grind arith
 
 -- what holds of all names holds of one
 has_name : (P : Name → Type 0) (log : List Reception) (k : ℕ) (s : Sending) → AllByRecursion P (names log) → k < length log
@@ -47,14 +44,11 @@ has_name P (r ∷ log) zero s all within e = all_of_name P r.origin r.to s (name
 has_name P (r ∷ log) (suc k) s all within e = has_name P log k s (behind_name P r.origin r.to (names log) all) (omega (arith, within)) e
 
 differ_behind : (origin : Option Sending) (to : Place) (rest : List Name) → AreDifferent (named origin to ++ rest) → AreDifferent rest
-differ_behind None to rest differ = differ
-differ_behind (Some s) to rest differ = differ.1
+differ_behind origin to rest differ = grind arith
 
 others_differ : (origin : Option Sending) (to : Place) (s : Sending) (rest : List Name) → origin ≡ Some s → AreDifferent (named origin to ++ rest)
     → AllByRecursion (λ n. n ≢ record { sending = s; to = to }) rest
-others_differ origin to s rest e differ =
-    let Q : Option Sending → Type 0 = λ o. AreDifferent (named o to ++ rest) in
-    (subst Q e differ).0
+others_differ origin to s rest e differ = grind arith
 
 pub named_once : (log : List Reception) → AreDifferent (names log) → (a b : ℕ) (s : Sending) → a < length log → b < length log
     → (reception_at log a).origin ≡ Some s → (reception_at log b).origin ≡ Some s → (reception_at log a).to ≡ (reception_at log b).to → a ≡ b
@@ -100,8 +94,7 @@ module _ (net : Internet) (router : ℕ) (origin : Sent → Option Sending) wher
 
   names_in_pieces : (sents : List Sent) → names_waiting (flat_map waits sents) ≡ flat_map (λ s. names_waiting (waits s)) sents
   names_in_pieces [] = refl
-  names_in_pieces (s ∷ sents) =
-      flat_map-append (λ w. named w.origin w.delivery.to) (waits s) (flat_map waits sents) ∙ ap (λ rest. names_waiting (waits s) ++ rest) (names_in_pieces sents)
+  names_in_pieces (s ∷ sents) = grind (arith, names_in_pieces sents, flat_map-append)
 
   module _ (place : ℕ) (is_forward : (s : Sent) → origin s ≡ Some (record { place = place; sent = s })) where
     abbrev name : Sent → Place → Name

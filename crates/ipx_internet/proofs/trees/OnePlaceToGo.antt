@@ -1,5 +1,5 @@
 -- Where a packet for another network goes: to a port's network, or to one neighbour.
-use Rattle.std.proofs.Common.{◌≡◌, refl, sym, ap₂, ◌∙◌, ℕ, ◌==◌, ◌⊎◌, Bool, true, false, List, [], ◌∷◌, Option, None, Some, inl, inr, option_map, if◌then◌else◌}
+use Rattle.std.proofs.Common.{◌≡◌, refl, ℕ, ◌==◌, ◌⊎◌, Bool, true, false, List, [], ◌∷◌, Option, None, Some, inl, inr, option_map, if◌then◌else◌, arith}
 use Rattle.std.specs.List.{AllByRecursion}
 use Rattle.std.proofs.lemmas.Bool.{eqb-true}
 use Rattle.ipx_wire.specs.declared.address.Address.{Address}
@@ -51,8 +51,4 @@ by_port_or_node ports up routes destination way table e = by (port_to ports up d
 -- what is sent by one way, with the same bytes, is the same
 pub one_sent : (way : Option Way) (bytes : List ℕ) (s t : Sent) → way ≡ Some (record { port = s.port; link = s.link })
     → way ≡ Some (record { port = t.port; link = t.link }) → s.bytes ≡ bytes → t.bytes ≡ bytes → s ≡ t
-one_sent way bytes s t by_s by_t from_s from_t =
-    let sent : Way → List ℕ → Sent = λ w bytes. record { port = w.port; link = w.link; bytes = bytes } in
-    let way_s : Way = record { port = s.port; link = s.link } in
-    let way_t : Way = record { port = t.port; link = t.link } in
-    ap₂ sent (it_is (λ (w : Way). way_s ≡ w) way_t way_s (sym by_s ∙ by_t) refl) (from_s ∙ sym from_t)
+one_sent way bytes s t by_s by_t from_s from_t = grind arith

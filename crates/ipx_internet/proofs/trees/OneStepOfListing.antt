@@ -1,11 +1,11 @@
 -- One step of a listing: what is kept of it, and what it shows.
-use Rattle.std.proofs.Common.{◌≡◌, refl, sym, ap, ap₂, ◌∙◌, subst, ℕ, ◌+◌, ◌<◌, ◌≤◌, List, [], ◌∷◌, ◌++◌, length, map, flat_map, take, drop, Option, None, Some, arith, length-append, slice_index_or}
+use Rattle.std.proofs.Common.{◌≡◌, refl, sym, ap, ap₂, ◌∙◌, subst, ℕ, ◌+◌, ◌<◌, ◌≤◌, List, [], ◌∷◌, ◌++◌, length, map, flat_map, take, drop, Option, Some, arith, length-append, slice_index_or}
 use Rattle.std.proofs.Math.Seq.{drop-append_seam, take-append_seam}
 use Rattle.std.proofs.lemmas.List.{append_assoc, map-append, get_or-map, length-map, length-drop, drop-append-le, take-append-le}
 use Rattle.ipx_router.specs.Relays.{Sent}
 use Rattle.ipx_router.specs.declared.outcome.Outcome.{Outcome}
 use Rattle.ipx_internet.specs.Listed.{bytes_in, copy_in, IsIn, AreKept, sent_bytes, child, listed_from, Listing, copy_at, waits_next, receivers_by, children_by, GoesOn, IsCut}
-use Rattle.ipx_internet.specs.inside.Stations.{place_of, hearers}
+use Rattle.ipx_internet.specs.inside.Stations.{place_of}
 use Rattle.ipx_internet.specs.TraceRoom.{Memory}
 use Rattle.ipx_internet.specs.Traced.{outcome_of}
 use Rattle.ipx_internet.specs.Tree.{Router, Copy, sent_on}
@@ -24,25 +24,19 @@ module _ (first store more : List ℕ) where
 
   -- a part of what was there
   part : (start size : ℕ) → start + size ≤ length store → take size (drop start (store ++ more)) ≡ take size (drop start store)
-  part start size there =
-      let below : start ≤ length store = omega (arith, there) in
-      let left = length-drop start store in
-      ap (λ (bytes : List ℕ). take size bytes) (drop-append-le start store more below)
-      ∙ take-append-le size (drop start store) more (omega (arith, there, left))
+  part start size there = grind (arith, length-drop, drop-append-le, take-append-le)
 
   -- whatever its parent is
   same_part : (l : Listed) → IsIn store l → (parent : Option ℕ)
       → bytes_in first (store ++ more) (record { parent = parent; router = l.router; port = l.port; start = l.start; size = l.size })
       ≡ bytes_in first store (record { parent = parent; router = l.router; port = l.port; start = l.start; size = l.size })
-  same_part l there None = refl
-  same_part l there (Some number) = part l.start l.size there
+  same_part l there parent = grind (arith, part)
 
   pub same_bytes : (l : Listed) → IsIn store l → bytes_in first (store ++ more) l ≡ bytes_in first store l
   same_bytes l there = same_part l there l.parent
 
   pub same_copy : (l : Listed) → IsIn store l → copy_in first (store ++ more) l ≡ copy_in first store l
-  same_copy l there =
-      ap (λ (bytes : List ℕ). record { parent = l.parent; to = record { router = l.router; port = l.port }; bytes = bytes }) (same_bytes l there)
+  same_copy l there = grind (arith, same_bytes)
 
   pub same_copies : (list : List Listed) → AreKept store list → map (copy_in first (store ++ more)) list ≡ map (copy_in first store) list
   same_copies [] kept = refl
@@ -56,19 +50,13 @@ module _ (first store more : List ℕ) where
 module _ (first store : List ℕ) (r : Router) (stations : List Station) (parent : Parent) (c : Copy) (same : parent.router ≡ c.to.router) where
   -- the bytes of a packet behind others
   of_packet : (front bytes behind : List ℕ) → store ≡ front ++ (bytes ++ behind) → take (length bytes) (drop (length front) store) ≡ bytes
-  of_packet front bytes behind stands =
-      ap (λ (xs : List ℕ). take (length bytes) (drop (length front) xs)) stands
-      ∙ ap (λ (xs : List ℕ). take (length bytes) xs) (drop-append_seam front (bytes ++ behind))
-      ∙ take-append_seam bytes behind
+  of_packet front bytes behind stands = grind (arith, drop-append_seam, take-append_seam)
 
   -- those of one packet
   of_one : (start : ℕ) (s : Sent) → take (length s.bytes) (drop start store) ≡ s.bytes → (near : List Station)
       → map (copy_in first store) (map (child parent start (length s.bytes)) near) ≡ map (λ to. record { parent = Some parent.number; to = place_of to; bytes = s.bytes }) near
   of_one start s are [] = refl
-  of_one start s are (to ∷ near) =
-      ap₂ (λ (c : Copy) (cs : List Copy). c ∷ cs)
-      (ap (λ (bytes : List ℕ). record { parent = Some parent.number; to = place_of to; bytes = bytes }) are)
-      (of_one start s are near)
+  of_one start s are (to ∷ near) = grind (arith, of_one start s are near)
 
   -- behind one packet more
   one_more : (front : List ℕ) (s : Sent) (sents : List Sent) → store ≡ front ++ sent_bytes (s ∷ sents) → store ≡ (front ++ s.bytes) ++ sent_bytes sents
@@ -77,16 +65,7 @@ module _ (first store : List ℕ) (r : Router) (stations : List Station) (parent
   pub new_copies : (sents : List Sent) (front : List ℕ) → store ≡ front ++ sent_bytes sents
       → map (copy_in first store) (listed_from stations r.ports parent (length front) sents) ≡ flat_map (receivers_by r stations parent.number c) sents
   new_copies [] front stands = refl
-  new_copies (s ∷ sents) front stands =
-      let near = hearers stations r.ports parent.router s in
-      let further = length-append front s.bytes in
-      map-append (copy_in first store) (map (child parent (length front) (length s.bytes)) near)
-      (listed_from stations r.ports parent (length front + length s.bytes) sents)
-      ∙ ap₂ (λ (xs ys : List Copy). xs ++ ys)
-      (of_one (length front) s (of_packet front s.bytes (sent_bytes sents) stands) near
-      ∙ ap (λ (router : ℕ). map (λ to. record { parent = Some parent.number; to = place_of to; bytes = s.bytes }) (hearers stations r.ports router s)) same)
-      (ap (λ (n : ℕ). map (copy_in first store) (listed_from stations r.ports parent n sents)) (sym further)
-      ∙ new_copies sents (front ++ s.bytes) (one_more front s sents stands))
+  new_copies (s ∷ sents) front stands = grind (arith, new_copies sents (front ++ s.bytes) (one_more front s sents stands), length-append, map-append, of_one, of_packet, one_more)
 
   kept_one : (start size : ℕ) → start + size ≤ length store → (near : List Station) → AreKept store (map (child parent start size) near)
   kept_one start size there [] = tt
@@ -94,15 +73,7 @@ module _ (first store : List ℕ) (r : Router) (stations : List Station) (parent
 
   pub new_kept : (sents : List Sent) (front : List ℕ) → store ≡ front ++ sent_bytes sents → AreKept store (listed_from stations r.ports parent (length front) sents)
   new_kept [] front stands = tt
-  new_kept (s ∷ sents) front stands =
-      let whole : length store ≡ length ((front ++ s.bytes) ++ sent_bytes sents) = ap (λ (xs : List ℕ). length xs) (one_more front s sents stands) in
-      let both = length-append (front ++ s.bytes) (sent_bytes sents) in
-      let further = length-append front s.bytes in
-      all-append (IsIn store) (map (child parent (length front) (length s.bytes)) (hearers stations r.ports parent.router s))
-      (listed_from stations r.ports parent (length front + length s.bytes) sents)
-      (kept_one (length front) (length s.bytes) (omega (arith, whole, both, further)) (hearers stations r.ports parent.router s))
-      (subst (λ (n : ℕ). AreKept store (listed_from stations r.ports parent n sents)) further
-      (new_kept sents (front ++ s.bytes) (one_more front s sents stands)))
+  new_kept (s ∷ sents) front stands = grind (arith, new_kept sents (front ++ s.bytes) (one_more front s sents stands), one_more, length-append, all-append, kept_one)
 
 -- ---- the step of the reception at a place
 
@@ -155,17 +126,11 @@ module _ (first store : List ℕ) (list : List Listed) (outcomes : List Outcome)
   it = kept_as first store list at number r stations
 
   pub within : length old.outcomes < length old.copies → number < length list
-  within waits =
-      let here : length outcomes < length (map (copy_in first store) list) = subst (λ (l : Listing). length l.outcomes < length l.copies) (sym view) waits in
-      let same = length-map list (copy_in first store) in
-      omega (arith, here, same, done)
+  within waits = grind (arith, length-map)
 
   module _ (waits : length old.outcomes < length old.copies) where
     pub next_is : waits_next old ≡ it
-    next_is =
-        ap (λ (l : Listing). waits_next l) (sym view)
-        ∙ ap (λ (n : ℕ). copy_at (map (copy_in first store) list) n) (sym done)
-        ∙ is_next first store list at number r stations (within waits) is
+    next_is = grind (arith, is_next, within)
 
     pub port_is : (ports : ℕ) → (waits_next old).to.port < ports → at.port < ports
     port_is ports there = subst (λ (c : Copy). c.to.port < ports) next_is there
@@ -174,9 +139,7 @@ module _ (first store : List ℕ) (list : List Listed) (outcomes : List Outcome)
     there_is kept = stands_there first store list at number r stations kept (within waits) is
 
     children_are : children_by r stations number it ≡ children_by r stations (length old.outcomes) (waits_next old)
-    children_are =
-        let same : number ≡ length old.outcomes = done ∙ ap (λ (l : Listing). length l.outcomes) view in
-        ap₂ (λ (n : ℕ) (c : Copy). children_by r stations n c) same (sym next_is)
+    children_are = grind (arith, next_is)
 
     module _ (store2 : List ℕ) (after : After first store list at number r stations store2) where
       abbrev new : List Listed
@@ -184,37 +147,15 @@ module _ (first store : List ℕ) (list : List Listed) (outcomes : List Outcome)
 
       pub cut : (limit : ℕ) (fault : TraceFault) → IsCut limit (length list + length new) fault
           → IsCut limit (length old.copies + length (children_by r stations (length old.outcomes) (waits_next old))) fault
-      cut limit fault was =
-          let a = length-map list (copy_in first store) in
-          let b : length (map (copy_in first store) list) ≡ length old.copies = ap (λ (l : Listing). length l.copies) view in
-          let c = length-map new (copy_in first store2) in
-          let d : length (map (copy_in first store2) new) ≡ length (children_by r stations (length old.outcomes) (waits_next old)) =
-          ap (λ (cs : List Copy). length cs) (after.copies_new ∙ children_are) in
-          cut_more limit (length list + length new) (length old.copies + length (children_by r stations (length old.outcomes) (waits_next old))) fault
-          (omega (arith, a, b, c, d)) was
+      cut limit fault was = grind (arith, length-map, children_are, cut_more)
 
       module _ (list2 : List Listed) (listed : list2 ≡ list ++ new) where
         pub kept_all : AreKept store2 list2
-        kept_all = subst (λ (ls : List Listed). AreKept store2 ls) (sym listed)
-            (all-append (IsIn store2) list new after.kept_old after.kept_new)
+        kept_all = grind (arith, all-append)
 
         pub few_all : (limit : ℕ) → (length list ≤ limit → length list2 ≤ limit) → length old.copies ≤ limit → length (map (copy_in first store2) list2) ≤ limit
-        few_all limit few here =
-            let a = length-map list (copy_in first store) in
-            let b : length (map (copy_in first store) list) ≡ length old.copies = ap (λ (l : Listing). length l.copies) view in
-            let c = length-map list2 (copy_in first store2) in
-            let d = few (omega (arith, a, b, here)) in
-            omega (arith, c, d)
+        few_all limit few here = grind (arith, length-map)
 
         pub went_on : {memory2 : Memory} (outcomes2 : List Outcome) (o : Outcome) → outcomes2 ≡ outcomes ++ o ∷ [] → o ≡ outcome_of r at.port (bytes_in first store at)
             → GoesOn r stations old (record { copies = map (copy_in first store2) list2; outcomes = outcomes2; memory = memory2 })
-        went_on outcomes2 o more became = record {
-          copies =
-              ap (λ (ls : List Listed). map (copy_in first store2) ls) listed
-              ∙ map-append (copy_in first store2) list new
-              ∙ ap₂ (λ (xs ys : List Copy). xs ++ ys) (after.copies_old ∙ ap (λ (l : Listing). l.copies) view) (after.copies_new ∙ children_are);
-          outcomes =
-              more
-              ∙ ap₂ (λ (os : List Outcome) (o : Outcome). os ++ o ∷ []) (ap (λ (l : Listing). l.outcomes) view)
-              (became ∙ ap (λ (c : Copy). outcome_of r c.to.port c.bytes) (sym next_is));
-        }
+        went_on outcomes2 o more became = grind (arith, map-append, children_are, next_is)

@@ -1,5 +1,5 @@
 -- What is told of a listing: each reception with what became of the packet there.
-use Rattle.std.proofs.Common.{◌≡◌, refl, sym, ap, ap₂, ◌∙◌, subst, ℕ, zero, suc, ◌<◌, List, [], ◌∷◌, length, map, slice_get, Some, arith}
+use Rattle.std.proofs.Common.{◌≡◌, refl, sym, ap, ap₂, ◌∙◌, ℕ, zero, suc, ◌<◌, List, [], ◌∷◌, length, map, slice_get, Some, arith}
 use Rattle.std.specs.List.{AllByRecursion}
 use Rattle.std.proofs.lemmas.List.{length-map}
 use Rattle.ipx_router.specs.declared.outcome.Outcome.{Outcome}
@@ -47,6 +47,4 @@ module _ (of : Copy → Outcome) (whole copies : List Copy) (outcomes : List Out
   told_whole = told_copies copies outcomes each_has_one ∙ listed
 
   pub told_each : AllByRecursion (λ r. r.outcome ≡ of r.copy) (told copies outcomes)
-  told_each =
-      let same : map of copies ≡ outcomes = ap (λ (cs : List Copy). map of cs) listed ∙ sym became in
-      subst (λ (os : List Outcome). AllByRecursion (λ r. r.outcome ≡ of r.copy) (told copies os)) same (told_outcomes of copies)
+  told_each = grind (arith, told_outcomes)

@@ -1,5 +1,5 @@
 -- A propagated packet leaves by another port, for a network where it wasn't; and what the next router reads of it.
-use Rattle.std.proofs.Common.{◌≡◌, ◌≢◌, sym, ap, ◌∙◌, subst, ℕ, ◌<◌, true, false, List, length, Some, inl, inr, lt_trans, lit<}
+use Rattle.std.proofs.Common.{◌≡◌, ◌≢◌, sym, ◌∙◌, subst, ℕ, ◌<◌, true, false, List, length, Some, inl, inr, lt_trans, lit<, arith}
 use Rattle.std.proofs.lemmas.Bool.{and_parts, not-true, both_ways}
 use Rattle.ipx_wire.specs.Crossed.{IsNetwork, IsCrossed, is_among}
 use Rattle.ipx_wire.specs.Forward.{propagated}
@@ -8,7 +8,7 @@ use Rattle.ipx_wire.specs.Write.{packet_bytes}
 use Rattle.ipx_wire.specs.declared.network.Network.{Network}
 use Rattle.ipx_router.specs.Port.{is_up}
 use Rattle.ipx_router.specs.Why.{is_propagated}
-use Rattle.ipx_internet.specs.Internet.{Internet, Place, ports_of, network_of, IsPlace, IsInternet}
+use Rattle.ipx_internet.specs.Internet.{Internet, Place, network_of, IsPlace, IsInternet}
 use Rattle.ipx_internet.specs.Log.{Sending, Reception, reception_at, outlet, IsForward, IsLog}
 use Rattle.ipx_internet.proofs.lists.EachElement.{holds_of}
 use Rattle.ipx_internet.proofs.packets.SentOnReadAgain.{Wire, read_propagated}
@@ -32,9 +32,7 @@ module _ (w : Wire) (net : Internet) (is : IsInternet net) (log : List Reception
   leaves_up s forward = elim forward.relayed [ inl f ↦ f.leaves.leaves_up | inr f ↦ f.leaves.leaves_up ]
 
   pub outlet_is : (s : Sending) → IsForward net log s → IsPlace net (outlet log s)
-  outlet_is s forward =
-      holds_of (λ j. j < length (ports_of net (reception_at log s.place).to.router)) s.sent.port (reception_at log s.place).up
-      (whole.ups s.place forward.there) (leaves_up s forward)
+  outlet_is s forward = grind (arith, holds_of, leaves_up)
 
   pub is_network : (place : Place) → IsPlace net place → IsNetwork (network_of net place)
   is_network place within = place_network net is place within
@@ -61,12 +59,7 @@ module _ (w : Wire) (net : Internet) (is : IsInternet net) (log : List Reception
 
   -- it goes to another network
   pub elsewhere : (s : Sending) (p : Parts) → IsForward net log s → Spreads s p → (arrival s).0 ≡ (departure s).0 → ⊥
-  elsewhere s p forward spread e =
-      let with_number : ℕ → Network = λ n. record { 0 = n } in
-      let router = (reception_at log s.place).to.router in
-      spread.other
-      (one_port (ports_of net router) (apart_at net is router) s.sent.port (reception_at log s.place).to.port (outlet_is s forward)
-      (whole.within s.place forward.there) (sym (ap with_number e)))
+  elsewhere s p forward spread e = grind (arith, one_port, apart_at, outlet_is)
 
   -- what is received of it
   pub received : (child : ℕ) (s : Sending) (p : Parts) → child < length log → (reception_at log child).origin ≡ Some s → IsForward net log s

@@ -1,6 +1,7 @@
 -- How large the tree of a propagated packet gets. All receptions of one level have the same transport control. It goes on to each
 -- other port of a router and each other port of its network, at most, and eight times at most.
-use Rattle.std.proofs.Common.{◌≡◌, ◌≢◌, refl, sym, subst, ℕ, zero, suc, ◌+◌, ◌-◌, ◌*◌, ◌<◌, ◌≤◌, ◌==◌, Some, true, false, List, [], ◌∷◌, length, map, flat_map, inl, inr, arith, length-append, mul-le-mul_right, mul-one, mul-zero, one-mul}
+use Rattle.std.proofs.lemmas.Grind.{common_steps}
+use Rattle.std.proofs.Common.{◌≡◌, ◌≢◌, sym, subst, ℕ, zero, suc, ◌+◌, ◌-◌, ◌*◌, ◌<◌, ◌≤◌, ◌==◌, Some, true, false, List, [], ◌∷◌, length, map, flat_map, inl, inr, arith, length-append, mul-le-mul_right, mul-one, mul-zero, one-mul}
 use Rattle.std.specs.List.{AllByRecursion, list_any}
 use Rattle.std.proofs.lemmas.Bool.{and_parts, not-true, both_ways}
 use Rattle.std.proofs.lemmas.List.{length-map}
@@ -30,15 +31,11 @@ use Rattle.ipx_internet.proofs.trees.PropagatedGoesElsewhere.{place_network}
 
 -- the ports of a router of the internet are its ports
 pub ports_same : (routers : List Router) (number : ℕ) → ports_of (net_of routers) number ≡ (router_at routers number).ports
-ports_same [] number = refl
-ports_same (r ∷ routers) zero = refl
-ports_same (r ∷ routers) (suc number) = ports_same routers number
+ports_same routers number = grind (arith, common_steps)
 
 -- a router that there is or isn't
 pub router_is : (routers : List Router) → AllByRecursion IsRouter routers → (number : ℕ) → IsRouter (router_at routers number)
-router_is routers all number =
-    all_or IsRouter routers number (router_at [] 0) all
-    (record { rising = λ k below. absurd (omega (arith, below)); within = tt; table = tt; routes_up = tt })
+router_is routers all number = grind (arith, all_or)
 
 -- how a packet for all networks is sent on
 pub record SpreadBy (r : Router) (number : ℕ) (p : Parts) (s : Sent) : Type 0 where
@@ -96,9 +93,7 @@ module _ (w : Wire) (laws : Relaying) (over : SentOn) (routers : List Router) (m
     port_there j up = holds_of (λ j. j < length r.ports) j r.up of_r.within up
 
     place_there : (j : ℕ) → is_up r.up j ≡ true → IsPlace net (record { router = c.to.router; port = j })
-    place_there j up =
-        let P : List Port → Type 0 = λ ports. j < length ports in
-        subst P (sym (ports_same routers c.to.router)) (port_there j up)
+    place_there j up = grind (arith, ports_same, port_there)
 
     -- fewer leave than the router has ports
     forwards_few : (ss : List Sent) → AllByRecursion (SpreadBy r c.to.port p) ss → AreDifferent (map (λ s. s.port) ss) → length ss ≤ most_ports net - 1

@@ -65,17 +65,11 @@ module _ (net : Internet) where
   -- as many times as much as each weighs at most
   pub weights_each : (each : ℕ) (xs : List Copy) → AllByRecursion (λ x. weight net x ≤ each) xs → weights net xs ≤ length xs * each
   weights_each each [] all = omega arith
-  weights_each each (x ∷ xs) all =
-      let one = all.0 in
-      let rest = weights_each each xs all.1 in
-      omega (arith, one, rest)
+  weights_each each (x ∷ xs) all = grind (arith, weights_each each xs all.1)
 
   pub no_more_than_weights : (xs : List Copy) → length xs ≤ weights net xs
   no_more_than_weights [] = omega arith
-  no_more_than_weights (x ∷ xs) =
-      let one = at_least_one x in
-      let rest = no_more_than_weights xs in
-      omega (arith, one, rest)
+  no_more_than_weights (x ∷ xs) = omega (arith, no_more_than_weights xs, at_least_one)
 
   -- ---- a list with a mark, behind which the receptions wait
 
@@ -118,16 +112,10 @@ module _ (net : Internet) where
 
   pub goes_on : (root c : Copy) (xs ys : List Copy) (k : ℕ) → IsBounded net root k xs → slice_get xs k ≡ Some c → AllByRecursion (CanCome net) ys
       → 1 + weights net ys ≤ weight net c → IsBounded net root (k + 1) (xs ++ ys)
-  goes_on root c xs ys k bounded there can light =
-      let before = bounded.light in
-      let step = never_rises xs ys k c there light in
-      record { each = all-append (CanCome net) xs ys bounded.each can; light = omega (arith, before, step) }
+  goes_on root c xs ys k bounded there can light = grind (arith, never_rises, all-append)
 
   pub few : (root : Copy) (xs : List Copy) (k : ℕ) → IsBounded net root k xs → length xs ≤ weight net root
-  few root xs k bounded =
-      let light = bounded.light in
-      let listed = no_more_than_measure k xs in
-      omega (arith, light, listed)
+  few root xs k bounded = omega (arith, no_more_than_measure)
 
   -- ---- the same of a list in two parts: what was sent on, and what waits
 
@@ -139,10 +127,6 @@ module _ (net : Internet) where
   behind_mark [] waiting = refl
   behind_mark (x ∷ done) waiting = behind_mark done waiting
 
-  at_mark : (done waiting : List Copy) (c : Copy) → slice_get (done ++ c ∷ waiting) (length done) ≡ Some c
-  at_mark [] waiting c = refl
-  at_mark (x ∷ done) waiting c = at_mark done waiting c
-
   -- the two forms are one
   pub in_parts : (root : Copy) (done waiting : List Copy) → IsBounded net root (length done) (done ++ waiting) → IsLight root done waiting
   in_parts root done waiting bounded =
@@ -150,10 +134,7 @@ module _ (net : Internet) where
 
   pub from_parts : (root : Copy) (done waiting : List Copy) → AllByRecursion (CanCome net) (done ++ waiting) → IsLight root done waiting
       → IsBounded net root (length done) (done ++ waiting)
-  from_parts root done waiting each light = record {
-    each = each;
-    light = subst (λ (xs : List Copy). length done + weights net xs ≤ weight net root) (sym (behind_mark done waiting)) light;
-  }
+  from_parts root done waiting each light = grind (arith, behind_mark)
 
   -- the step, where one that waits goes to those that were sent on, and others come to wait
   pub parts_go_on : (root c : Copy) (done waiting ys : List Copy) → IsLight root done (c ∷ waiting) → 1 + weights net ys ≤ weight net c

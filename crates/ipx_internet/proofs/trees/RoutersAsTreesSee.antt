@@ -1,15 +1,12 @@
 -- The routers of an internet that stands for histories, as a tree sees them.
-use Rattle.std.proofs.Common.{◌≡◌, refl, sym, ap, ap₂, ◌∙◌, ℕ, zero, suc, Bool, List, [], ◌∷◌, ◌++◌, length, map, slice_get, Some, subst}
+use Rattle.std.proofs.Common.{◌≡◌, refl, sym, ap, ap₂, ◌∙◌, ℕ, zero, suc, List, [], ◌∷◌, length, map, slice_get, Some, subst, arith}
 use Rattle.std.proofs.lemmas.List.{length-map, map-append, get_or-map}
 use Rattle.std.proofs.lemmas.Option.{get_or_from_slice_get, slice_get_within}
 use Rattle.std.specs.List.{AllByRecursion}
-use Rattle.ipx_table.specs.declared.held.Held.{Held}
-use Rattle.ipx_router.specs.Facts.{offers}
-use Rattle.ipx_router.specs.History.{History, running, ports_up, IsOnPort}
+use Rattle.ipx_router.specs.History.{History, IsOnPort}
 use Rattle.ipx_router.specs.Port.{Port, numbers}
 use Rattle.ipx_router.specs.RouterOf.{HasPast}
 use Rattle.ipx_router.specs.Stands.{State, StandsFor as RouterStandsFor}
-use Rattle.ipx_router.specs.declared.route_offer.RouteOffer.{RouteOffer}
 use Rattle.ipx_internet.specs.Internet.{ports_of}
 use Rattle.ipx_internet.specs.Moment.{Moment, StandsFor, net_at}
 use Rattle.ipx_internet.specs.Queue.{Queued, history_of}
@@ -19,18 +16,12 @@ use Rattle.ipx_internet.specs.Tree.{Router, router_now, IsRouter}
 -- a router that stands for a history is as it is after it
 pub stands_now : (most_routes most_services : ℕ) (s : State) (history : History) → RouterStandsFor most_routes most_services s history
     → router_of s ≡ router_now s.ports most_routes history
-stands_now most_routes most_services s history stands =
-    let made : Bool → List ℕ → List (Held RouteOffer) → Router = λ runs up routes. record { ports = s.ports; running = runs; up = up; routes = offers routes } in
-    ap (λ (b : Bool). made b s.up s.routes) stands.runs
-    ∙ ap (λ (up : List ℕ). made (running history) up s.routes) stands.ups
-    ∙ ap (λ (routes : List (Held RouteOffer)). made (running history) (ports_up s.ports history) routes) stands.routes_stand
+stands_now most_routes most_services s history stands = grind arith
 
 -- the numbers from the front
 pub numbers_front : (n : ℕ) → numbers (suc n) ≡ 0 ∷ map suc (numbers n)
 numbers_front zero = refl
-numbers_front (suc n) =
-    ap (λ (ns : List ℕ). ns ++ suc n ∷ []) (numbers_front n)
-    ∙ ap (λ (ns : List ℕ). 0 ∷ ns) (sym (map-append suc (numbers n) (n ∷ [])))
+numbers_front (suc n) = grind (arith, numbers_front n, map-append)
 
 module _ {X : Type 0} where
   pub joint : (f : ℕ → X) (ns : List ℕ) → map f (map suc ns) ≡ map (λ n. f (suc n)) ns
@@ -58,8 +49,7 @@ module _ (most_routes most_services : ℕ) (m : Moment) (q : Queued) (stands : S
       ∙ ap (λ (ns : List ℕ). map f ns) (sym (numbers_front (length states)))
 
   pub after_histories : routers_of m.routers ≡ routers_after (net_at m) most_routes q.histories
-  after_histories =
-      mapped now m.routers one ∙ ap (λ (n : ℕ). map now (numbers n)) (sym (length-map m.routers (λ (s : State). s.ports)))
+  after_histories = grind (arith, mapped, one, length-map)
 
 -- routers with pasts have tables such as a tree is said of
 module _ (most_routes most_services : ℕ)

@@ -2,10 +2,10 @@
 --
 -- At each step: what was received is sound, what waits came of what was received, and no two of both name the same forward
 -- and port.
-use Rattle.std.proofs.Common.{◌≡◌, refl, sym, ap, ◌∙◌, subst, ℕ, zero, suc, ◌<◌, Bool, true, false, List, [], ◌∷◌, ◌++◌, length, flat_map, Option, None, Some, Result, Ok, Err, append-nil, length-append, length-set, get_or-set_same, get_or-set_other, inl, inr, arith}
+use Rattle.std.proofs.Common.{◌≡◌, refl, sym, ap, ◌∙◌, subst, ℕ, ◌<◌, Bool, true, false, List, [], ◌∷◌, ◌++◌, length, flat_map, Option, None, Some, Result, Ok, Err, append-nil, length-append, length-set, get_or-set_same, get_or-set_other, inl, inr, arith, rules}
 use Rattle.std.specs.List.{AllByRecursion}
-use Rattle.std.proofs.lemmas.Bool.{cases_Bool, cases_eq, cases_lt, both_ways}
-use Rattle.std.proofs.lemmas.Grind.{flat_map-append}
+use Rattle.std.proofs.lemmas.Bool.{cases_Bool, cases_eq, cases_lt}
+use Rattle.std.proofs.lemmas.Grind.{flat_map-append, common_steps}
 use Rattle.ipx_wire.specs.Packet.{Parts, packet_of}
 use Rattle.ipx_wire.specs.Piece.{IsBytes}
 use Rattle.ipx_wire.specs.declared.packet.PacketFault.{PacketFault}
@@ -29,14 +29,11 @@ use Rattle.ipx_internet.proofs.trees.NoTwoNameTheSame.{Name, named, names, names
 
 -- the last reception
 reception_last : (log : List Reception) (r : Reception) → reception_at (log ++ r ∷ []) (length log) ≡ r
-reception_last [] r = refl
-reception_last (q ∷ log) r = reception_last log r
+reception_last log r = grind (arith, common_steps)
 
 -- a router that has a port is there
 pub router_there : (net : Internet) (router number : ℕ) → number < length (ports_of net router) → router < length net
-router_there [] router number there = absurd (omega (arith, there))
-router_there (ports ∷ others) zero number there = omega arith
-router_there (ports ∷ others) (suc router) number there = let deeper = router_there others router number there in omega (arith, deeper)
+router_there net router number there = grind (arith, common_steps)
 
 module _ (net : Internet) where
   -- ---- what waits
@@ -108,25 +105,14 @@ module _ (net : Internet) where
   IsBefore place n = n.sending.place < place
 
   regroup : (a n w new : List Name) → (a ++ (n ++ [])) ++ (w ++ new) ≡ (a ++ (n ++ w)) ++ new
-  regroup [] [] w new = refl
-  regroup [] (x ∷ n) w new = ap (λ (xs : List Name). x ∷ xs) (regroup [] n w new)
-  regroup (x ∷ a) n w new = ap (λ (xs : List Name). x ∷ xs) (regroup a n w new)
+  regroup a n w new = grind (arith, common_steps, Name)
 
   -- what is received keeps the name that it had as it waited, and what is sent has new ones
   names_more : (log extra : List Reception) (n : List Name) (rest new : List Waiting) → names extra ≡ n ++ []
       → AllByRecursion (IsBefore (length log)) (names log ++ (n ++ names_waiting rest)) → AreDifferent (names log ++ (n ++ names_waiting rest))
       → AllByRecursion (λ m. m.sending.place ≡ length log) (names_waiting new) → AreDifferent (names_waiting new)
       → AreDifferent (names (log ++ extra) ++ names_waiting (rest ++ new))
-  names_more log extra n rest new same before differ at_end apart =
-      let P : List Name → Type 0 = λ ns. AreDifferent ns in
-      let of_log = flat_map-append (λ r. named r.origin r.to) log extra ∙ ap (λ (ns : List Name). names log ++ ns) same in
-      let of_rest = flat_map-append (λ w. named w.origin w.delivery.to) rest new in
-      let both : names (log ++ extra) ++ names_waiting (rest ++ new) ≡ (names log ++ (n ++ [])) ++ (names_waiting rest ++ names_waiting new) =
-      ap (λ (ns : List Name). ns ++ names_waiting (rest ++ new)) of_log ∙ ap (λ (ns : List Name). (names log ++ (n ++ [])) ++ ns) of_rest in
-      subst P (sym (both ∙ regroup (names log) n (names_waiting rest) (names_waiting new)))
-      (differ-append (names log ++ (n ++ names_waiting rest)) (names_waiting new) differ apart
-      (all_apart (IsBefore (length log)) (λ m. m.sending.place ≡ length log) (λ m less same. absurd (omega (arith, less, same)))
-      (names log ++ (n ++ names_waiting rest)) (names_waiting new) before at_end))
+  names_more log extra n rest new same before differ at_end apart = grind (arith, Name, flat_map-append, named, names, names_waiting, regroup, differ-append, all_apart)
 
   log_before : (log : List Reception) → AreSound log → AllByRecursion (IsBefore (length log)) (names log)
   log_before log sound =
@@ -166,18 +152,7 @@ module _ (net : Internet) where
 
   with_on : (P : Event → Type 0) (histories : List History) (router other : ℕ) (event : Event) → router < length histories
       → AllByRecursion P (history_of histories other) → (router ≡ other → P event) → AllByRecursion P (history_of (with_event histories router event) other)
-  with_on P histories router other event within all one = elim (cases_eq other router) [
-    | inl e ↦
-        let H : History → Type 0 = λ h. AllByRecursion P h in
-        let now : history_of (with_event histories router event) other ≡ history_of histories router ++ event ∷ [] =
-        ap (λ (k : ℕ). history_of (with_event histories router event) k) e
-        ∙ get_or-set_same histories router (history_of histories router ++ event ∷ []) [] within in
-        subst H (sym now) (all-append P (history_of histories router) (event ∷ [])
-        (subst (λ (k : ℕ). AllByRecursion P (history_of histories k)) e all) (one (sym e), tt))
-    | inr off ↦
-        let H : History → Type 0 = λ h. AllByRecursion P h in
-        subst H (sym (get_or-set_other histories router other (history_of histories router ++ event ∷ []) [] off)) all
-  ]
+  with_on P histories router other event within all one = grind (arith, cases_eq, get_or-set_same, all-append, get_or-set_other)
 
   pub histories_more : (histories : List History) (router : ℕ) (event : Event) → AreHistories net histories → router < length net
       → IsOnPort (ports_of net router) event → IsOfBytes event → AreHistories net (with_event histories router event)
@@ -326,11 +301,7 @@ module _ (net : Internet) where
           waiting = rest ++ flat_map (waits net router forward) sent_for_it;
           log = after;
         })
-    kept forward none differ =
-        joined forward
-        (all_then (λ s. IsBytes s.bytes) (IsSent after router forward)
-        (λ s b. record { bytes = b; forward = λ x e. nothing (sym (none s) ∙ e) }) sent_for_it packet_bytes)
-        (λ s x e. nothing (sym (none s) ∙ e)) (unnamed router forward none sent_for_it) differ
+    kept forward none differ = grind (arith, joined, all_then, nothing, packet_bytes, unnamed)
 
     abbrev here : Sent → Sending
     here s = record { place = length log; sent = s }
@@ -384,8 +355,7 @@ module _ (net : Internet) where
     -- a packet for others is one, by its bytes
     for_others : (r : Result Parts PacketFault) → packet_of bytes ≡ r → elim r [ Ok p ↦ goes_on (ports_of net router) number bytes p | Err fault ↦ false ] ≡ true
         → (p : Parts) × (packet_of bytes ≡ Ok p) × (goes_on (ports_of net router) number bytes p ≡ true)
-    for_others (Ok p) read e = (p, read, e)
-    for_others (Err fault) read e = absurd (both_ways false refl e)
+    for_others r read e = grind arith
 
     abbrev forwards_of : Sent → Option Sending
     forwards_of = forward_of net (length log) router (Packet number bytes)
@@ -428,10 +398,7 @@ module _ (net : Internet) where
     settles_well : (histories : List History) (log : List Reception) (waiting : List Waiting) → Good (record { histories = histories; waiting = waiting; log = log })
         → Good (stepped net most_routes most_services (record { histories = histories; waiting = waiting; log = log }) Settles)
     settles_well histories log [] good = good
-    settles_well histories log (w ∷ waiting) good =
-        let first = good.waiting.0 in
-        received_well laws is most_routes most_services histories log waiting good.histories good.sound good.waiting.1 w.delivery.to.router w.delivery.to.port
-        w.delivery.bytes (router_there net w.delivery.to.router w.delivery.to.port first.within) first.within first.bytes w.origin first.comes good.names
+    settles_well histories log (w ∷ waiting) good = search (rules, received_well, router_there)
 
     pub step_well : (run : Run) → Good run → (step : Step) → IsStep net step → Good (stepped net most_routes most_services run step)
     step_well run good (Happens router event) is = happens_well run good router event is.0 is.1 is.2

@@ -1,13 +1,13 @@
 -- What a router that is only asked to send a packet on sends of it is what a tree says that it sends on: the checks that only
 -- its own processes ask are those of near packets, and of a near packet nothing leaves.
-use Rattle.std.proofs.Common.{◌≡◌, refl, sym, ap, ◌∙◌, ℕ, not, true, false, if◌then◌else◌, List, [], ◌∷◌, ◌++◌, Option, Some, None, Result, Ok, Err, inl, inr}
-use Rattle.std.proofs.lemmas.Bool.{and_parts, not-true, cases_Bool}
+use Rattle.std.proofs.Common.{◌≡◌, refl, sym, ap, ◌∙◌, ℕ, true, false, if◌then◌else◌, List, [], ◌∷◌, ◌++◌, Option, Some, None, Result, Ok, Err, inl, inr, arith}
+use Rattle.std.proofs.lemmas.Bool.{cases_Bool}
 use Rattle.ipx_wire.specs.Packet.{Parts, packet_of}
 use Rattle.ipx_wire.specs.declared.packet.PacketFault.{PacketFault}
-use Rattle.ipx_router.specs.Port.{Port, port_at, is_local}
+use Rattle.ipx_router.specs.Port.{Port, port_at}
 use Rattle.ipx_router.specs.Relay.{relay_why, relay_outcome, relay_sends}
 use Rattle.ipx_router.specs.Relays.{Sent, relayed}
-use Rattle.ipx_router.specs.Why.{checks, first_of, when, is_near, is_far, is_propagated, is_stopped, is_down_port, is_own_echo, is_bad_source, is_crossed_short, is_crossed_full, is_crossed_seen, is_through_too_many, is_far_side, is_no_route, is_too_long}
+use Rattle.ipx_router.specs.Why.{checks, first_of, when, is_near, is_stopped, is_down_port, is_own_echo, is_bad_source, is_crossed_short, is_crossed_full, is_crossed_seen, is_through_too_many, is_far_side, is_no_route, is_too_long}
 use Rattle.ipx_router.specs.declared.outcome.Outcome.{Outcome}
 use Rattle.ipx_router.specs.declared.outcome.Outcome.TheVariants.{Dropped}
 use Rattle.ipx_router.specs.declared.why.Why.{Why}
@@ -68,12 +68,7 @@ module _ (r : Router) (number : ℕ) (p : Parts) where
       ∙ skip before after)
 
   near_stays : is_near port p.header ≡ true → relayed r.ports r.up r.routes number p ≡ []
-  near_stays on =
-      let parts = and_parts (not (is_propagated p.header)) (is_local port p.header.destination.network) on in
-      let one : is_propagated p.header ≡ false = not-true (is_propagated p.header) parts.0 in
-      let here : is_local port p.header.destination.network ≡ true = parts.1 in
-      let far : is_far port p.header ≡ false = rw (one, here) refl in
-      rw (one, here) refl
+  near_stays on = grind arith
 
   same_sent : unless all_why (relayed r.ports r.up r.routes number p) ≡ relay_sends r.ports r.up r.routes r.running number p
   same_sent = elim (cases_Bool (is_near port p.header)) [

@@ -7,7 +7,7 @@ use Rattle.ipx_wire.specs.declared.address.Address.{Address}
 use Rattle.ipx_wire.specs.declared.rip.Operation.TheVariants.{Response}
 use Rattle.ipx_wire.specs.declared.rip.RipEntry.{RipEntry}
 use Rattle.ipx_wire.specs.declared.service.Service.{Service}
-use Rattle.ipx_router.specs.Numbers.{rip_socket, sap_socket, most_ticks, entries_a_page, services_a_page}
+use Rattle.ipx_router.specs.Numbers.{rip_socket, sap_socket, entries_a_page, services_a_page}
 use Rattle.ipx_router.specs.Pages.{pages_from, pages}
 use Rattle.ipx_router.specs.Port.{Port, IsPort, broadcast, port_at, same_node, reply_to, own_address, own_services}
 use Rattle.ipx_router.specs.Sends.{rip_sends, sap_sends, is_nearer, nearest_of}
@@ -38,16 +38,7 @@ use Rattle.ipx_internet.proofs.weights.PagesWeighTheirItems.{sum_one_more, sum_f
 
 module _ (ports : List Port) (are : AllByRecursion IsPort ports) (number : ℕ) (within : number < length ports) where
   told_so : (e : RipEntry) → IsTold (told_at (port_at ports number).cost e)
-  told_so e =
-      let cost = (port_at ports number).cost in
-      let some : IsPort (port_at ports number) = port-all IsPort ports number are within in
-      let paid = some.cost in (
-        omega arith,
-        elim (cases_lt (e.ticks + cost) most_ticks) [
-          | inl below ↦ rw (lt-ltb (e.ticks + cost) most_ticks below) (omega (arith, paid))
-          | inr over ↦ rw (le-ltb (e.ticks + cost) most_ticks over) (omega arith)
-        ],
-      )
+  told_so e = grind (arith, port-all, cases_lt, lt-ltb, le-ltb)
 
   pub all_told : (up : List ℕ) (routes : List RouteOffer) → AllByRecursion IsTold (told ports up routes number)
   all_told up routes =
@@ -118,13 +109,7 @@ sum_ones (x ∷ xs) =
     omega (arith, rest, one)
 
 sum_same : {X : Type 0} (f g : X → ℕ) → ((x : X) → f x ≡ g x) → (xs : List X) → sum_by f xs ≡ sum_by g xs
-sum_same f g same [] = omega arith
-sum_same f g same (x ∷ xs) =
-    let rest = sum_same f g same xs in
-    let one = sum_by-cons f x xs in
-    let other = sum_by-cons g x xs in
-    let here = same x in
-    omega (arith, rest, one, other, here)
+sum_same f g same xs = grind arith
 
 -- pages hold all items
 items_of : {X : Type 0} (n : ℕ) (xs : List X) → 0 < n → sum_by (λ page. length page) (pages n xs) ≡ length xs

@@ -1,7 +1,7 @@
 -- What is told of changes weighs, on all ports together: of each change as much as is told of it, once for each that hears it.
-use Rattle.std.proofs.Common.{◌≡◌, ◌≢◌, refl, sym, ap, ℕ, zero, suc, ◌+◌, ◌-◌, ◌*◌, ◌<◌, ◌≤◌, ◌==◌, if◌then◌else◌, Bool, true, false, List, [], ◌∷◌, length, flat_map, Option, Some, None, IfSome, inl, inr, arith, mul-le-mul_left, mul-add, suc-mul, ◌⊎◌}
+use Rattle.std.proofs.Common.{◌≡◌, ◌≢◌, refl, sym, ap, ℕ, ◌+◌, ◌-◌, ◌*◌, ◌<◌, ◌≤◌, ◌==◌, if◌then◌else◌, Bool, true, false, List, [], ◌∷◌, length, flat_map, Option, Some, None, IfSome, inl, inr, arith, mul-le-mul_left, mul-add, suc-mul, ◌⊎◌, rules}
 use Rattle.std.specs.List.{AllByRecursion, sum_by}
-use Rattle.std.proofs.lemmas.Bool.{cases_Bool, cases_eq, both_ways, eq-eqb, ne_eqb, eqb-true, or_cases}
+use Rattle.std.proofs.lemmas.Bool.{cases_eq, both_ways, eq-eqb, ne_eqb, eqb-true, or_cases}
 use Rattle.std.proofs.lemmas.Grind.{flat_map-append}
 use Rattle.std.proofs.lemmas.List.Sums.{sum_by-cons, sum_by-append, sum_by-le-sum_by}
 use Rattle.ipx_wire.specs.WriteServices.{entry_of}
@@ -13,7 +13,7 @@ use Rattle.ipx_router.specs.Numbers.{entries_a_page, services_a_page}
 use Rattle.ipx_router.specs.Pages.{pages}
 use Rattle.ipx_router.specs.Port.{Port, IsPort, port_at, is_up, own_address, own_services, everyone, every_server}
 use Rattle.ipx_router.specs.Sends.{broadcasts, rip_broadcast, sap_broadcast}
-use Rattle.ipx_router.specs.Told.{is_reached_on, entry_of as route_entry, dead, dead_service}
+use Rattle.ipx_router.specs.Told.{entry_of as route_entry, dead, dead_service}
 use Rattle.ipx_router.specs.declared.route_offer.RouteOffer.{RouteOffer}
 use Rattle.ipx_router.specs.declared.service_offer.ServiceOffer.{ServiceOffer}
 use Rattle.ipx_router.proofs.sending.OwnPacketsAreValid.{Writable}
@@ -36,12 +36,7 @@ use Rattle.ipx_internet.proofs.weights.PagesWeighTheirItems.{sum_one_more, sum_b
 
 -- as many times as one less, and once more
 one_less : (n x : ℕ) → 1 ≤ n → n * x ≡ (n - 1) * x + x
-one_less zero x some = absurd (omega (arith, some))
-one_less (suc n) x some =
-    let step = suc-mul n x in
-    let same : suc n - 1 ≡ n = omega arith in
-    let scaled = ap (λ (k : ℕ). k * x) same in
-    omega (arith, step, scaled)
+one_less n x some = search (rules, suc-mul)
 
 -- where one port is left out, the others make one less
 pub left_out : (port n : ℕ) (up : List ℕ) → is_up up port ≡ true → sum_by (λ j. if port == j then 0 else n) up + n ≤ length up * n
@@ -85,16 +80,10 @@ module _ (net : Internet) where
   services_told services = sum_by (λ s. 1 + entry_weight net s.hops) services
 
   route_now_weighs : (port : Port) (r : RouteOffer) → entry_weight net (route_now port r).hops ≤ entry_weight net (r.hops + 1)
-  route_now_weighs port r = elim (cases_Bool (is_reached_on r.hops)) [
-    | inl e ↦ rw e (omega arith)
-    | inr e ↦ rw e (omega arith)
-  ]
+  route_now_weighs port r = grind arith
 
   service_now_weighs : (s : ServiceOffer) → entry_weight net (service_now s).hops ≤ entry_weight net (s.service.hops + 1)
-  service_now_weighs s = elim (cases_Bool (is_reached_on s.service.hops)) [
-    | inl e ↦ rw e (omega arith)
-    | inr e ↦ rw e (omega arith)
-  ]
+  service_now_weighs s = grind arith
 
   -- ---- one change
 
@@ -112,8 +101,7 @@ module _ (net : Internet) where
       some_there (j ∷ js) there = omega arith
 
   one_unless : {X : Type 0} (v : X → ℕ) (b : Bool) (x : X) (n : ℕ) → v x ≤ n → sum_by v (if b then [] else x ∷ []) ≤ (if b then 0 else n)
-  one_unless v true x n few = omega arith
-  one_unless v false x n few = let one = sum_by-cons v x [] in omega (arith, one, few)
+  one_unless v b x n few = grind arith
 
   pub route_change : (ports : List Port) (up : List ℕ) (before after : Option RouteOffer) → IfSome before (λ r. is_up up r.port ≡ true) → IfSome after (λ r. is_up up r.port ≡ true)
       → sum_by (λ j. routes_told (route_told ports j (record { before = before; after = after }))) up ≤ (length up - 1) * telling (route_told_weight net) after

@@ -1,5 +1,5 @@
 -- Numbers that are counted up to the greatest of a word: sums, products, and what grows by levels.
-use Rattle.std.proofs.Common.{◌≡◌, ap, ap₂, ◌∙◌, ℕ, zero, suc, ◌+◌, ◌-◌, ◌*◌, ◌^◌, ◌≤◌, inl, inr, arith, mul-le-mul_right, one-mul, mul_comm, mul-add}
+use Rattle.std.proofs.Common.{◌≡◌, ap, ℕ, suc, ◌+◌, ◌-◌, ◌*◌, ◌^◌, ◌≤◌, arith, mul_comm, mul-add}
 use Rattle.std.proofs.lemmas.Bool.{cases_lt}
 use Rattle.ipx_internet.specs.Internet.{Internet}
 use Rattle.ipx_internet.specs.InternetWeight.{most_hearers, weight_in_reach}
@@ -16,36 +16,15 @@ added a b = omega arith
 
 -- a number that is too great for a word, so many times
 times_great : (a b : ℕ) → 2 ^ 64 ≤ b → saturated (saturated a * saturated b) ≡ saturated (a * b)
-times_great zero b great = omega arith
-times_great (suc n) b great =
-    let all : saturated b ≡ most = omega (arith, great) in
-    let some : 1 ≤ saturated (suc n) = omega arith in
-    let word = ap (λ (k : ℕ). saturated (suc n) * k) all in
-    let many = mul-le-mul_right most some in
-    let one = one-mul most in
-    let more : 1 ≤ suc n = omega arith in
-    let much = mul-le-mul_right b more in
-    let once = one-mul b in
-    omega (arith, great, word, many, one, much, once)
+times_great a b great = grind arith
 
 -- a product
 pub scaled : (a b : ℕ) → saturated (saturated a * saturated b) ≡ saturated (a * b)
-scaled a b = elim (cases_lt b (2 ^ 64)) [
-  | inr great ↦ times_great a b great
-  | inl few ↦ elim (cases_lt a (2 ^ 64)) [
-    | inl less ↦
-        let one : saturated a ≡ a = omega (arith, less) in
-        let other : saturated b ≡ b = omega (arith, few) in
-        ap₂ (λ (x y : ℕ). saturated (x * y)) one other
-    | inr great ↦
-        ap saturated (mul_comm (saturated a) (saturated b)) ∙ times_great b a great ∙ ap saturated (mul_comm b a)
-  ]
-]
+scaled a b = grind (arith, cases_lt, times_great, mul_comm)
 
 -- a product as it is counted, and a number more
 pub scaled_more : (a b n times product : ℕ) → times ≡ saturated a → n ≡ saturated b → product ≡ saturated (times * n) → product ≡ saturated (a * b)
-scaled_more a b n times product is_times is_n is =
-    is ∙ ap₂ (λ (x y : ℕ). saturated (x * y)) is_times is_n ∙ scaled a b
+scaled_more a b n times product is_times is_n is = grind (arith, scaled)
 
 -- ---- weights are counted so, one level more
 

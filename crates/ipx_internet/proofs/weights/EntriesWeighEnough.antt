@@ -53,30 +53,10 @@ module _ (net : Internet) where
     service_brings = costs.brings service_reading service_order same_service service_total service-same capacity shares service_told_weight (λ s. omega arith)
 
     one_route : (r : RouteOffer) → most_hearers net * brings (Offered r) ≤ entry_weight net r.hops
-    one_route r = elim (cases_Bool (route_reading.is_down r)) [
-      | inl down ↦
-          let none : brings (Offered r) ≡ 0 = rw down refl in
-          let scaled = ap (λ (n : ℕ). most_hearers net * n) none in
-          omega (arith, scaled)
-      | inr up ↦
-          let some : brings (Offered r) ≡ 1 + told_weight r.hops = rw up refl in
-          let scaled = ap (λ (n : ℕ). most_hearers net * n) some in
-          let pays = entry_pays r.hops (leb-false unreachable r.hops up) in
-          omega (arith, scaled, pays)
-    ]
+    one_route r = grind (arith, entry_pays, leb-false)
 
     one_service : (s : ServiceOffer) → most_hearers net * service_brings (Offered s) ≤ entry_weight net s.service.hops
-    one_service s = elim (cases_Bool (service_reading.is_down s)) [
-      | inl down ↦
-          let none : service_brings (Offered s) ≡ 0 = rw down refl in
-          let scaled = ap (λ (n : ℕ). most_hearers net * n) none in
-          omega (arith, scaled)
-      | inr up ↦
-          let some : service_brings (Offered s) ≡ 1 + told_weight s.service.hops = rw up refl in
-          let scaled = ap (λ (n : ℕ). most_hearers net * n) some in
-          let pays = entry_pays s.service.hops (leb-false unreachable s.service.hops up) in
-          omega (arith, scaled, pays)
-    ]
+    one_service s = grind (arith, entry_pays, leb-false)
 
     pub routes_bring : (ports : List Port) (number : ℕ) (node : Node) (entries : List RipEntry)
         → most_hearers net * sum_by brings (routes_offered ports number node entries) ≤ routes_weight net entries

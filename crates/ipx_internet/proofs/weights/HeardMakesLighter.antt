@@ -1,6 +1,6 @@
 -- A delivery that a router hears leaves less weight than there was: what is sent for it, and what the tables hold then, weigh less than the
 -- delivery and what they held.
-use Rattle.std.proofs.Common.{◌≡◌, refl, sym, ap, ◌∙◌, subst, ◌⊎◌, ℕ, ◌+◌, ◌-◌, ◌*◌, ◌≤◌, ◌==◌, ◌&&◌, ◌||◌, not, if◌then◌else◌, Bool, true, false, List, [], ◌∷◌, ◌++◌, length, flat_map, Option, Some, inl, inr, arith, mul-le-mul_left, mul-le-mul_right, mul-add, mul_assoc, mul_comm}
+use Rattle.std.proofs.Common.{◌≡◌, refl, sym, ap, ◌∙◌, subst, ◌⊎◌, ℕ, ◌+◌, ◌-◌, ◌*◌, ◌≤◌, ◌==◌, ◌||◌, if◌then◌else◌, Bool, true, false, List, [], ◌∷◌, ◌++◌, length, flat_map, Option, Some, inl, inr, arith, mul-le-mul_left, mul-le-mul_right, mul-add, mul_assoc, mul_comm}
 use Rattle.std.specs.List.{AllByRecursion, sum_by, list_any}
 use Rattle.std.proofs.lemmas.List.{length-map}
 use Rattle.ipx_table.specs.declared.held.Held.{Held}
@@ -14,10 +14,10 @@ use Rattle.ipx_wire.specs.declared.service.Service.{Service}
 use Rattle.ipx_router.specs.Changes.{changes}
 use Rattle.ipx_router.specs.Facts.{routes_heard, services_heard, routes_held, services_held, offers}
 use Rattle.ipx_router.specs.Heard.{Heard, HeardRip, HeardSap}
-use Rattle.ipx_router.specs.History.{History, Packet, IsOfBytes, running, is_down, ports_up}
+use Rattle.ipx_router.specs.History.{History, Packet, IsOfBytes, running, ports_up}
 use Rattle.ipx_router.specs.News.{route_told, service_told, news, news_services, same_route, same_service}
 use Rattle.ipx_router.specs.Numbers.{all_routes, every_service}
-use Rattle.ipx_router.specs.Port.{Port, broadcast, port_at, is_up, numbers, reply_to, same_node}
+use Rattle.ipx_router.specs.Port.{Port, broadcast, port_at, is_up, reply_to, same_node}
 use Rattle.ipx_router.specs.Relays.{Sent}
 use Rattle.ipx_router.specs.Routes.{route_reading, network_order}
 use Rattle.ipx_router.specs.Sends.{Holding, news_on, heard_sends, rip_sends, sap_sends, asked, of_kind, nearest_of}
@@ -114,11 +114,7 @@ module _ (net : Internet) (laws : Layouts) (ups : OnUps) (is : IsInternet net) (
   same_ups = ports_stay ports history (Packet number d.bytes) refl refl (λ port. refl) (λ port. refl)
 
   few_ups : length after.up ≤ most_ports net
-  few_ups =
-      let some = length-filter (λ port. running now && not (is_down now port)) (numbers (length ports)) in
-      let all = length-numbers (length ports) in
-      let few = router_small net router in
-      omega (arith, some, all, few)
+  few_ups = omega (arith, length-filter, length-numbers, router_small)
 
   abbrev cost : ℕ
   cost = outlays.routes_cost ports most_routes most_services history number d.bytes net + outlays.services_cost ports most_routes most_services history number d.bytes net
@@ -217,15 +213,7 @@ module _ (net : Internet) (laws : Layouts) (ups : OnUps) (is : IsInternet net) (
         by (HeardSap source (SapResponse nearest entries)) answers = refl
 
     sent_light : IsAnswering m → weigh (sent_for net most_routes most_services histories d) ≤ most_hearers net * cost
-    sent_light answers = elim (news_sent answers) [
-      | inl none ↦
-          let nothing_sent = ap (λ (ss : List Sent). weigh (flat_map (deliveries_of net router) ss)) none in
-          omega (arith, nothing_sent)
-      | inr these ↦
-          let same = ap (λ (ss : List Sent). weigh (flat_map (deliveries_of net router) ss)) these in
-          let all = news_light in
-          omega (arith, same, all)
-    ]
+    sent_light answers = grind (arith, news_sent, news_light)
 
     -- what changed, and what is held then, costs no more than what was held and what the entries weigh
     paid : most_hearers net * cost + most_hearers net * held_now ≤ most_hearers net * held_before + entries_weight net most_routes most_services m
@@ -250,13 +238,7 @@ module _ (net : Internet) (laws : Layouts) (ups : OnUps) (is : IsInternet net) (
         omega (arith, scaled, left, right, parts, pay)
 
     pub response_lighter : IsAnswering m → Lighter
-    response_lighter answers =
-        let of = of_packet in
-        let whole = message_weighs net most_routes most_services d m of in
-        let response = response_weighs net most_routes most_services m answers of.general in
-        let light = sent_light answers in
-        let pay = paid in
-        omega (arith, whole, response, light, pay)
+    response_lighter answers = grind (arith, of_packet, message_weighs, response_weighs, sent_light, paid)
 
     -- ---- a request or a query
 

@@ -1,13 +1,11 @@
 -- What a router holds before and after a packet comes, and what its changes cost: no more than what was heard brings.
-use Rattle.std.proofs.Common.{◌≡◌, sym, ap, ◌∙◌, subst, ℕ, ◌+◌, ◌≤◌, List, [], ◌∷◌, ◌++◌, length, map, Option, Some, None, IfSome, arith, append-nil}
+use Rattle.std.proofs.Common.{◌≡◌, sym, ap, subst, ℕ, ◌+◌, ◌≤◌, List, [], ◌∷◌, ◌++◌, length, map, Option, IfSome, arith, append-nil}
 use Rattle.std.specs.List.{sum_by}
-use Rattle.ipx_table.specs.Facts.{Fact}
 use Rattle.ipx_table.specs.Stands.{held}
 use Rattle.ipx_table.specs.declared.held.Held.{Held}
-use Rattle.ipx_wire.specs.declared.sap.Sap.TheVariants.{Query, Response as SapResponse}
 use Rattle.ipx_router.specs.Changes.{changes}
 use Rattle.ipx_router.specs.Facts.{routes_heard, services_heard, heard_after, route_facts, service_facts, route_facts_of, service_facts_of, routes_held, services_held, offers}
-use Rattle.ipx_router.specs.Heard.{Heard, HeardRip, HeardSap}
+use Rattle.ipx_router.specs.Heard.{Heard}
 use Rattle.ipx_router.specs.History.{History, Packet}
 use Rattle.ipx_router.specs.News.{same_route, same_service}
 use Rattle.ipx_router.specs.Port.{Port}
@@ -63,22 +61,12 @@ module _ (ports : List Port) (most_routes most_services : ℕ) (history : Histor
 
   -- where nothing is offered all stays
   pub all_stays : routes_heard ports number heard_now ≡ [] → services_heard number heard_now ≡ [] → held_now ≡ held_before
-  all_stays no_routes no_services =
-      let routes = ap length (routes_then
-      ∙ ap (λ (fs : List (Fact RouteOffer)). held (route_rules ports most_routes) (route_facts ports history ++ fs)) no_routes
-      ∙ ap (held (route_rules ports most_routes)) (append-nil (route_facts ports history))) in
-      let services = ap length (services_then
-      ∙ ap (λ (fs : List (Fact ServiceOffer)). held (service_rules ports most_services) (service_facts ports history ++ fs)) no_services
-      ∙ ap (held (service_rules ports most_services)) (append-nil (service_facts ports history))) in
-      omega (arith, routes, services)
+  all_stays no_routes no_services = grind (arith, routes_then, append-nil, services_then)
 
   -- ---- what changed
 
   anything : (o : Option Heard) → IfSome o (EachHeard (λ e. Unit {0}) (λ e. Unit {0}))
-  anything None = tt
-  anything (Some (HeardRip source rip)) = all_of (λ e. Unit {0}) (λ e. tt) rip.entries
-  anything (Some (HeardSap source (Query nearest kind))) = tt
-  anything (Some (HeardSap source (SapResponse nearest entries))) = all_of (λ e. Unit {0}) (λ e. tt) entries
+  anything o = grind (arith, all_of)
 
   module _ (net : Internet) where
     -- the routes that changed

@@ -1,5 +1,5 @@
 -- A delivery of which something is heard weighs as much as that: a response itself and its entries, which pay for what they bring.
-use Rattle.std.proofs.Common.{◌≡◌, refl, ap, ◌∙◌, subst, ℕ, ◌+◌, ◌*◌, ◌≤◌, ◌==◌, ◌&&◌, ◌||◌, Bool, true, false, not, List, [], ◌∷◌, Option, None, Some, Result, Ok, Err, inl, inr, arith, is_some, true≢false}
+use Rattle.std.proofs.Common.{◌≡◌, refl, ap, subst, ℕ, ◌+◌, ◌*◌, ◌≤◌, ◌==◌, ◌&&◌, ◌||◌, Bool, true, false, not, List, [], ◌∷◌, Option, None, Some, Result, Ok, Err, inl, inr, arith, is_some, true≢false}
 use Rattle.std.specs.List.{AllByRecursion, sum_by}
 use Rattle.std.proofs.lemmas.Bool.{cases_Bool, and_from, and_parts, not-true}
 use Rattle.ipx_wire.specs.Packet.{Parts, packet_of}
@@ -25,7 +25,7 @@ use Rattle.ipx_internet.specs.Queue.{Delivery}
 use Rattle.ipx_internet.proofs.lists.FoundInAList.{nothing, it_is}
 use Rattle.ipx_internet.proofs.packets.ResponsesAskNothing.{IsAnswering}
 use Rattle.ipx_internet.proofs.weights.EntriesWeighEnough.{brings, service_brings, routes_bring, services_bring}
-use Rattle.ipx_internet.proofs.weights.PagesAtTheirProcess.{w, said, plain_weighs}
+use Rattle.ipx_internet.proofs.weights.PagesAtTheirProcess.{w}
 
 -- ---- what passed all checks
 
@@ -35,13 +35,10 @@ all_none (Some reason ∷ list) e = absurd (true≢false (ap is_some e))
 all_none (None ∷ list) e = (refl, all_none list e)
 
 unmet : (c : Bool) (reason : Why) → when c reason ≡ None → c ≡ false
-unmet true reason e = absurd (true≢false (ap is_some e))
-unmet false reason e = refl
+unmet c reason e = grind arith
 
 neither : (a b : Bool) → (a || not b) ≡ false → (a ≡ false) × (b ≡ true)
-neither true b e = absurd (true≢false e)
-neither false true e = (refl, refl)
-neither false false e = absurd (true≢false e)
+neither a b e = grind arith
 
 -- no response to a query for the nearest
 abbrev pub IsGeneral : Heard → Type 0
@@ -119,12 +116,7 @@ module _ (ports : List Port) (up : List ℕ) (number : ℕ) (bytes : List ℕ) w
 module _ (net : Internet) (most_routes most_services : ℕ) where
   pub message_weighs : (d : Delivery) (m : Heard) → IsHeardOf (port_of net d.to) d.bytes m
       → w net most_routes most_services d ≡ message_weight net most_routes most_services m
-  message_weighs d m of =
-      let p = of.packet in
-      let process = of.process in
-      let says = of.says in
-      let is : said net most_routes most_services p ≡ message_weight net most_routes most_services m = rw (process, says) refl in
-      plain_weighs net most_routes most_services d p true of.read of.plain of.local ∙ is
+  message_weighs d m of = grind arith
 
   -- its entries
   abbrev pub entries_weight : Heard → ℕ
@@ -134,9 +126,7 @@ module _ (net : Internet) (most_routes most_services : ℕ) where
 
   -- a response weighs one more than they
   pub response_weighs : (m : Heard) → IsAnswering m → IsGeneral m → message_weight net most_routes most_services m ≡ 1 + entries_weight m
-  response_weighs (HeardRip source rip) answers general = rw answers refl
-  response_weighs (HeardSap source (Query nearest kind)) answers general = absurd answers
-  response_weighs (HeardSap source (SapResponse nearest entries)) answers general = rw general refl
+  response_weighs m answers general = grind arith
 
   -- and they pay for what they bring
   pub entries_pay : (ports : List Port) (number : ℕ) (route_shares service_shares : List ℕ) (m : Heard)

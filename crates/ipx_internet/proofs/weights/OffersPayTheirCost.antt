@@ -12,7 +12,7 @@ use Rattle.ipx_table.specs.declared.held.Held.{Held}
 use Rattle.ipx_router.specs.Changes.{Change, same_or_none, put_keys, change_at, differs, changes}
 use Rattle.ipx_router.specs.Facts.{offers}
 use Rattle.ipx_router.specs.inside.Touched.{offer_at}
-use Rattle.ipx_router.proofs.changes.KeysThatDiffer.{Rises, rises-puts, is_less, is_equal, alike}
+use Rattle.ipx_router.proofs.changes.KeysThatDiffer.{Rises, rises-puts, is_less, is_equal}
 use Rattle.ipx_internet.proofs.lists.EachElement.{all_then}
 use Rattle.ipx_internet.proofs.records.KeptOrOffered.{OffersOf, Left, several}
 use Rattle.ipx_internet.proofs.records.RecordsGained.{few_more, same_or_fewer}
@@ -36,12 +36,7 @@ module _ {O K : Type 0} (reading : Reading O K) (order : K → K → Ordering) (
   module _ (key : K) (f g : K → ℕ) (more : ℕ) (apart : (k : K) → is_eq (order key k) ≡ false → f k ≤ g k) (any : (k : K) → f k ≤ g k + more) where
     none_more : (keys : List K) → AllByRecursion (λ k. is_eq (order key k) ≡ false) keys → sum_by f keys ≤ sum_by g keys
     none_more [] all = omega arith
-    none_more (k ∷ keys) all =
-        let one = apart k all.0 in
-        let rest = none_more keys all.1 in
-        let sum = sum_by-cons f k keys in
-        let other = sum_by-cons g k keys in
-        omega (arith, one, rest, sum, other)
+    none_more (k ∷ keys) all = omega (arith, none_more keys all.1, sum_by-cons)
 
     behind : (first x : K) → is_eq (order key first) ≡ true → is_lt (order first x) ≡ true → is_eq (order key x) ≡ false
     behind first x equal l = ap is_eq (total.congr key first x (is_equal (order key first) equal) ∙ is_less (order first x) l)
@@ -85,10 +80,7 @@ module _ {O K : Type 0} (reading : Reading O K) (order : K → K → Ordering) (
     brings End = 0
 
     costs_few : (before after : Option O) → cost_of before after ≤ telling told after
-    costs_few before after = elim (cases_Bool (same_or_none reading.key order same before after)) [
-      | inl e ↦ rw e (omega arith)
-      | inr e ↦ rw e (omega arith)
-    ]
+    costs_few before after = grind arith
 
     module _ (base : List O) (keys : List K) (rises : Rises reading.key order same total keys) where
       abbrev cost : List O → ℕ
@@ -177,11 +169,7 @@ module _ {O K : Type 0} (reading : Reading O K) (order : K → K → Ordering) (
       -- what stays costs nothing
       nothing_costs : (ks : List K) → sum_by (λ key. cost_of (at key base) (at key base)) ks ≡ 0
       nothing_costs [] = omega arith
-      nothing_costs (k ∷ ks) =
-          let rest = nothing_costs ks in
-          let one : cost_of (at k base) (at k base) ≡ 0 = rw (alike reading.key order same total itself (at k base)) refl in
-          let sum = sum_by-cons (λ key. cost_of (at key base) (at key base)) k ks in
-          omega (arith, rest, one, sum)
+      nothing_costs (k ∷ ks) = grind (arith, nothing_costs ks)
 
     -- ---- what changed
 

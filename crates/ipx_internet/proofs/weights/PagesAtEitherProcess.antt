@@ -150,10 +150,7 @@ module _ (net : Internet) (most_routes most_services : ℕ) where
 
   rip_reads_nearest : (source : Address) (payload : List ℕ) → operation_field payload ≡ 4 → by_rip source (rip_of payload) ≤ 1
   unfolding rip_of
-  rip_reads_nearest source payload is = elim (cases_Bool (nat_lt (length payload) 2)) [
-    | inl e ↦ rw e (omega arith)
-    | inr e ↦ rw e (subst (λ (k : ℕ). by_rip source (operated k (operation_of k) payload) ≤ 1) (sym is) (omega arith))
-  ]
+  rip_reads_nearest source payload is = grind arith
 
   -- ---- entries of routes, read as services: the ticks of each eighth stand where a service has its hops
 

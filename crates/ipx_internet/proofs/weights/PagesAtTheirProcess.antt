@@ -1,7 +1,6 @@
 -- What a packet weighs that is for the network on which it comes, and so a router's own pages: by what the process reads that they are for.
-use Rattle.std.proofs.Common.{◌≡◌, refl, sym, ap, ◌∙◌, subst, ℕ, zero, suc, ◌+◌, ◌-◌, ◌*◌, ◌<◌, ◌≤◌, ◌==◌, max, if◌then◌else◌, Bool, true, false, List, [], ◌∷◌, length, map, flat_map, Option, Some, None, Result, Ok, Err, arith, mul-le-mul_left, mul-le-mul_right, mul-add, one-mul}
+use Rattle.std.proofs.Common.{◌≡◌, refl, sym, ap, ◌∙◌, ℕ, zero, suc, ◌+◌, ◌-◌, ◌*◌, ◌<◌, ◌≤◌, ◌==◌, max, if◌then◌else◌, Bool, true, false, List, [], ◌∷◌, length, map, flat_map, Option, Some, None, Result, Ok, Err, arith, mul-le-mul_left, mul-le-mul_right, mul-add, one-mul}
 use Rattle.std.specs.List.{AllByRecursion, sum_by}
-use Rattle.std.proofs.lemmas.Bool.{eq-eqb, or_right}
 use Rattle.std.proofs.lemmas.List.{length-map}
 use Rattle.std.proofs.lemmas.List.Sums.{sum_by-cons, sum_by-append}
 use Rattle.ipx_wire.specs.Numbers.{crossed_places}
@@ -43,8 +42,7 @@ use Rattle.ipx_internet.proofs.weights.PagesWeighTheirItems.{sum_few}
 
 -- a port's own network is local to it
 pub home_local : (port : Port) (network : Network) → network ≡ port.network → is_local port network ≡ true
-home_local port network home =
-    subst (λ (n : Network). is_local port n ≡ true) (sym home) (or_right (port.network.0 == 0) (port.network.0 == port.network.0) (eq-eqb port.network.0 port.network.0 refl))
+home_local port network home = grind arith
 
 module _ (net : Internet) where
   -- what may be taken by more routers weighs more
@@ -71,16 +69,11 @@ module _ (net : Internet) where
     far_weight p = (most_routers - p.header.control) + max 1 (most_on_network net - 1) * said p
 
     pub as_read : (d : Delivery) (p : Parts) → packet_of d.bytes ≡ Ok p → w d ≡ packet_weight net most_routes most_services (port_of net d.to) p
-    as_read d p read =
-        ap (λ (r : Result Parts PacketFault). elim r [ Ok p ↦ packet_weight net most_routes most_services (port_of net d.to) p | Err fault ↦ 1 ]) read
+    as_read d p read = grind arith
 
     pub plain_weighs : (d : Delivery) (p : Parts) (local : Bool) → packet_of d.bytes ≡ Ok p → is_propagated p.header ≡ false
         → is_local (port_of net d.to) p.header.destination.network ≡ local → w d ≡ (if local then said p else far_weight p)
-    plain_weighs d p local read plain is =
-        as_read d p read
-        ∙ ap (λ (b : Bool). if b then most net (crossed_places - p.header.control)
-        else if is_local (port_of net d.to) p.header.destination.network then said p else far_weight p) plain
-        ∙ ap (λ (b : Bool). if b then said p else far_weight p) is
+    plain_weighs d p local read plain is = grind arith
 
     -- each weighs something
     some_message : (m : Heard) → 1 ≤ message_weight net most_routes most_services m
@@ -175,14 +168,7 @@ module _ (net : Internet) where
           pub pages_land : (pages : List (List RipEntry)) → AllByRecursion (IsPage entries_a_page (Writable P)) pages
               → sum_by w (flat_map (deliveries_of net router) (map (entries_sent ports number to Response) pages)) ≤ few * sum_by lands pages
           pages_land [] all = omega arith
-          pages_land (page ∷ pages) all =
-              let one = one_page page all.0 in
-              let rest = pages_land pages all.1 in
-              let joined = sum_by-append w (deliveries_of net router (entries_sent ports number to Response page))
-              (flat_map (deliveries_of net router) (map (entries_sent ports number to Response) pages)) in
-              let sum = ap (λ (n : ℕ). few * n) (sum_by-cons lands page pages) in
-              let split = mul-add few (lands page) (sum_by lands pages) in
-              omega (arith, one, rest, joined, sum, split)
+          pages_land (page ∷ pages) all = grind (arith, pages_land pages all.1, one_page, sum_by-append, sum_by-cons, mul-add)
 
         module _ (Q : Service → Type 0) (nearest : Bool) (lands : List Service → ℕ)
             (page_lands : (page : List Service) → IsPage services_a_page (Tellable Q) page → sap_of (sap_payload nearest page) ≡ Ok (SapResponse nearest (map entry_of page))
@@ -201,14 +187,7 @@ module _ (net : Internet) where
           pub lists_land : (pages : List (List Service)) → AllByRecursion (IsPage services_a_page (Tellable Q)) pages
               → sum_by w (flat_map (deliveries_of net router) (map (services_sent ports number to nearest) pages)) ≤ few * sum_by lands pages
           lists_land [] all = omega arith
-          lists_land (page ∷ pages) all =
-              let one = one_list page all.0 in
-              let rest = lists_land pages all.1 in
-              let joined = sum_by-append w (deliveries_of net router (services_sent ports number to nearest page))
-              (flat_map (deliveries_of net router) (map (services_sent ports number to nearest) pages)) in
-              let sum = ap (λ (n : ℕ). few * n) (sum_by-cons lands page pages) in
-              let split = mul-add few (lands page) (sum_by lands pages) in
-              omega (arith, one, rest, joined, sum, split)
+          lists_land (page ∷ pages) all = grind (arith, lists_land pages all.1, one_list, sum_by-append, sum_by-cons, mul-add)
 
     -- ---- pages that come to the process that they are written for
 

@@ -1,4 +1,5 @@
 -- What the pages of a list weigh together: as much as its items, and each page itself.
+use Rattle.std.proofs.lemmas.Grind.{common_steps}
 use Rattle.std.proofs.Common.{◌≡◌, ap, ℕ, ◌+◌, ◌*◌, ◌<◌, ◌≤◌, List, [], ◌∷◌, ◌++◌, length, map, flat_map, inl, inr, arith}
 use Rattle.std.specs.List.{AllByRecursion, sum_by}
 use Rattle.std.proofs.lemmas.Bool.{cases_lt}
@@ -12,58 +13,31 @@ module _ {X : Type 0} where
   -- each a bit more
   pub sum_one_more : (f : X → ℕ) (xs : List X) → sum_by (λ x. 1 + f x) xs ≡ length xs + sum_by f xs
   sum_one_more f [] = omega arith
-  sum_one_more f (x ∷ xs) =
-      let rest = sum_one_more f xs in
-      let one = sum_by-cons (λ x. 1 + f x) x xs in
-      let other = sum_by-cons f x xs in
-      omega (arith, rest, one, other)
+  sum_one_more f (x ∷ xs) = omega (arith, sum_one_more f xs, sum_by-cons)
 
   -- each at most as much
   pub sum_each : (f g : X → ℕ) (xs : List X) → AllByRecursion (λ x. f x ≤ g x) xs → sum_by f xs ≤ sum_by g xs
   sum_each f g [] all = omega arith
-  sum_each f g (x ∷ xs) all =
-      let here = all.0 in
-      let rest = sum_each f g xs all.1 in
-      let one = sum_by-cons f x xs in
-      let other = sum_by-cons g x xs in
-      omega (arith, here, rest, one, other)
+  sum_each f g (x ∷ xs) all = omega (arith, sum_each f g xs all.1, sum_by-cons)
 
   -- as many times as much as each is at most
   pub sum_few : (w : X → ℕ) (most : ℕ) (xs : List X) → AllByRecursion (λ x. w x ≤ most) xs → sum_by w xs ≤ length xs * most
   sum_few w most [] all = omega arith
-  sum_few w most (x ∷ xs) all =
-      let one = all.0 in
-      let rest = sum_few w most xs all.1 in
-      let sum = sum_by-cons w x xs in
-      omega (arith, one, rest, sum)
+  sum_few w most (x ∷ xs) all = omega (arith, sum_few w most xs all.1, sum_by-cons)
 
   -- two sums in one
   pub sum_both : (f g : X → ℕ) (xs : List X) → sum_by (λ x. f x + g x) xs ≡ sum_by f xs + sum_by g xs
   sum_both f g [] = omega arith
-  sum_both f g (x ∷ xs) =
-      let rest = sum_both f g xs in
-      let all = sum_by-cons (λ x. f x + g x) x xs in
-      let one = sum_by-cons f x xs in
-      let other = sum_by-cons g x xs in
-      omega (arith, rest, all, one, other)
+  sum_both f g (x ∷ xs) = omega (arith, sum_both f g xs, sum_by-cons)
 
   -- of images
   pub sum_mapped : {Y : Type 0} (w : Y → ℕ) (f : X → Y) (xs : List X) → sum_by w (map f xs) ≡ sum_by (λ x. w (f x)) xs
-  sum_mapped w f [] = omega arith
-  sum_mapped w f (x ∷ xs) =
-      let rest = sum_mapped w f xs in
-      let one = sum_by-cons w (f x) (map f xs) in
-      let other = sum_by-cons (λ x. w (f x)) x xs in
-      omega (arith, rest, one, other)
+  sum_mapped w f xs = grind (arith, common_steps, sum_by-cons)
 
   -- of lists made of lists
   pub sum_flat : {Y : Type 0} (w : Y → ℕ) (f : X → List Y) (xs : List X) → sum_by w (flat_map f xs) ≡ sum_by (λ x. sum_by w (f x)) xs
   sum_flat w f [] = omega arith
-  sum_flat w f (x ∷ xs) =
-      let rest = sum_flat w f xs in
-      let joined = sum_by-append w (f x) (flat_map f xs) in
-      let other = sum_by-cons (λ x. sum_by w (f x)) x xs in
-      omega (arith, rest, joined, other)
+  sum_flat w f (x ∷ xs) = omega (arith, sum_flat w f xs, sum_by-append, sum_by-cons)
 
 -- ---- pages
 

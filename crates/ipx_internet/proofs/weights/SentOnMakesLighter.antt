@@ -1,5 +1,6 @@
 -- A delivery that a router doesn't hear leaves less weight than there was: what is sent on says what it said, and each of the receptions
 -- that it leads to is counted.
+use Rattle.std.proofs.lemmas.Grind.{common_steps}
 use Rattle.std.proofs.Common.{◌≡◌, refl, sym, ap, ◌∙◌, subst, ℕ, zero, suc, ◌+◌, ◌-◌, ◌*◌, ◌<◌, ◌≤◌, ◌==◌, max, not, if◌then◌else◌, Bool, true, false, List, [], ◌∷◌, length, flat_map, map, Option, Some, None, Result, Ok, Err, inl, inr, arith, append-nil, mul-le-mul_right, one-mul}
 use Rattle.std.specs.List.{AllByRecursion, sum_by}
 use Rattle.std.proofs.lemmas.Bool.{and_parts, not-true, or_right, eq-eqb}
@@ -89,21 +90,11 @@ module _ (wire : Wire) (laws : Relaying) (over : SentOn) (routers : List Router)
   -- those that receive it
   received_are : (c : Copy) (s : Sent) (tos : List Place)
       → sum_by (w net most_routes most_services) (map (λ to. record { to = to; bytes = s.bytes }) tos) ≡ sum_by copy_weighs (map (λ to. record { parent = Some 0; to = to; bytes = s.bytes }) tos)
-  received_are c s [] = omega arith
-  received_are c s (to ∷ tos) =
-      let rest = received_are c s tos in
-      let one = sum_by-cons (w net most_routes most_services) (record { to = to; bytes = s.bytes }) (map (λ to. record { to = to; bytes = s.bytes }) tos) in
-      let other = sum_by-cons copy_weighs (record { parent = Some 0; to = to; bytes = s.bytes }) (map (λ to. record { parent = Some 0; to = to; bytes = s.bytes }) tos) in
-      omega (arith, rest, one, other)
+  received_are c s tos = grind (arith, common_steps, sum_by-cons, w)
 
   all_received : (c : Copy) (ss : List Sent) → weigh (flat_map (deliveries_of net c.to.router) ss) ≡ sum_by copy_weighs (flat_map (receivers routers 0 c) ss)
   all_received c [] = omega arith
-  all_received c (s ∷ ss) =
-      let rest = all_received c ss in
-      let here = received_are c s (delivered net (record { router = c.to.router; port = s.port }) s.link) in
-      let one = sum_by-append (w net most_routes most_services) (deliveries_of net c.to.router s) (flat_map (deliveries_of net c.to.router) ss) in
-      let other = sum_by-append copy_weighs (receivers routers 0 c s) (flat_map (receivers routers 0 c) ss) in
-      omega (arith, rest, here, one, other)
+  all_received c (s ∷ ss) = grind (arith, all_received c ss, received_are, sum_by-append, w)
 
   -- ---- a propagated packet, as in its tree
 
@@ -135,11 +126,7 @@ module _ (wire : Wire) (laws : Relaying) (over : SentOn) (routers : List Router)
     one_weighs k q local is here = plain_weighs net most_routes most_services (waits k) q local ((laws.packet_read k.bytes q is.bytes).1 is.packet) is.one here
 
     some_times : says p ≤ times * says p
-    some_times =
-        let some : 1 ≤ times = omega arith in
-        let more = mul-le-mul_right (says p) some in
-        let one = one-mul (says p) in
-        omega (arith, more, one)
+    some_times = grind arith
 
     module _ (s : Sent) (f : following.Passed wire laws over routers made right c p s) where
       came : copy_weighs c ≡ (most_routers - p.header.control) + times * says p

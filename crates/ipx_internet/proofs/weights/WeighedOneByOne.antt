@@ -1,5 +1,6 @@
 -- Weights are measured one by one: what packets say, and what records and deliveries weigh together.
-use Rattle.std.proofs.Common.{◌≡◌, refl, sym, ap, ◌∙◌, get_or, ℕ, zero, suc, ◌+◌, ◌-◌, ◌*◌, ◌^◌, ◌<◌, ◌≤◌, ◌==◌, true, false, List, [], ◌∷◌, length, drop, slice_get, Some, Ok, inl, inr, arith}
+use Rattle.std.proofs.lemmas.Grind.{common_steps}
+use Rattle.std.proofs.Common.{◌≡◌, refl, sym, ap, ◌∙◌, get_or, ℕ, ◌+◌, ◌-◌, ◌^◌, ◌<◌, ◌≤◌, ◌==◌, true, false, List, [], ◌∷◌, length, drop, slice_get, Some, Ok, arith}
 use Rattle.std.specs.List.{AllByRecursion, sum_by}
 use Rattle.std.proofs.lemmas.Bool.{cases_lt}
 use Rattle.std.proofs.lemmas.List.{drop_more}
@@ -10,10 +11,9 @@ use Rattle.ipx_wire.specs.Sap.{sap_of}
 use Rattle.ipx_wire.specs.declared.sap.Sap.{Sap}
 use Rattle.ipx_router.specs.Heard.{HeardRip, HeardSap}
 use Rattle.ipx_router.specs.Numbers.{propagated_type}
-use Rattle.ipx_router.specs.Stands.{State}
 use Rattle.ipx_router.specs.Why.{is_for_rip, is_for_sap}
 use Rattle.ipx_internet.specs.Internet.{Internet}
-use Rattle.ipx_internet.specs.InternetWeight.{most_hearers, message_weight, said_weight, delivery_weight, records_at, internet_weight}
+use Rattle.ipx_internet.specs.InternetWeight.{message_weight, said_weight, internet_weight}
 use Rattle.ipx_internet.specs.Moment.{Moment, net_at}
 use Rattle.ipx_internet.specs.Rounds.{IsDelivery}
 use Rattle.ipx_internet.specs.inside.Scales.{saturated}
@@ -23,10 +23,7 @@ use Rattle.ipx_internet.proofs.deliveries.SettledOneByOne.{none_of}
 module _ {X : Type 0} where
   -- behind the last there is none
   none_left : (xs : List X) (k : ℕ) → length xs ≤ k → drop k xs ≡ []
-  none_left [] zero end = refl
-  none_left [] (suc k) end = refl
-  none_left (x ∷ xs) zero end = absurd (omega (arith, end))
-  none_left (x ∷ xs) (suc k) end = none_left xs k (omega (arith, end))
+  none_left xs k end = grind (arith, common_steps)
 
   -- the element at hand stands first in what is left
   pub next_left : (xs : List X) (k : ℕ) (x : X) → k < length xs → x ≡ get_or xs k x → drop k xs ≡ x ∷ drop (k + 1) xs
@@ -43,9 +40,7 @@ module _ {X : Type 0} where
         omega (arith, is, whole, parts, is_one)
 
     pub sum_whole : length xs ≤ k → so_far ≤ 2 ^ 64 - 1 → so_far ≡ saturated all
-    sum_whole end few =
-        let none = ap (sum_by w) (none_left xs k end) in
-        omega (arith, is, none, few)
+    sum_whole end few = grind (arith, none_left)
 
 -- ---- what a packet says
 
@@ -61,14 +56,4 @@ sap_said net routes services p sap plain other for_sap read = rw (plain, other, 
 
 pub nothing_weighs : (most_routes most_services : ℕ) (m : Moment) → m.routers ≡ [] → AllByRecursion (IsDelivery (net_at m)) m.queue
     → internet_weight most_routes most_services m ≡ 0
-nothing_weighs most_routes most_services m none coming = elim (cases_lt 0 (length m.queue)) [
-  | inl waits ↦
-      let some = some_router m.routers m.queue coming waits in
-      let size = ap length none in
-      absurd (omega (arith, some, size))
-  | inr empty ↦
-      let no_length : length m.queue ≡ 0 = omega (arith, empty) in
-      let queue = ap (sum_by (delivery_weight (net_at m) most_routes most_services)) (none_of m.queue no_length) in
-      let held = ap (λ (states : List State). most_hearers (net_at m) * records_at states) none in
-      omega (arith, queue, held)
-]
+nothing_weighs most_routes most_services m none coming = grind (arith, cases_lt, some_router, none_of)

@@ -18,7 +18,7 @@ use Rattle.ipx_internet.specs.Run.{AreHistories}
 use Rattle.ipx_internet.specs.Settled.{HasSettled, IsToldOf}
 use Rattle.ipx_internet.specs.inside.Simulated.{moment, net_among}
 use Rattle.ipx_internet.specs.declared.internet.Settled.{Settled}
-use Rattle.ipx_internet.specs.declared.internet.Settled.TheVariants.{Quiet, Left}
+use Rattle.ipx_internet.specs.declared.internet.Settled.TheVariants.{Quiet}
 use Rattle.ipx_internet.proofs.lists.FoundInAList.{nothing, it_is}
 use Rattle.ipx_internet.proofs.weights.PagesAtTheirProcess.{at_least_one}
 
@@ -26,11 +26,7 @@ use Rattle.ipx_internet.proofs.weights.PagesAtTheirProcess.{at_least_one}
 
 first_apart : (f : ℕ → ℕ) (n : ℕ) → sum_by f (numbers (suc n)) ≡ f 0 + sum_by (λ k. f (suc k)) (numbers n)
 first_apart f zero = let one = sum_by-cons f 0 [] in omega (arith, one)
-first_apart f (suc n) =
-    let whole = sum_by_push f (numbers (suc n)) (suc n) in
-    let later = sum_by_push (λ k. f (suc k)) (numbers n) n in
-    let rest = first_apart f n in
-    omega (arith, whole, later, rest)
+first_apart f (suc n) = omega (arith, first_apart f n, sum_by_push)
 
 counted : (count : State → ℕ) (f : ℕ → ℕ) (states : List State) → ((k : ℕ) (s : State) → slice_get states k ≡ Some s → count s ≡ f k)
     → sum_by count states ≡ sum_by f (numbers (length states))
@@ -72,11 +68,7 @@ module _ (most_routes most_services : ℕ) where
   of_bytes (x ∷ states) all (suc k) = of_bytes states all.1 k
 
   pub are_pasts : (states : List State) (all : AllByRecursion (HasPast most_routes most_services) states) → AreHistories (net_among states) (pasts states all)
-  are_pasts states all = record {
-    each = as_many states all ∙ sym (length-map states (λ (s : State). s.ports));
-    on_ports = on_ports states all;
-    of_bytes = of_bytes states all;
-  }
+  are_pasts states all = grind (arith, as_many, length-map, on_ports, of_bytes)
 
   pub pasts_stand : (states : List State) (all : AllByRecursion (HasPast most_routes most_services) states) (queue : List Delivery)
       → StandsFor most_routes most_services (moment states queue) (record { histories = pasts states all; queue = queue })
@@ -142,9 +134,4 @@ module _ (most_routes most_services : ℕ) where
 
 -- so it is told
 pub quiet_told : (queue : List Delivery) (s : Settled) → IsToldOf queue s → queue ≡ [] → s ≡ Quiet
-quiet_told queue Quiet told none = refl
-quiet_told queue (Left count) told none =
-    let size = ap length none in
-    let all = told.0 in
-    let some = told.1 in
-    absurd (omega (arith, size, all, some))
+quiet_told queue s told none = grind arith
