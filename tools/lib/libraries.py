@@ -42,8 +42,8 @@ def numbers_in(file):
         return []
 
 
-def places():
-    """How many checks there are processors and memory for, within what the control group allows."""
+def room():
+    """How many processors there are, and how many bytes of memory are free, within what the control group allows."""
     with open("/proc/meminfo", encoding="ascii") as it:
         free = 1024 * int(re.search(r"MemAvailable:\s+(\d+)", it.read())[1])
     processors, quota = len(os.sched_getaffinity(0)), numbers_in("cpu.max")
@@ -52,6 +52,12 @@ def places():
         processors = min(processors, quota[0] // quota[1])
     if most and held:
         free = min(free, most[0] - held[0])
+    return processors, free
+
+
+def places():
+    """How many checks there are processors and memory for."""
+    processors, free = room()
     return max(1, min(processors, free // MEMORY))
 
 
