@@ -18,7 +18,7 @@ run try show build embed aarch64 windows portable wasm page web gateway test edi
 toolchain:
 	@command -v rt >/dev/null || { echo "the toolchain's command rt is missing: README.md says where it comes from" >&2; exit 1; }
 
-# Proves and builds all, then plays the worked script and prints what the router sent and learned.
+# Proves what the program is made of and builds it, then plays the worked script and prints what the router sent and learned.
 run: build
 	@$(PROGRAM) replay crates/ipxr/stdin
 
@@ -30,7 +30,7 @@ try:
 show:
 	@tools/show
 
-# Proves every crate and builds the program.
+# Proves what the program is made of and builds it.
 build:
 	@tools/build
 
@@ -92,9 +92,11 @@ bench:
 # sums; docs/authors/RELEASING.md. DRAFT=1 makes a draft where make test hasn't passed on this commit.
 dist: | $(if $(DRAFT),,toolchain)
 	@$(if $(DRAFT),,release/dist --check)
+	@$(if $(DRAFT),,tools/lib/takes.py dist "building for other systems what the gate proved, then packing all")
 	@$(if $(DRAFT),,tools/gateway)
 	@$(if $(DRAFT),,tools/platforms all)
 	@release/dist $(if $(DRAFT),--draft)
+	@echo "dist/ has the archives, the packages and SHA256SUMS" >&2
 
 # What make test leaves out since it takes long: the programs for other systems, played there; then two copies that give one sum, lintian,
 # and the packages and archives in fresh roots.

@@ -5,6 +5,8 @@ import re
 import shutil
 import tempfile
 
+import library_proofs
+from takes import TAKES
 from trying import TOP, differs, run, tell, text_of
 
 # In the toolchain's place: it says what it was asked for, and ends as the file beside it says.
@@ -147,7 +149,58 @@ def try_under_make(folder):
     tell("make -j4 test PORTS=8 tries what is delivered", "" if is_right else f"    status {status}, {lines}")
 
 
+class MadeUp:
+    """In the place of a command that proves: it notes that it begins, and by how many jobs; it ends after as many looks, well or not."""
+
+    def __init__(self, words, _folder, jobs):
+        self.crate, self.jobs, self.looks, self.run = words[-2], jobs, jobs + 1, self
+        self.begun.append((self.crate, jobs))
+
+    def has_ended(self):
+        self.looks -= 1
+        return not self.looks
+
+    def is_well(self):
+        return self.crate != self.bad
+
+    def terminate(self):
+        self.begun.append((self.crate, "stopped"))
+
+
+def begun(places, bad=""):
+    """What begins, in its order, where there is room for so many jobs, and whether all is proved."""
+    MadeUp.begun, MadeUp.bad = [], bad
+    library_proofs.places, library_proofs.unbuilt = lambda: places, library_proofs.below
+    library_proofs.Part, library_proofs.SECONDS_BETWEEN_LOOKS = MadeUp, 0
+    is_proved = library_proofs.proves_below("ipxr")
+    return [*MadeUp.begun, is_proved]
+
+
+def try_libraries(_):
+    """What the program stands on is proved in an order that can be, by as many jobs as there is room for; what fails stops the rest."""
+    for places in (2, 4):
+        alone = [(it, places) for it in ("ipx_router", "ipx_internet", "ipx_cmd")]
+        wanted = [("ipx_wire", places), ("ipx_table", places - 1), ("ipx_capture", 1), *alone, True]
+        tell(f"libraries by {places} jobs", differs(begun(places), wanted))
+    in_turn = ["ipx_wire", "ipx_table", "ipx_router", "ipx_internet", "ipx_capture", "ipx_cmd"]
+    tell("libraries by one job", differs(begun(1), [*((it, 1) for it in in_turn), True]))
+    stops = [("ipx_wire", 4), ("ipx_table", 3), ("ipx_capture", 1), ("ipx_table", "stopped"), False]
+    tell("a library that isn't proved stops the others", differs(begun(4, "ipx_capture"), stops))
+
+
+# A row of the page: the targets, and behind what they make and need the minutes, and the targets before.
+ROW = re.compile(r"(?m)^\| ((?:`\w+`(?:, )?)+) \|.*\| ([0-9.]+) \| ([0-9.]+) \| ((?:`\w+`(?:, )?)*) ?\|$")
+
+
+def try_minutes(_):
+    """The page's table tells of each target the minutes that it says at its start."""
+    told = {it: row.groups()[1:] for row in ROW.finditer(text_of("docs/LIBRARY.md")) for it in re.findall(r"\w+", row[1]) if it != "build"}
+    names = {name: re.findall(r"make (\w+)", it.after) for name, it in TAKES.items()}
+    wanted = {name: (it.processor, it.clock, ", ".join(f"`{before}`" for before in names[name])) for name, it in TAKES.items()}
+    tell("the page tells of each target the minutes that it says", differs(told, wanted))
+
+
 def try_all():
-    for attempt in (try_copied, try_missing, try_words, try_under_make):
+    for attempt in (try_copied, try_missing, try_words, try_under_make, try_libraries, try_minutes):
         with tempfile.TemporaryDirectory() as folder:
             attempt(folder)

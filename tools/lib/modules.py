@@ -147,7 +147,7 @@ def kept(crate):
     if is_kept(name, crate):
         return name
     os.makedirs(FOLDER, exist_ok=True)
-    print(f"compiling {crate}, to keep its module; unless it was proved already, that takes minutes", file=sys.stderr, flush=True)
+    print(f"compiling {crate} once more, to keep the compiler's module", file=sys.stderr, flush=True)
     with_it, without = KEEPERS[crate](f"{name}.new")
     if not filecmp.cmp(with_it, without, shallow=False):
         files = [os.path.relpath(it, TOP) for it in (with_it, without)]

@@ -12,6 +12,7 @@ import tempfile
 import wasm32
 import wasm_modules
 import wasm_vectors
+from takes import begins
 
 TOP = wasm_modules.TOP
 MADE = "build/portable/ipxr.c"
@@ -134,6 +135,7 @@ def portable(module):
 def build():
     # (before what takes minutes)
     see_translator()
+    begins("portable", "translating the program into C, once it is proved")
     made = portable(wasm32.lowered(wasm_modules.module("ipxr")))
     os.makedirs(os.path.dirname(f"{TOP}/{MADE}"), exist_ok=True)
     with open(f"{TOP}/{MADE}", "w", encoding="ascii") as it:
