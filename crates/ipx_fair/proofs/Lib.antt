@@ -1,0 +1,9 @@
+pub mod Queues
+pub mod Served
+pub mod Kept
+pub mod Counted
+pub mod Agreed
+pub mod Heard
+pub mod Made
+pub mod Running
+pub mod Parts

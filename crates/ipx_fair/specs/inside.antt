@@ -1,0 +1,2 @@
+-- how a receiver is counted
+pub mod Held
