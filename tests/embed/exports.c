@@ -1,11 +1,12 @@
 /* Calls every export of the headers, and is made of these alone. Each argument and each field has a value of its own, and what each call
  * answers is read back: the first wrong answer is named, and the program ends with 1. dev/exports sees that it fails where two exports,
  * two arguments or two fields are exchanged. What is wanted was given here, or follows from the documents: docs/PACKETS.md,
- * docs/ROUTER.md, docs/TUNNEL.md and docs/SEGMENT.md. */
+ * docs/ROUTER.md, docs/TUNNEL.md, docs/SEGMENT.md and docs/FAIR.md. */
 #include <stdio.h>
 #include <stdlib.h>
 #include <string.h>
 
+#include "ipxr_fair.h"
 #include "ipxr_segment.h"
 #include "ipxr_tunnel.h"
 
@@ -517,6 +518,76 @@ static void a_segment(void)
     without_segment(&segment);
 }
 
+/* ---- Receivers and meters ---- */
+
+static const ipxr_fair_setting SHARES = {.one = 10, .own = 20, .reserve = 300, .room = 100};
+
+/* Three speakers fill their queues, and time serves them alike: of 13 nanoseconds each gets 4, and one is left. */
+static void shares(ipxr_fair *fair)
+{
+    uint64_t clock = 1000;
+    ANSWERS(1, ipxr_fair_make(fair, &SHARES));
+    ANSWERS(1, ipxr_fair_says(fair, 1, 50));
+    ANSWERS(0, ipxr_fair_says(fair, 1, 1));
+    ANSWERS(1, ipxr_fair_says(fair, 2, 15));
+    ANSWERS(1, ipxr_fair_says(fair, 3, 7));
+    CALLS(ipxr_fair_look(fair, &clock, 1013));
+    WROTE(1013, clock);
+    WROTE(1, fair->left);
+    WROTE(4, fair->served);
+    WROTE(50, fair->latest);
+    WROTE(2, fair->spare);
+    WROTE(3, fair->waits);
+    WROTE(60, fair->total);
+    WROTE(15, fair->ends[2]);
+    WROTE(300, fair->setting.reserve);
+}
+
+static void a_receiver(void)
+{
+    ipxr_fair fair = {.left = 0};
+    const ipxr_fair_setting bad = {.one = 21, .own = 20};
+    ANSWERS(0, ipxr_fair_says(&fair, 0, 1));
+    shares(&fair);
+    ANSWERS(0, ipxr_fair_make(&fair, &bad));
+    CALLS(ipxr_fair_pass(&fair, 5));
+    WROTE(54, fair.total);
+    CALLS(ipxr_fair_pass(&fair, 54));
+    WROTE(0, fair.total);
+}
+
+/* What the second receiver doesn't hear isn't in the queue of the first. */
+static void two_receivers(void)
+{
+    const ipxr_fair_setting few = {.one = 5, .own = 6, .reserve = 7, .room = 8};
+    ipxr_fair fair = {.left = 0}, other = {.left = 0};
+    ANSWERS(1, ipxr_fair_make(&fair, &SHARES));
+    ANSWERS(1, ipxr_fair_make(&other, &few));
+    ANSWERS(1, ipxr_fair_both_hear(&fair, &other, 9, 30, 4));
+    WROTE(30, fair.total);
+    WROTE(4, other.total);
+    WROTE(30, fair.ends[9]);
+    ANSWERS(0, ipxr_fair_both_hear(&fair, &other, 9, 31, 5));
+    ANSWERS(0, ipxr_fair_both_hear(&fair, &other, 9, 41, 1));
+    WROTE(30, fair.total);
+    WROTE(4, other.total);
+}
+
+static void a_meter(void)
+{
+    ipxr_meter meter = {.used = 0}, other = {.used = 0};
+    ANSWERS(1, ipxr_meter_lets(&meter, 100, 70));
+    ANSWERS(0, ipxr_meter_lets(&meter, 100, 31));
+    CALLS(ipxr_meter_pass(&meter, 30));
+    WROTE(40, meter.used);
+    ANSWERS(1, ipxr_meter_both_let(&meter, 100, 60, &other, 50, 20));
+    WROTE(100, meter.used);
+    WROTE(20, other.used);
+    ANSWERS(0, ipxr_meter_both_let(&meter, 200, 10, &other, 50, 31));
+    WROTE(100, meter.used);
+    WROTE(20, other.used);
+}
+
 int main(void)
 {
     words();
@@ -526,5 +597,8 @@ int main(void)
     a_router();
     a_tunnel();
     a_segment();
+    a_receiver();
+    two_receivers();
+    a_meter();
     return 0;
 }

@@ -6,7 +6,8 @@ from c_library import FLAGS
 from telling import ends, prints, succeeds, tell
 
 KEPT = "examples/embed"
-EXAMPLES = ("two_networks", "answers", "fields", "services", "tunnel", "tunnel_fields", "segment", "segment_fields", "joined")
+EXAMPLES = ("two_networks", "answers", "fields", "services", "tunnel", "tunnel_fields", "segment", "segment_fields", "joined",
+            "fair")
 COUNTED = ("refusals", "blocks", "tunnel_blocks", "segment_blocks")
 
 

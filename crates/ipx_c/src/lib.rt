@@ -1,5 +1,5 @@
-//! The router for C, and for whatever can call C: a static library, whose headers are `ipxr.h`, `ipxr_tunnel.h` and
-//! `ipxr_segment.h` in `include/`.
+//! The router for C, and for whatever can call C: a static library, whose headers are `ipxr.h`, `ipxr_tunnel.h`, `ipxr_segment.h` and
+//! `ipxr_fair.h` in `include/`.
 //!
 //! - C holds a router by a `RouterHandle`: a flag and a pointer. All bytes 0 are a handle without a router.
 //! - `Handle` and `Cell` serve any machine, and are proved once. What crosses to C may have no type parameter, so each kind of machine
@@ -14,6 +14,8 @@
 //!   one (`Extends`).
 //! - A network over several links is the third: `SegmentMachine` has the segment of `ipx_segment` and the links that get the packet of
 //!   its last event (`SegmentMakes`, `SegmentEvents`, `SegmentReads`).
+//! - Fair queueing and meters are no machines: C keeps them in memory of its own, where all bytes 0 are one, and lends them. Each call's
+//!   clause is that of `ipx_fair`.
 //! - Frames of Ethernet are read and written as `ipx_capture` does, by the numbers of their kinds (`Kinds`).
 //! - Packets are written by the writers of `ipx_wire`, of values that C gives (`Writes`).
 //! - `cell` is the only place with a raw pointer; its proofs, and those alone, are walks by hand.
@@ -26,6 +28,7 @@ mod cell;
 mod code;
 mod events;
 mod extending;
+mod fair;
 mod fault;
 mod frames;
 mod handle;
@@ -53,6 +56,10 @@ pub use crate::events::{
     ipxr_packet, ipxr_port_down, ipxr_port_up, ipxr_second, ipxr_start, ipxr_stop,
 };
 pub use crate::extending::ipxr_tunnel_extend;
+pub use crate::fair::{
+    ipxr_fair_both_hear, ipxr_fair_look, ipxr_fair_make, ipxr_fair_pass, ipxr_fair_says,
+    ipxr_meter_both_let, ipxr_meter_lets, ipxr_meter_pass,
+};
 pub use crate::fault::Fault;
 pub use crate::frames::{ipxr_frame_read, ipxr_frame_write};
 pub use crate::handle::{RouterHandle, SegmentHandle, TunnelHandle};

@@ -15,6 +15,7 @@ mod routes;
 mod runs;
 mod segments;
 mod services;
+mod shares;
 mod tunnels;
 
 use crate::ends::copied;
@@ -236,7 +237,7 @@ fn port(network: u32, node: u8) -> Result<Port, PortFault> {
     Port::new(Network(network), Node([0, 0, 0, 0, 0, node]), 1, 576)
 }
 
-/// The examples of a tunnel and of a segment.
+/// The examples of a tunnel, of a segment, of receivers and of meters.
 fn serve(rt: &HostRuntime) -> Result<()> {
     let cookies = Cookies {
         current: Node([2, 0x11, 0x22, 0x33, 0x44, 0x55]),
@@ -248,5 +249,7 @@ fn serve(rt: &HostRuntime) -> Result<()> {
         is_trusted: false,
     };
     tunnels::tunnel(rt, from, &REGISTRATION, &ANSWER)?;
-    segments::segment(rt, Node([0, 0, 0, 0, 0, 2]), Node([0, 0, 0, 0, 0, 0xAA]))
+    segments::segment(rt, Node([0, 0, 0, 0, 0, 2]), Node([0, 0, 0, 0, 0, 0xAA]))?;
+    shares::receivers(rt)?;
+    shares::meters(rt)
 }

@@ -1,5 +1,5 @@
 -- A tally agrees with its ends, whatever is done to it.
-use Rattle.std.proofs.Common.{◌≡◌, ◌∙◌, refl, sym, ap, ap₂, subst, arith, ℕ, zero, suc, ◌+◌, ◌-◌, ◌*◌, ◌/◌, ◌^◌, ◌<◌, ◌≤◌, ◌⊎◌, inl, inr, max, List, [], ◌∷◌, length, get_or, set}
+use Rattle.std.proofs.Common.{◌≡◌, ◌∙◌, refl, sym, ap, ap₂, subst, arith, ℕ, ◌+◌, ◌-◌, ◌*◌, ◌^◌, ◌<◌, ◌≤◌, ◌⊎◌, inl, inr, max, List, length, get_or, set}
 use Rattle.std.specs.List.{AllByRecursion}
 use Rattle.std.proofs.lemmas.List.{map-set}
 use Rattle.ipx_fair.specs.declared.tally.Tally.{Tally}
@@ -10,7 +10,7 @@ use Rattle.ipx_fair.specs.Tallies.{queues_of, state_of}
 use Rattle.ipx_fair.specs.inside.Held.{Spares, Agrees}
 use Rattle.ipx_fair.proofs.Queues.{waiting_least, some_wait, length-lowered, lowered_none, lowered_twice, queue_of-lowered, total-set, waiting-set}
 use Rattle.ipx_fair.proofs.Kept.{state}
-use Rattle.ipx_fair.proofs.Counted.{spares_fewer, spares_none, spared_total, spared_waiting, spared_less, spares-set, spares-get, latest_more, latest-set, latest_lowered, all_served}
+use Rattle.ipx_fair.proofs.Counted.{spares_fewer, spares_none, spared_total, spared_waiting, spared_less, spares-set, latest_more, latest-set, latest_lowered, all_served}
 
 -- served some more
 further : (s m level : ℕ) (ends : List ℕ) → m ≡ s + level → lowered m ends ≡ lowered level (lowered s ends)

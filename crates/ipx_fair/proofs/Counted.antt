@@ -1,11 +1,11 @@
 -- What is counted of queues stays right.
-use Rattle.std.proofs.Common.{◌≡◌, ◌∙◌, refl, sym, ap, ap₂, subst, arith, ℕ, zero, suc, ◌+◌, ◌-◌, ◌*◌, ◌^◌, ◌<◌, ◌≤◌, ◌⊎◌, inl, inr, max, List, [], ◌∷◌, ◌++◌, length, get_or, take, set}
+use Rattle.std.proofs.Common.{◌≡◌, ◌∙◌, refl, sym, arith, ℕ, zero, suc, ◌+◌, ◌-◌, ◌*◌, ◌<◌, ◌≤◌, ◌⊎◌, inl, inr, List, [], ◌∷◌, ◌++◌, length, get_or, take, set}
 use Rattle.std.specs.List.{AllByRecursion}
-use Rattle.std.proofs.lemmas.List.{map-append, map_more, map-set, get_or-map, take_all}
+use Rattle.std.proofs.lemmas.List.{map_more}
 use Rattle.ipx_fair.specs.Queues.{total, waits, waiting, lowered}
 use Rattle.ipx_fair.specs.Hearing.{queue_of}
 use Rattle.ipx_fair.specs.inside.Held.{Spares}
-use Rattle.ipx_fair.proofs.Queues.{waits_is, waits_some, lowered_twice}
+use Rattle.ipx_fair.proofs.Queues.{waits_some}
 
 -- ---- what queues can spare
 

@@ -1,13 +1,14 @@
 -- A packet that is heard, as a tally counts it.
-use Rattle.std.proofs.Common.{◌≡◌, ◌∙◌, refl, sym, ap, ap₂, subst, arith, ℕ, ◌+◌, ◌-◌, ◌*◌, ◌^◌, ◌<◌, ◌≤◌, ◌⊎◌, inl, inr, max, Bool, true, List, length, get_or, set, length-set}
+use Rattle.std.proofs.Common.{◌≡◌, ◌∙◌, sym, ap, ap₂, arith, ℕ, ◌+◌, ◌-◌, ◌^◌, ◌<◌, ◌≤◌, ◌⊎◌, max, Bool, true, List, length, get_or, set, length-set}
 use Rattle.ipx_fair.specs.declared.tally.Tally.{Tally}
 use Rattle.ipx_fair.specs.Numbers.{most_time, most_speakers}
-use Rattle.ipx_fair.specs.Queues.{total, waits, waiting, lowered}
-use Rattle.ipx_fair.specs.Hearing.{hears, queue_of, queues_after, Said}
+use Rattle.ipx_fair.specs.Queues.{waits, lowered}
+use Rattle.ipx_fair.specs.States.{State}
+use Rattle.ipx_fair.specs.Hearing.{hears, hears_from, queue_of, after, Said}
 use Rattle.ipx_fair.specs.Tallies.{queues_of, state_of}
-use Rattle.ipx_fair.specs.inside.Held.{most_served, IsSmall, IsHeld}
+use Rattle.ipx_fair.specs.inside.Held.{IsSmall, IsHeld}
 use Rattle.ipx_fair.proofs.Queues.{length-lowered, queue_of-lowered, waiting_most}
-use Rattle.ipx_fair.proofs.Kept.{Way, by_one, by_own, by_room, way, said_kept, total_small}
+use Rattle.ipx_fair.proofs.Kept.{by_one, by_own, by_room, state, way, said_kept, total_small}
 use Rattle.ipx_fair.proofs.Agreed.{added_queues, agrees_added}
 
 -- what is in memory after it
@@ -37,29 +38,37 @@ module _ (t : Tally) (ends : List ℕ) (held : IsHeld t ends) where
     | by_room room ↦ omega (arith, room, held.small.room)
   ]
 
-  module _ (n : Tally) (k q w : ℕ) (b : Bool) (there : k < length ends) (is : q ≡ get_or ends k 0 - t.served) (decided : b ≡ hears t.setting q t.total w)
-      (heard : b ≡ true) (added : IsAdded t n q w) where
-    pub said_heard : Said k w b (state_of t ends) (state_of n (ends_after t ends k q w))
-    said_heard =
+  pub heard_here : (k q w : ℕ) → q ≡ get_or ends k 0 - t.served → hears_from (state_of t ends) k w ≡ true → hears t.setting q t.total w ≡ true
+  heard_here k q w is heard =
+      let queue : q ≡ queue_of (queues_of t ends) k = is ∙ sym (queue_of-lowered t.served ends k) in
+      ap₂ (λ (x y : ℕ). hears t.setting x y w) queue held.agrees.total ∙ heard
+
+  module _ (n : Tally) (k q w : ℕ) (there : k < length ends) (is : q ≡ get_or ends k 0 - t.served)
+      (heard : hears_from (state_of t ends) k w ≡ true) (added : IsAdded t n q w) where
+    -- the receiver has the packet in its queue
+    pub put_state : state_of n (ends_after t ends k q w) ≡ after (state_of t ends) k w true
+    put_state =
         let qs = queues_of t ends in
-        let queue : q ≡ queue_of qs k = is ∙ sym (queue_of-lowered t.served ends k) in
         let served : n.served ≡ t.served = ap (λ (x : Tally). x.served) added in
-        let after : queues_of n (ends_after t ends k q w) ≡ set qs k (queue_of qs k + w) =
+        let queues : queues_of n (ends_after t ends k q w) ≡ set qs k (queue_of qs k + w) =
         ap (λ (x : ℕ). lowered x (ends_after t ends k q w)) served ∙ added_queues t.served q w k ends is in
-        record {
-          there = omega (arith, there, long);
-          setting = ap (λ (x : Tally). x.setting) added;
-          left = ap (λ (x : Tally). x.left) added;
-          decided = decided ∙ ap₂ (λ (x y : ℕ). hears t.setting x y w) queue held.agrees.total;
-          queues = after ∙ sym (ap (λ (x : Bool). queues_after qs k w x) heard);
-        }
+        ap (λ (x : Tally). state x.setting x.left (queues_of n (ends_after t ends k q w))) added ∙ ap (λ (xs : List ℕ). state t.setting t.left xs) queues
+
+    put_said : Said k w true (state_of t ends) (state_of n (ends_after t ends k q w))
+    put_said = record {
+      there = omega (arith, there, long);
+      setting = ap (λ (s : State). s.setting) put_state;
+      left = ap (λ (s : State). s.left) put_state;
+      decided = sym heard;
+      queues = ap (λ (s : State). s.queues) put_state;
+    }
 
     small : IsSmall n (ends_after t ends k q w)
     small =
         let setting = ap (λ (x : Tally). x.setting) added in
         let served : n.served ≡ t.served = ap (λ (x : Tally). x.served) added in
         let latest : n.latest ≡ max t.latest (t.served + q + w) = ap (λ (x : Tally). x.latest) added in
-        let weight = weight_small q w (sym decided ∙ heard) in
+        let weight = weight_small q w (heard_here k q w is heard) in
         record {
           own = rw setting held.small.own;
           reserve = rw setting held.small.reserve;
@@ -69,9 +78,19 @@ module _ (t : Tally) (ends : List ℕ) (held : IsHeld t ends) where
           latest = omega (arith, latest, weight, held.small.served, held.small.latest);
         }
 
-    pub held_heard : n.waits + waits q ≡ t.waits + waits (q + w) → n.spare ≤ t.spare → (q + w ≡ 0) ⊎ (n.spare < q + w) → IsHeld n (ends_after t ends k q w)
-    held_heard wait less spares = record {
+    pub put_held : n.waits + waits q ≡ t.waits + waits (q + w) → n.spare ≤ t.spare → (q + w ≡ 0) ⊎ (n.spare < q + w) → IsHeld n (ends_after t ends k q w)
+    put_held wait less spares = record {
       agrees = agrees_added t n ends k q w held.agrees there is added wait less spares;
-      kept = said_kept k w b (state_of t ends) (state_of n (ends_after t ends k q w)) held.kept said_heard;
+      kept = said_kept k w true (state_of t ends) (state_of n (ends_after t ends k q w)) held.kept put_said;
       small = small;
     }
+
+-- what a speaker said, where the receiver is after it what it is to be
+pub said_from : (k w : ℕ) (heard : Bool) (old new : State) → k < length old.queues → heard ≡ hears_from old k w → new ≡ after old k w heard → Said k w heard old new
+said_from k w heard old new there decided is = record {
+  there = there;
+  setting = ap (λ (s : State). s.setting) is;
+  left = ap (λ (s : State). s.left) is;
+  decided = decided;
+  queues = ap (λ (s : State). s.queues) is;
+}

@@ -1,15 +1,15 @@
 -- What is so of a state is so of the next one.
-use Rattle.std.proofs.Common.{◌≡◌, ◌∙◌, refl, sym, ap, ap₂, subst, arith, ℕ, ◌+◌, ◌-◌, ◌*◌, ◌^◌, ◌<◌, ◌≤◌, ◌⊎◌, inl, inr, Bool, true, false, ◌&&◌, ◌||◌, nat_le, if◌then◌else◌, List, length, replicate, set, length-set}
+use Rattle.std.proofs.Common.{◌≡◌, ◌∙◌, refl, sym, ap, subst, arith, ℕ, ◌+◌, ◌*◌, ◌^◌, ◌<◌, ◌≤◌, ◌⊎◌, inl, inr, Bool, true, false, ◌&&◌, ◌||◌, nat_le, List, length, replicate, set, length-set}
 use Rattle.std.proofs.Math.Nat.{mul-le-mul}
-use Rattle.std.proofs.lemmas.Bool.{cases_Bool, or_cases, and_parts, leb-true}
+use Rattle.std.proofs.lemmas.Bool.{or_cases, and_parts, leb-true}
 use Rattle.ipx_fair.specs.declared.setting.Setting.{Setting}
 use Rattle.ipx_fair.specs.Numbers.{most_time, most_speakers}
-use Rattle.ipx_fair.specs.Queues.{total, waits, waiting, lowered, beyond}
+use Rattle.ipx_fair.specs.Queues.{total, waiting, beyond}
 use Rattle.ipx_fair.specs.States.{State, empty}
 use Rattle.ipx_fair.specs.Serving.{Passed}
-use Rattle.ipx_fair.specs.Hearing.{hears, queue_of, queues_after, Said}
+use Rattle.ipx_fair.specs.Hearing.{hears, queue_of, Said}
 use Rattle.ipx_fair.specs.Keeping.{IsKept}
-use Rattle.ipx_fair.proofs.Queues.{waits_is, waits_most, waiting_most, total-replicate, lowered-replicate, served_most, total_fewer, total-set, waiting-set, beyond-set}
+use Rattle.ipx_fair.proofs.Queues.{waits_is, waiting_most, total-replicate, lowered-replicate, served_most, total_fewer, total-set, waiting-set, beyond-set}
 use Rattle.ipx_fair.proofs.Served.{served_beyond, served_few_left, served_long}
 
 -- ---- the ways of being heard

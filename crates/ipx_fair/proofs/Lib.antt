@@ -7,3 +7,4 @@ pub mod Heard
 pub mod Made
 pub mod Running
 pub mod Parts
+pub mod examples

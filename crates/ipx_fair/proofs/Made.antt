@@ -1,15 +1,14 @@
 -- A receiver as it is made.
-use Rattle.std.proofs.Common.{◌≡◌, ◌∙◌, refl, sym, ap, arith, ℕ, ◌^◌, ◌<◌, ◌≤◌, Bool, true, false, ◌&&◌, nat_le, if◌then◌else◌, List, [], ◌∷◌, zero, suc, length, replicate}
-use Rattle.std.specs.List.{AllByRecursion}
+use Rattle.std.proofs.Common.{◌≡◌, ◌∙◌, sym, ap, arith, ℕ, true, ◌&&◌, nat_le, replicate}
 use Rattle.std.proofs.lemmas.Bool.{and_parts, leb-true}
 use Rattle.std.proofs.lemmas.List.{length-replicate}
 use Rattle.ipx_fair.specs.declared.setting.Setting.{Setting}
 use Rattle.ipx_fair.specs.declared.tally.Tally.{Tally}
 use Rattle.ipx_fair.specs.Numbers.{most_time, most_speakers, can_be}
-use Rattle.ipx_fair.specs.States.{State, empty}
-use Rattle.ipx_fair.specs.Queues.{total, waiting, lowered}
+use Rattle.ipx_fair.specs.States.{empty}
+use Rattle.ipx_fair.specs.Queues.{total, waiting}
 use Rattle.ipx_fair.specs.Tallies.{queues_of, state_of}
-use Rattle.ipx_fair.specs.inside.Held.{Agrees, IsSmall, IsHeld}
+use Rattle.ipx_fair.specs.inside.Held.{Agrees, IsHeld}
 use Rattle.ipx_fair.proofs.Queues.{total-replicate, waiting-replicate, lowered_none}
 use Rattle.ipx_fair.proofs.Kept.{kept_empty, state}
 use Rattle.ipx_fair.proofs.Counted.{spares_none, latest_zero}

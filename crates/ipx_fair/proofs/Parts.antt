@@ -1,9 +1,9 @@
 -- A speaker and his part of the time.
-use Rattle.std.proofs.Common.{◌≡◌, ◌≢◌, ◌∙◌, refl, sym, ap, subst, arith, ℕ, ◌+◌, ◌-◌, ◌*◌, ◌<◌, ◌≤◌, ◌⊎◌, inl, inr, Bool, true, false, ◌&&◌, ◌||◌, ◌==◌, nat_le, if◌then◌else◌, List, [], ◌∷◌, length, get_or, set, get_or-set_same, get_or-set_other}
+use Rattle.std.proofs.Common.{◌≡◌, ◌≢◌, ◌∙◌, refl, sym, ap, subst, arith, ℕ, ◌+◌, ◌-◌, ◌*◌, ◌<◌, ◌≤◌, ◌⊎◌, inl, inr, Bool, true, false, ◌&&◌, ◌==◌, if◌then◌else◌, List, [], ◌∷◌, get_or-set_same, get_or-set_other}
 use Rattle.std.proofs.Math.Nat.{mul-le-mul_left}
-use Rattle.std.proofs.lemmas.Bool.{cases_Bool, cases_lt, or_left, or_right, and_from, le-leb, eqb-true, eqb-false, eq-eqb, ne_eqb}
+use Rattle.std.proofs.lemmas.Bool.{cases_Bool, cases_lt, or_left, or_right, and_from, le-leb, eqb-true, eqb-false}
 use Rattle.ipx_fair.specs.declared.setting.Setting.{Setting}
-use Rattle.ipx_fair.specs.Queues.{total, waiting, beyond}
+use Rattle.ipx_fair.specs.Queues.{total, waiting}
 use Rattle.ipx_fair.specs.States.{State}
 use Rattle.ipx_fair.specs.Serving.{Passed}
 use Rattle.ipx_fair.specs.Hearing.{hears, queue_of, Said}

@@ -1,5 +1,5 @@
 -- What is in queues, before they are served and after it.
-use Rattle.std.proofs.Common.{◌≡◌, ◌∙◌, refl, sym, ap, ap₂, arith, ℕ, zero, suc, ◌+◌, ◌-◌, ◌*◌, ◌<◌, ◌≤◌, ◌⊎◌, inl, inr, List, [], ◌∷◌, length, map, replicate, set, get_or}
+use Rattle.std.proofs.Common.{◌≡◌, refl, ap₂, arith, ℕ, zero, suc, ◌+◌, ◌-◌, ◌*◌, ◌<◌, ◌≤◌, ◌⊎◌, inl, inr, List, [], ◌∷◌, length, replicate, set}
 use Rattle.std.proofs.lemmas.List.{length-map}
 use Rattle.ipx_fair.specs.Queues.{total, waits, waiting, lowered, beyond}
 use Rattle.ipx_fair.specs.Hearing.{queue_of}

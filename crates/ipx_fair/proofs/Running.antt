@@ -1,5 +1,5 @@
 -- Runs of events, from one state to another.
-use Rattle.std.proofs.Common.{◌≡◌, ◌∙◌, refl, sym, ap, subst, arith, ℕ, ◌+◌, ◌*◌, ◌<◌, ◌≤◌, ◌⊎◌, inl, inr, Bool, true, false, if◌then◌else◌, List, [], ◌∷◌, length, set}
+use Rattle.std.proofs.Common.{◌≡◌, ◌∙◌, sym, ap, subst, arith, ℕ, ◌+◌, ◌*◌, ◌<◌, ◌≤◌, ◌⊎◌, inl, inr, Bool, true, false, if◌then◌else◌, List, [], ◌∷◌, length}
 use Rattle.std.proofs.Math.Nat.{mul-le-mul_left}
 use Rattle.ipx_fair.specs.declared.setting.Setting.{Setting}
 use Rattle.ipx_fair.specs.Queues.{total, waiting}
@@ -8,7 +8,7 @@ use Rattle.ipx_fair.specs.Hearing.{queue_of, Said}
 use Rattle.ipx_fair.specs.Events.{Event, Time, Says, Step, Runs}
 use Rattle.ipx_fair.specs.Keeping.{IsKept}
 use Rattle.ipx_fair.specs.Laws.{Anything, AtMost, SomeWait, elapsed, given}
-use Rattle.ipx_fair.proofs.Queues.{waiting_most, waiting_least, none_waits, total-set}
+use Rattle.ipx_fair.proofs.Queues.{waiting_most, waiting_least, total-set}
 use Rattle.ipx_fair.proofs.Served.{served_within, served_exactly, served_less}
 use Rattle.ipx_fair.proofs.Kept.{said_kept, said_long, passed_kept, passed_long, total_most}
 

@@ -1,11 +1,11 @@
 -- What time does to queues.
-use Rattle.std.proofs.Common.{◌≡◌, ◌∙◌, refl, sym, ap, subst, arith, ℕ, zero, suc, ◌+◌, ◌-◌, ◌*◌, ◌<◌, ◌≤◌, ◌⊎◌, inl, inr, List, length, replicate}
+use Rattle.std.proofs.Common.{◌≡◌, ◌∙◌, sym, ap, arith, ℕ, ◌+◌, ◌-◌, ◌*◌, ◌<◌, ◌≤◌, ◌⊎◌, inl, inr, List, length, replicate}
 use Rattle.std.proofs.Math.Nat.{mul-le-mul_left}
 use Rattle.std.proofs.lemmas.Bool.{cases_order}
-use Rattle.ipx_fair.specs.Queues.{total, waits, waiting, lowered, beyond}
+use Rattle.ipx_fair.specs.Queues.{total, waiting, lowered, beyond}
 use Rattle.ipx_fair.specs.Hearing.{queue_of}
 use Rattle.ipx_fair.specs.Serving.{Served}
-use Rattle.ipx_fair.proofs.Queues.{waiting_least, none_waits, all_empty, length-lowered, lowered_twice, queue_of-le-total, queue_of-lowered, served_most, some_served, total_fewer, waiting_fewer, beyond_fewer}
+use Rattle.ipx_fair.proofs.Queues.{waiting_least, all_empty, length-lowered, lowered_twice, queue_of-le-total, queue_of-lowered, served_most, some_served, total_fewer, waiting_fewer, beyond_fewer}
 
 -- a queue has its part, where no more than n wait
 part : (n level q p w time left : ℕ) → w ≤ n → p ≡ q + level → time ≤ left + level * w → time + n * q ≤ left + n * p

@@ -1,5 +1,5 @@
 -- A meter is a receiver with one speaker.
-use Rattle.std.specs.Prelude.{ℕ, ◌+◌, Bool, ◌&&◌, nat_le, if◌then◌else◌, List, [], ◌∷◌}
+use Rattle.std.specs.Prelude.{ℕ, ◌+◌, Bool, nat_le, if◌then◌else◌, [], ◌∷◌}
 use Rattle.ipx_fair.specs.States.{State}
 use Rattle.ipx_fair.specs.declared.meter.Meter.{Meter}
 

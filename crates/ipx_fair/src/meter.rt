@@ -4,7 +4,22 @@ ghost use Rattle.ipx_fair.specs.Serving.{Passed};
 ghost use Rattle.ipx_fair.specs.Hearing.{Said};
 ghost use Rattle.ipx_fair.specs.Meters.{metered, lets, used_after};
 
-/// How much of a limit is used: a receiver with one speaker.
+/// How much of a limit is used: a receiver with one speaker, of whom `burst` may come at once.
+///
+/// ```
+/// let (burst, weight) = (3_000_000, 2_000_000);
+/// let mut meter = Meter::default();
+/// let first = meter.lets(burst, weight);
+/// let second = meter.lets(burst, weight);
+/// meter.pass(1_000_000);
+/// let third = meter.lets(burst, weight);
+/// println!(rt; "{first}, {second}, a millisecond later {third}")?;
+/// let mut other = Meter::default();
+/// let both = meter.both_let(burst, weight, &mut other, burst, weight);
+/// println!(rt; "both: {both}, so {} ns of the other are used", other.used)?;
+/// // prints true, false, a millisecond later true
+/// // prints both: false, so 0 ns of the other are used
+/// ```
 #[repr(C)]
 #[derive(Clone, Copy, Debug, Default, PartialEq, Eq)]
 pub struct Meter {

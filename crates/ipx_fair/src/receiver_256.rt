@@ -1,12 +1,12 @@
 //! A receiver that C can hold.
-ghost use Rattle.std.specs.Prelude.{◌≡◌, if◌then◌else◌};
+ghost use Rattle.std.specs.Prelude.{◌≡◌, ◌&&◌, if◌then◌else◌};
 ghost use Rattle.ipx_fair.specs.Numbers.{can_be};
 ghost use Rattle.ipx_fair.specs.States.{empty};
 ghost use Rattle.ipx_fair.specs.Serving.{Passed};
-ghost use Rattle.ipx_fair.specs.Hearing.{Said};
+ghost use Rattle.ipx_fair.specs.Hearing.{hears_from, after, Said};
 ghost use Rattle.ipx_fair.specs.Tallies.{receiver_of, zeros, no_setting};
 
-use crate::hearing::says;
+use crate::hearing::{has_room, put, says};
 use crate::serving::pass;
 use crate::setting::Setting;
 use crate::tally::Tally;
@@ -17,6 +17,16 @@ const SPEAKERS: usize = 256;
 
 /// A receiver of 256 speakers, each of whom is a byte, as it lies in memory that C owns. All bytes 0 are a receiver with a setting of
 /// zeros, for which nothing waits.
+///
+/// ```
+/// let mut receiver = Receiver256::zeros();
+/// let before = receiver.says(255, 1);
+/// let made = receiver.make(setting);
+/// let after = receiver.says(255, 1);
+/// println!(rt; "heard before: {before}; made: {made}; heard: {after}")?;
+/// receiver.pass(1);
+/// // prints heard before: false; made: true; heard: true
+/// ```
 #[repr(C)]
 #[derive(Debug, Drop)]
 pub struct Receiver256 {
@@ -82,5 +92,28 @@ impl Receiver256 {
             usize::from(speaker),
             weight,
         )
+    }
+
+    /// The same of a packet that two receivers must hear, such as one that counts packets and one that counts their bytes: it is heard if
+    /// both hear it, and is in the speaker's queue of both then. Otherwise it is in neither.
+    pub fn both_hear(
+        &mut self,
+        other: &mut Receiver256,
+        speaker: u8,
+        weight: u64,
+        other_weight: u64,
+    ) -> bool
+        ensures heard { result ≡ (hears_from (receiver_of self.old) speaker weight && hears_from (receiver_of other.old) speaker other_weight) }
+        ensures queue { receiver_of self.new ≡ after (receiver_of self.old) speaker weight result }
+        ensures other_queue { receiver_of other.new ≡ after (receiver_of other.old) speaker other_weight result }
+    {
+        let speaker = usize::from(speaker);
+        let heard = has_room(&self.tally, &self.ends, speaker, weight)
+            && has_room(&other.tally, &other.ends, speaker, other_weight);
+        if heard {
+            put(&mut self.tally, &mut self.ends, speaker, weight);
+            put(&mut other.tally, &mut other.ends, speaker, other_weight);
+        }
+        heard
     }
 }

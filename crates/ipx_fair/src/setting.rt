@@ -7,16 +7,7 @@ const MOST_SPEAKERS: usize = 1 << 16;
 
 /// How much may wait for a receiver, in nanoseconds that it needs for what waits. Each is at most [`Setting::MOST_TIME`].
 ///
-/// ```
-/// let setting = Setting {
-///     one: 2_000_000,
-///     own: 10_000_000,
-///     reserve: 100_000_000,
-///     room: 150_000_000,
-/// };
-/// println!(rt; "one packet of {} ns is always heard", setting.one)?;
-/// // prints one packet of 2000000 ns is always heard
-/// ```
+/// See the example of [`Receiver`](crate::Receiver).
 #[repr(C)]
 #[derive(Clone, Copy, Debug, Default, PartialEq, Eq)]
 pub struct Setting {

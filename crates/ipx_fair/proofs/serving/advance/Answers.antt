@@ -1,4 +1,4 @@
-use Rattle.std.proofs.Common.{◌≡◌, ap, arith, ℕ, ◌+◌, ◌≤◌}
+use Rattle.std.proofs.Common.{ap, arith, ◌+◌}
 use Rattle.ipx_fair.specs.declared.tally.Tally.{Tally}
 use Rattle.ipx_fair.proofs.Agreed.{agrees_emptied, served_all}
 use Rattle.ipx_fair.proofs.Heard.{held_total}

@@ -1,4 +1,4 @@
-use Rattle.std.proofs.Common.{◌≡◌, ◌-◌, ℕ, map, take, drop}
+use Rattle.std.proofs.Common.{◌≡◌, take, drop}
 use Rattle.ipx_fair.specs.Queues.{lowered}
 use Rattle.ipx_fair.proofs.serving.begin_anew.Given as goal
 

@@ -1,4 +1,4 @@
-use Rattle.std.proofs.Common.{◌≡◌, ◌∙◌, ap, subst, arith, ℕ, ◌-◌, ◌≤◌, length}
+use Rattle.std.proofs.Common.{◌≡◌, ◌∙◌, ap, subst, arith, ◌-◌, length}
 use Rattle.ipx_fair.specs.declared.tally.Tally.{Tally}
 use Rattle.ipx_fair.specs.Serving.{Passed}
 use Rattle.ipx_fair.specs.Tallies.{state_of}

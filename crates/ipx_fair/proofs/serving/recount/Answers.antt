@@ -1,4 +1,4 @@
-use Rattle.std.proofs.Common.{◌≡◌, ◌∙◌, refl, sym, ap, ap₂, subst, arith, ℕ, ◌+◌, ◌-◌, ◌<◌, ◌≤◌, inl, inr, List, [], ◌∷◌, ◌++◌, length, get_or, take}
+use Rattle.std.proofs.Common.{◌≡◌, ◌∙◌, sym, ap, subst, arith, ◌+◌, ◌-◌, ◌<◌, inl, inr, length, get_or, take}
 use Rattle.ipx_fair.specs.Queues.{waits, waiting, lowered}
 use Rattle.ipx_fair.specs.inside.Held.{Spares}
 use Rattle.ipx_fair.proofs.Queues.{waits_some}

@@ -1,4 +1,4 @@
-use Rattle.std.proofs.Common.{◌≡◌, ◌∙◌, refl, sym, ap, arith, ℕ, ◌+◌, ◌-◌, ◌*◌, ◌/◌, ◌<◌, ◌≤◌}
+use Rattle.std.proofs.Common.{◌≡◌, ◌∙◌, refl, ap, arith, ℕ, ◌+◌, ◌-◌, ◌*◌, ◌/◌, ◌<◌, ◌≤◌}
 use Rattle.std.proofs.Math.Nat.{mul-le-mul_right, div-mul-le_self, le-mul_of_pos_right}
 use Rattle.ipx_fair.specs.declared.tally.Tally.{Tally}
 use Rattle.ipx_fair.proofs.Agreed.{tally_waits, agrees_lowered, agrees_recounted, served_between}

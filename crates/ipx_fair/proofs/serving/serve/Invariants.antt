@@ -1,6 +1,4 @@
 use Rattle.std.proofs.Common.{◌≡◌, ◌+◌, ◌/◌, ◌<◌, ◌≤◌}
-use Rattle.ipx_fair.specs.Queues.{total}
-use Rattle.ipx_fair.specs.Tallies.{queues_of}
 use Rattle.ipx_fair.specs.inside.Held.{Agrees}
 use Rattle.ipx_fair.proofs.serving.serve.Given as goal
 

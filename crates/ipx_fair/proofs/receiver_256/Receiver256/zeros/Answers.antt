@@ -1,5 +1,4 @@
 use Rattle.std.proofs.Common.{rules, ◌≡◌, ◌∙◌, sym, ap, subst, refl, replicate}
-use Rattle.ipx_fair.specs.declared.setting.Setting.{Setting}
 use Rattle.ipx_fair.specs.declared.tally.Tally.{Tally}
 use Rattle.ipx_fair.specs.Tallies.{no_setting}
 use Rattle.ipx_fair.specs.inside.Held.{IsHeld}
