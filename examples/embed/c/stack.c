@@ -8,6 +8,7 @@
 #include <stdlib.h>
 #include <string.h>
 
+#include "ipxr_fair.h"
 #include "ipxr_segment.h"
 #include "ipxr_tunnel.h"
 #include "packets.h"
@@ -24,6 +25,7 @@ static const uint32_t FAR = 0x10000;
 static ipxr router;
 static ipxr_tunnel tunnel;
 static ipxr_segment segment;
+static ipxr_fair fair;
 static ipxr_sender sender;
 static unsigned char *stack;
 static uint8_t packet[LONGEST];
@@ -161,6 +163,25 @@ static void read_segment(void)
     ipxr_segment_link(&segment, 0, &values);
     ipxr_segment_next_node(&segment, &to, node);
 }
+
+/* ---- A receiver ---- */
+
+static void make_receiver(void)
+{
+    const ipxr_fair_setting setting = {1, IPXR_SPEAKERS, IPXR_SPEAKERS * IPXR_SPEAKERS, 1};
+    answer = ipxr_fair_make(&fair, &setting) ? 0 : -1;
+}
+
+/* All speak, each more than the one before. */
+static void say_all(void)
+{
+    for (unsigned k = 0; k < IPXR_SPEAKERS; k++)
+        if (!ipxr_fair_says(&fair, (uint8_t)k, k + 1))
+            answer = -1;
+}
+
+/* So long that all queues but one run empty, one after the other. */
+static void serve_all(void) { ipxr_fair_pass(&fair, fair.total - 1); }
 
 /* Whatever reads the router, and the packets that it sends. */
 static void read(void)
@@ -386,6 +407,13 @@ static void play_segment(void)
     measure("a segment is freed", empty_segment, MOST);
 }
 
+static void play_receiver(void)
+{
+    measure("a receiver is made", make_receiver, MOST);
+    measure("all speak to it", say_all, MOST);
+    measure("all that they said is served", serve_all, MOST);
+}
+
 int main(int count, char **words)
 {
     in_figures = count > 1 && strcmp(words[1], "figures") == 0;
@@ -402,6 +430,7 @@ int main(int count, char **words)
     measure("a router is freed", empty, MOST);
     play_tunnel();
     play_segment();
+    play_receiver();
     free(stack);
     printf("faults: %d\n", faults);
     return 0;
