@@ -52,8 +52,8 @@ typedef struct network {
     asks asks;           /* when pings are repeated that aren't answered; */
     outgoing outgoing;   /* what waits to be sent to clients */
     speaker speaks;      /* all who are there, where it isn't one; */
-    fair queues;         /* and what its link receives of each client who speaks: */
-    fair *of_link;       /* the first network on the link has that for all */
+    receiver queues;     /* and what its link receives of each client who speaks: */
+    receiver *of_link;   /* the first network on the link has that for all */
     ipxr_segment *segment; /* of its network's links, where it is one of several; */
     uint8_t link;          /* and its number there */
     loop loop;             /* whether it is one cable with another of them */

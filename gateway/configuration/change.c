@@ -196,7 +196,7 @@ static void change_tunnel(gateway *it, size_t number, changed *what)
     if (was_tunnel && is_elsewhere(was->set, on->set))
         tunnel_end(on);
     throttle_set(&on->throttle, on->set); /* (what may be advertised at once follows the shares) */
-    memset(&on->queues, 0, sizeof on->queues); /* (they are as long as packets took by the limits until now) */
+    receiver_set(&on->queues, &on->throttle.received); /* (by the same limits what waits stays) */
     if (is_tunnel && was_tunnel)
         what->clients += !has_same_clients(was->set, on->set);
     else if (was != NULL && !is_tunnel && !was_tunnel)

@@ -3,7 +3,7 @@
 #ifndef ACCOUNT_H
 #define ACCOUNT_H
 
-#include "limits/limit.h"
+#include "limits/meter.h"
 
 typedef struct account {
     limit of; /* nothing, as long as nobody used it */

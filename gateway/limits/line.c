@@ -32,13 +32,13 @@ enum { SHORT = 200, QUIET = 10, MOST_PARTS = 4096, PART_OF_OWN = 10 };
 
 static struct {
     uint32_t kilobits;
-    meter used;
-    meter to_strangers;         /* of their part */
+    line_meter used;
+    line_meter to_strangers;    /* of their part */
     size_t addresses;           /* that have clients there */
     size_t speakers;            /* addresses that spoke to these lately, with clients there or elsewhere, */
     numbers numbers;            /* and their numbers */
     size_t number;              /* of who says the packet whose copies are sent, */
-    meter *said;                /* and what he uses of his part, or NULL; */
+    line_meter *said;           /* and what he uses of his part, or NULL; */
     uint64_t most_said;         /* of it at once; */
     uint64_t cost;              /* nanoseconds that the line takes for a copy, */
     uint64_t cost_of_short;     /* for one of a short packet, */
@@ -60,6 +60,25 @@ void line_set(const settings *set)
         return;
     the.longest = cost_of(LONGEST + HEADERS);
     the.cost_of_short = cost_of(SHORT);
+}
+
+/* ---- What is used ---- */
+
+/* Nanoseconds that it is ahead of the clock; moves it so many forward; and takes it back where it is further ahead than so many. */
+static uint64_t ahead(const line_meter *used)
+{
+    return *used > limit_clock() ? *used - limit_clock() : 0;
+}
+
+static void move(line_meter *used, uint64_t nanoseconds)
+{
+    *used = limit_clock() + ahead(used) + nanoseconds;
+}
+
+static void hold(line_meter *used, uint64_t most)
+{
+    if (ahead(used) > most)
+        *used = limit_clock() + most;
 }
 
 /* ---- Addresses ---- */
@@ -123,10 +142,10 @@ static uint64_t pairs(const line_use *to)
 
 /* Whether one is within a part of the line, one in so many. (whoever sent a packet while the parts were smaller owes no more for it than
  * one of the longest takes now) */
-static bool is_within(meter *used, uint64_t in_so_many, uint64_t most)
+static bool is_within(line_meter *used, uint64_t in_so_many, uint64_t most)
 {
-    limit_hold(used, most + in_so_many * the.longest);
-    return limit_ahead(used) <= most;
+    hold(used, most + in_so_many * the.longest);
+    return ahead(used) <= most;
 }
 
 /* Whether an address is within its part of the line. */
@@ -157,7 +176,7 @@ static uint64_t most_to(const line_use *to)
  * no part of what is kept for that) */
 static bool says_little(uint64_t most)
 {
-    return the.said != NULL && limit_ahead(the.said) <= most;
+    return the.said != NULL && ahead(the.said) <= most;
 }
 
 /* Whether he is within his part of that of an address. Or he says so little to all that it doesn't matter to whom. That is half of what he
@@ -180,7 +199,7 @@ void line_begin(line_use *from, size_t length)
     the.most_said = most_said();
     if (is_address) {
         from->quiet = 0;
-        limit_hold(the.said, the.most_said + speakers() * the.longest);
+        hold(the.said, the.most_said + speakers() * the.longest);
     }
     the.cost = cost_of(length + HEADERS);
 }
@@ -190,14 +209,14 @@ bool line_has_room(line_use *to)
     uint64_t most = has_part(to) ? MOST_WITHIN : MOST_BEYOND;
     if (has_his_part(to))
         most = says_little(the.most_said) ? MOST_OF_LITTLE : MOST_WITHIN_HIS;
-    return limit_ahead(&the.used) <= most;
+    return ahead(&the.used) <= most;
 }
 
 /* Moves what is used of the line. (a second is more than waits there) */
 static void use(uint64_t cost)
 {
-    limit_move(&the.used, cost);
-    limit_hold(&the.used, SECOND_NS);
+    move(&the.used, cost);
+    hold(&the.used, SECOND_NS);
 }
 
 /* (what goes beyond a part takes nothing of it) */
@@ -206,11 +225,11 @@ void line_send(line_use *to)
     bool is_his = has_his_part(to), is_received = has_part(to) || is_his;
     use(the.cost);
     if (is_his && says_little(the.most_said))
-        limit_move(the.said, the.cost * speakers());
+        move(the.said, the.cost * speakers());
     if (is_his)
-        limit_move(&to->of[the.number], the.cost * pairs(to));
+        move(&to->of[the.number], the.cost * pairs(to));
     if (is_received)
-        limit_move(&to->received, the.cost * receivers());
+        move(&to->received, the.cost * receivers());
 }
 
 void line_send_own(size_t length)
@@ -220,13 +239,13 @@ void line_send_own(size_t length)
 
 bool line_lets_strangers(void)
 {
-    return is_within(&the.to_strangers, PART_OF_OWN, MOST_OF_ONE) && limit_ahead(&the.used) <= MOST_OF_LITTLE;
+    return is_within(&the.to_strangers, PART_OF_OWN, MOST_OF_ONE) && ahead(&the.used) <= MOST_OF_LITTLE;
 }
 
 void line_send_to_stranger(size_t length)
 {
     line_send_own(length);
-    limit_move(&the.to_strangers, cost_of(length + HEADERS) * PART_OF_OWN);
+    move(&the.to_strangers, cost_of(length + HEADERS) * PART_OF_OWN);
 }
 
 uint64_t line_between_pings(size_t length)

@@ -11,10 +11,14 @@
 #include <stdint.h>
 
 #include "configuration/settings.h"
-#include "limits/limit.h"
+#include "limits/meter.h"
 
 /* So many who speak are told apart; of more some are one. The first stands for the router and for networks of other kinds. */
 enum { MOST_APART = 64 };
+
+/* Nanoseconds of the clock up to which what went out uses a part of the line; 0 where nothing did. (unlike a meter it counts what is beyond
+ * the part, too) */
+typedef uint64_t line_meter;
 
 /* What an address uses of the line. */
 typedef struct line_use {
@@ -22,9 +26,9 @@ typedef struct line_use {
     size_t clients;        /* that it has there */
     size_t number;         /* by which it is known while it speaks, or 0; */
     unsigned quiet;        /* and seconds since it did */
-    meter said;            /* of its part, by what it says to all together */
-    meter received;        /* of its part, by what it gets */
-    meter of[MOST_APART];  /* of the parts of those who speak to it */
+    line_meter said;       /* of its part, by what it says to all together */
+    line_meter received;   /* of its part, by what it gets */
+    line_meter of[MOST_APART]; /* of the parts of those who speak to it */
 } line_use;
 
 /* The line that a configuration names, if it names one. */

@@ -102,7 +102,7 @@ static void forget(speaker *it)
     forget_household(&it->first);
     account_forget(&it->handed);
     account_forget(&it->advertised);
-    it->asked = it->answered = 0;
+    it->asked = it->answered = (meter){.clock = 0};
 }
 
 void speaker_leave(speaker *it)

@@ -7,9 +7,8 @@
 #include <stdint.h>
 
 #include "limits/account.h"
-#include "limits/fair.h"
-#include "limits/limit.h"
 #include "limits/line.h"
+#include "limits/meter.h"
 
 /* The numbers of the queues by which clients receive: what the router says itself, answers to pings, and what comes from networks of
  * another kind; all behind these are of addresses that speak. Where more speak than there are numbers, some have the same one. */
@@ -18,7 +17,8 @@ enum { OF_ROUTER, OF_PINGS, OF_NETWORKS, OF_ADDRESSES = 16 };
 /* What all clients of an address receive on networks with one limit for that. */
 typedef struct household {
     uint64_t between; /* nanoseconds that a packet takes there; 0 where nobody has received any */
-    fair received;    /* of each other who speaks to them; */
+    ipxr_fair received; /* of each other who speaks to them, */
+    uint64_t clock;     /* when that was looked at last; */
     meter among;      /* and of each other */
     struct household *next;
 } household;

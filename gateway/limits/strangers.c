@@ -51,8 +51,7 @@ bool strangers_let(strangers *it, const uint8_t place[6], uint32_t count)
 {
     if (it->has_no_limit)
         return true;
-    meter *host = of_host(it, place);
-    return limit_has_room(&it->one, host, count) && limit_lets(&it->all, &it->sent, count) && limit_lets(&it->one, host, count);
+    return limits_let(&it->one, of_host(it, place), &it->all, &it->sent, count);
 }
 
 /* Whether the place of a ping waits already, or as many of its address do as may. */

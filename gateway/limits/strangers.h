@@ -4,7 +4,7 @@
 #define STRANGERS_H
 
 #include "ipxr_tunnel.h"
-#include "limits/limit.h"
+#include "limits/meter.h"
 #include "siphash.h"
 #include "tunnel/roster.h"
 

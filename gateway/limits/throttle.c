@@ -8,14 +8,14 @@
 enum { BURST = 64 };
 
 /* Shares that a client receives a second beyond its rate. Shares, and packets at least, for which it has room at once; and more, which are
- * kept for those who have less than their part of it. */
-enum { SHARES = 2, SHARES_AT_ONCE = 3, LEAST_AT_ONCE = 150, SHARES_KEPT = 2, LEAST_KEPT = 100 };
+ * kept for those who have little there. */
+enum { SHARES = 2, SHARES_AT_ONCE = 4, LEAST_AT_ONCE = 200, SHARES_KEPT = 1, LEAST_KEPT = 50 };
 
 /* What a packet takes of the room that a system keeps for a program which hasn't read it, 208 KB on Linux, is counted by the piece: the
- * longest of DOSBox' takes so many. At once there is room for so many of these, of which one who speaks alone has two thirds, and more are
- * kept. By a virtual card Linux takes 768 bytes for a short packet, 1,280 for one of more than some 110 bytes, and 2,304 for one of more
- * than some 600; a real card's driver may take more. */
-enum { LONGEST_PIECES = 89, LONGEST_AT_ONCE = 48, LONGEST_KEPT = 16 };
+ * longest of DOSBox' takes so many. At once there is room for so many of these, of which one who speaks alone has half. By a virtual card
+ * Linux takes 768 bytes for a short packet, 1,280 for one of more than some 110 bytes, and 2,304 for one of more than some 600; a real
+ * card's driver may take more. */
+enum { LONGEST_PIECES = 89, LONGEST_AT_ONCE = 64 };
 enum { MIDDLE = 110, MIDDLE_PIECES = 37, LONG = 600, SHORT_PIECES = 22 };
 
 /* Pings of a client, and of all together, and questions to the router: a second, and at once. */
@@ -29,9 +29,9 @@ enum { LINK_QUESTIONS = 20, LINK_QUESTIONS_AT_ONCE = 80 };
 enum { ADVERTISEMENTS = 4, ADVERTISEMENTS_AT_ONCE = 32, LINK_ADVERTISEMENTS = 100, LINK_ADVERTISEMENTS_AT_ONCE = 400 };
 enum { ROUTES_IN_PACKET = 50, SERVICES_IN_PACKET = 7 };
 
-/* So many times a second, and no fewer, what an address' limit is at once of one who speaks alone. There is half as much room again for all
- * together, and half of it is kept. */
-enum { HOUSEHOLD_PART = 8, HOUSEHOLD_AT_ONCE = 2 * (LEAST_AT_ONCE + LEAST_KEPT), HALVES = 3 };
+/* So many times a second, and no fewer, what an address' limit is at once of one who speaks alone. There is twice as much room for all
+ * together, and half of it more is kept. */
+enum { HOUSEHOLD_PART = 8, HOUSEHOLD_AT_ONCE = 2 * (LEAST_AT_ONCE + LEAST_KEPT), HALVES = 4 };
 
 /* Answers to pings may use so much of the burst that an address hands to the router. Answers of the gateway to what a client says to it. */
 enum { BURST_WITH_PINGS = BURST / 2, ANSWERS = 2, ANSWERS_AT_ONCE = 8 };
@@ -87,19 +87,20 @@ static uint32_t pieces(size_t length)
 static void set_household(throttle *it, uint32_t household)
 {
     uint32_t half = most(household / HOUSEHOLD_PART, HOUSEHOLD_AT_ONCE) / 2;
-    fair_room packets = {HALVES * half, half};
     it->has_household = household > 0;
     if (!it->has_household)
         return;
-    it->household = fair_limit_of(household, packets, packets, 1);
+    it->household_between = SECOND_NS / household;
+    it->household = setting_of(it->household_between, (room){HALVES * half, half}, 1);
     it->among_household = limit_of(household, 1, 2 * half);
 }
 
-/* The limit of what a client receives. */
-static fair_limit received_of(uint32_t rate, uint32_t share)
+/* How a client reads, or a link with frames, on which a packet may go out in each kind of frames. */
+static reading received_of(const network_setting *set)
 {
-    fair_room packets = {most(SHARES_AT_ONCE * share, LEAST_AT_ONCE), most(SHARES_KEPT * share, LEAST_KEPT)};
-    return fair_limit_of(rate + SHARES * share, packets, (fair_room){LONGEST_AT_ONCE, LONGEST_KEPT}, LONGEST_PIECES);
+    uint32_t share = set->share, frames = set->type == LINK_DOSBOX ? 1 : IPXR_FRAME_KINDS;
+    room packets = {most(SHARES_AT_ONCE * share, LEAST_AT_ONCE), most(SHARES_KEPT * share, LEAST_KEPT)};
+    return reading_of(set->rate + SHARES * share, packets, (room){LONGEST_AT_ONCE, 0}, LONGEST_PIECES, frames);
 }
 
 void throttle_set(throttle *it, const network_setting *set)
@@ -110,7 +111,7 @@ void throttle_set(throttle *it, const network_setting *set)
     if (it->is_off)
         return;
     it->advertisements = advertisements_of(set);
-    it->received = received_of(rate, set->share);
+    it->received = received_of(set);
     for (uint32_t k = 0; k < HOUSEHOLD; k++) {
         it->all_questions[k] = limit_of(QUESTIONS * (k + 1), 1, QUESTIONS_AT_ONCE * (k + 1));
         it->all_answers[k] = limit_of(ANSWERS * (k + 1), 1, ANSWERS_AT_ONCE * (k + 1));
@@ -174,16 +175,10 @@ size_t throttle_queue(speaker *from, const uint8_t *packet)
 
 /* ---- What clients say ---- */
 
-/* Whether something may pass by two limits, of a client and of its address; it is counted by both then. */
-static bool both_let(const limit *one, meter *of_one, const limit *all, meter *of_all)
-{
-    return limit_has_room(one, of_one, 1) && limit_lets(all, of_all, 1) && limit_lets(one, of_one, 1);
-}
-
 /* Whether a client may ping all others now, and all together may. */
 static bool lets_ping(throttle *it, member *from)
 {
-    return both_let(&it->pings, &from->pinged, &it->all_pings, &it->pinged);
+    return limits_let(&it->pings, &from->pinged, &it->all_pings, &it->pinged, 1);
 }
 
 reason throttle_lets_say(throttle *it, member *from, const uint8_t *packet)
@@ -197,13 +192,13 @@ reason throttle_lets_say(throttle *it, member *from, const uint8_t *packet)
 /* Whether a client may ask the router now, and its address may. */
 static bool lets_ask(throttle *it, member *from)
 {
-    return both_let(&it->questions, &from->asked, of_household(it->all_questions, from->speaks), &from->speaks->asked);
+    return limits_let(&it->questions, &from->asked, of_household(it->all_questions, from->speaks), &from->speaks->asked, 1);
 }
 
 bool throttle_lets_answer(throttle *it, member *to)
 {
     const limit *of_all = of_household(it->all_answers, to->speaks);
-    bool lets = it->is_off || both_let(&it->answers, &to->answered, of_all, &to->speaks->answered);
+    bool lets = it->is_off || limits_let(&it->answers, &to->answered, of_all, &to->speaks->answered, 1);
     to->dropped[DROPPED_ANSWERS] += !lets;
     return lets;
 }
@@ -211,11 +206,7 @@ bool throttle_lets_answer(throttle *it, member *to)
 /* Whether an address may hand the router a packet now. (others make clients answer pings, and take none of what these say for that) */
 static bool lets_hand(throttle *it, speaker *from, const uint8_t *packet)
 {
-    meter *used = account_of(&from->handed, &it->handed);
-    bool lets = limit_has_room(is_of_pings(packet) ? &it->handed_with_pings : &it->handed, used, 1);
-    if (lets)
-        limit_count(&it->handed, used, 1);
-    return lets;
+    return limit_lets(is_of_pings(packet) ? &it->handed_with_pings : &it->handed, account_of(&from->handed, &it->handed), 1);
 }
 
 /* Whether an address, or a network of another kind, may tell the router what it advertises. */
@@ -250,40 +241,35 @@ static bool household_receives(const throttle *it, member *to, size_t queue)
 {
     if (!it->has_household || to->is_trusted)
         return true;
-    household *all = speaker_household(to->speaks, it->household.between);
+    household *all = speaker_household(to->speaks, it->household_between);
     if (queue >= OF_ADDRESSES && queue == to->speaks->queue)
         return limit_lets(&it->among_household, &all->among, 1);
-    bool has_room = fair_has_room(&it->household, &all->received, queue, 1);
-    if (has_room)
-        fair_add(&it->household, &all->received, queue, 1, 1);
-    return has_room;
+    fair_set(&all->received, &it->household);
+    ipxr_fair_look(&all->received, &all->clock, limit_clock());
+    return ipxr_fair_says(&all->received, (uint8_t)queue, it->household_between);
 }
 
 reason throttle_receives(const throttle *it, member *to, size_t queue, size_t length)
 {
     if (it->is_off || to == NULL)
         return REASONS;
-    uint32_t count = pieces(length);
-    bool has_room = fair_has_room(&it->received, to->queues, queue, count);
-    if (!has_room && queue != OF_ROUTER)
+    receiver_set(to->queues, &it->received);
+    if (!receiver_hears(to->queues, &it->received, queue, pieces(length), 1) && queue != OF_ROUTER)
         return TOO_MUCH_FOR_CLIENT;
     /* (what its address has no room for counts too: else the queue of who floods would be empty each time) */
-    if (has_room)
-        fair_add(&it->received, to->queues, queue, count, 1);
     return household_receives(it, to, queue) ? REASONS : TOO_MUCH_FOR_ADDRESS;
 }
 
 /* (networks of another kind have no clients. A packet goes out in all of its frames or in none, so nobody hears less for the kind that he
- * uses: where its queue has room for the first, those behind it are owed, and the queue has room again once they are served) */
-reason throttle_carries(const throttle *it, fair *queues, const origin *by, const uint8_t *packet, size_t length, uint32_t frames)
+ * uses. Of several networks on a link the first says how that reads) */
+reason throttle_carries(const throttle *it, receiver *queues, const origin *by, const uint8_t *packet, size_t length, uint32_t frames)
 {
     if (it->is_off || by == NULL || by->speaks->clients == 0)
         return REASONS;
     size_t queue = throttle_queue(by->speaks, packet);
-    if (fair_has_room(&it->received, queues, queue, pieces(length))) {
-        fair_add(&it->received, queues, queue, pieces(length), frames);
+    receiver_begin(queues, &it->received);
+    if (receiver_hears(queues, &it->received, queue, pieces(length), frames))
         return REASONS;
-    }
     if (by->copies != NULL)
         ++*by->copies;
     return TOO_MUCH_FOR_LINK;

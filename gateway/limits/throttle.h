@@ -12,7 +12,8 @@
 #include <stddef.h>
 
 #include "configuration/settings.h"
-#include "limits/limit.h"
+#include "limits/meter.h"
+#include "limits/receiver.h"
 #include "monitoring/counts.h"
 #include "tunnel/roster.h"
 
@@ -21,9 +22,10 @@ enum { HOUSEHOLD = 4 };
 
 typedef struct throttle {
     bool is_off;
-    fair_limit received;  /* by a client, of all who speak to it; by a link with frames, of clients */
+    reading received;     /* by a client, of all who speak to it; by a link with frames, of clients */
     bool has_household;
-    fair_limit household; /* by an address, of all its clients on any network, of all others who speak to these; */
+    uint64_t household_between;  /* nanoseconds that a packet takes of what all clients of an address on any network receive; */
+    ipxr_fair_setting household; /* by the address, of all others who speak to these; */
     limit among_household; /* and of each other */
     limit handed;    /* by an address, to the router */
     limit handed_with_pings; /* beyond which no answers to pings are, by the same meter */
@@ -58,7 +60,7 @@ reason throttle_receives(const throttle *it, member *to, size_t queue, size_t le
 
 /* Why a link with frames, which has some queues, doesn't get a packet of so many bytes, in so many frames; REASONS where it does. Only what
  * clients say is limited there. */
-reason throttle_carries(const throttle *it, fair *queues, const origin *by, const uint8_t *packet, size_t length, uint32_t frames);
+reason throttle_carries(const throttle *it, receiver *queues, const origin *by, const uint8_t *packet, size_t length, uint32_t frames);
 
 /* Why the router doesn't hear a packet that came in a frame; REASONS where it does. (what it hears of other routers it says to all other
  * networks at once, and what it is asked it answers at length) */

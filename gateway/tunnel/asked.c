@@ -1,6 +1,6 @@
 #include "tunnel/asked.h"
 
-#include "limits/limit.h"
+#include "limits/meter.h"
 #include "systems/clock.h"
 
 /* Milliseconds from one ping to the next of a client that doesn't answer: some, and at random up to so many more. */

@@ -3,7 +3,7 @@
 #include <stdlib.h>
 #include <string.h>
 
-#include "limits/limit.h"
+#include "limits/meter.h"
 #include "systems/clock.h"
 
 /* Seconds in which all go that wait. The library asks a client again after five. */

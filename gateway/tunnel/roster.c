@@ -49,7 +49,7 @@ void roster_add(roster *it, const uint8_t place[6], bool is_trusted, bool is_by_
     if (it->count == it->room)
         return;
     member *added = &it->list[it->count++];
-    fair *queues = added->queues;
+    receiver *queues = added->queues;
     memset(added, 0, sizeof *added);
     memset(queues, 0, sizeof *queues);
     added->queues = queues;
@@ -67,7 +67,7 @@ void roster_remove(roster *it, const uint8_t place[6])
     if (gone == NULL)
         return;
     leave(gone);
-    fair *queues = gone->queues;
+    receiver *queues = gone->queues;
     it->count--;
     memmove(gone, gone + 1, (size_t)(it->list + it->count - gone) * sizeof *gone);
     it->list[it->count].queues = queues;

@@ -6,8 +6,8 @@
 #include <stddef.h>
 #include <stdint.h>
 
-#include "limits/fair.h"
-#include "limits/limit.h"
+#include "limits/meter.h"
+#include "limits/receiver.h"
 #include "limits/speaker.h"
 #include "tunnel/asked.h"
 
@@ -30,14 +30,14 @@ typedef struct member {
     speaker *speaks;  /* its address */
     bool is_trusted;  /* whether that needn't answer pings */
     bool is_by_line;  /* whether it is reached by the narrow line */
-    fair *queues;     /* what it receives of each who speaks to it */
+    receiver *queues; /* what it receives of each who speaks to it */
     asked ping;       /* the last that it was sent */
     meter pinged, asked, answered;
 } member;
 
 typedef struct roster {
     member *list; /* in the order in which they came; behind them those have queues, too, for whom there is room */
-    fair *queues; /* of all */
+    receiver *queues; /* of all */
     size_t count;
     size_t room;
     size_t next; /* behind the one that was found last */

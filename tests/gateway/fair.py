@@ -17,7 +17,7 @@ from trying import begin, figures, named, tried, tried_on_own_system
 LASTS, WHOLE = 2, 0.95  # seconds by that clock, and the least of a part that somebody has of it
 STEP = 0.05  # seconds from one look at the clock to the next
 CLIENTS_AT_ONCE = 8  # that speak until the gateway has heard them
-KEPT = 2 * SHARE  # packets at once, of those that a client receives, for who has less than his part of these
+KEPT = SHARE  # packets at once, of those that a client receives, for who has little there
 LONGEST_AT_ONCE, ALL_LONG_AT_ONCE = 32, 64  # of the longest packets that a client receives of one who speaks alone, and of all
 WORDS = 20  # packets at once of one who speaks beside another
 ALONE = 100  # short packets at once of one who speaks alone
@@ -94,7 +94,7 @@ def no_more_than_it_reads():
     hears pings too; of each address it is given its part of what is kept."""
     with Playground(TWO, numbers=(0, 0, 0), more=7, clock=Clock()) as it:
         listener, *others = come(it, [it.free[0], *it.free[1:] * HOUSEHOLD], [GATEWAY[1]] * (1 + 6 * HOUSEHOLD))
-        for passed, part, least, most in (0, KEPT // 8, AT_ONCE - KEPT, AT_ONCE), (0.1, 0, 0, AT_ONCE + RECEIVED // 10):
+        for passed, part, least, most in (0, KEPT // 8, AT_ONCE - 2 * KEPT, AT_ONCE), (0.1, 0, 0, AT_ONCE + RECEIVED // 10):
             it.let_pass(passed)
             for player in others:
                 say_up_to(player, player.said + SHARE)

@@ -43,7 +43,7 @@ static network_setting usual(link_type type)
 /* A client at an address of its own, which receives. */
 static member client_at(uint8_t last)
 {
-    return (member){.speaks = speaker_join((uint8_t[4]){10, 1, 0, last}), .queues = calloc(1, sizeof(fair))};
+    return (member){.speaks = speaker_join((uint8_t[4]){10, 1, 0, last}), .queues = calloc(1, sizeof(receiver))};
 }
 
 /* A packet for all, from a socket of a game. */
@@ -73,7 +73,7 @@ static void pass_millisecond(uint64_t at)
 
 typedef struct wire {
     throttle limits;
-    fair *queues;
+    receiver *queues;
     uint32_t frames;
     uint64_t said[PLAYERS + 1], heard[PLAYERS + 1];
 } wire;
@@ -111,7 +111,7 @@ static void play(wire *it, uint64_t rate, uint64_t lasts)
 static void link_with(uint32_t frames, uint64_t rate)
 {
     network_setting set = usual(LINK_INTERFACE);
-    wire it = {.frames = frames, .queues = calloc(1, sizeof(fair))};
+    wire it = {.frames = frames, .queues = calloc(1, sizeof(receiver))};
     join(PLAYERS + 1);
     throttle_set(&it.limits, &set);
     for (int k = 0; k < 10; k++)
@@ -172,16 +172,27 @@ static uint64_t at_once(size_t count, size_t length, uint32_t share, bool by_tur
     return heard;
 }
 
-/* The most of these beyond one of each address, of up to so many addresses. */
-static uint64_t most_at_once(size_t addresses, size_t length, uint32_t share)
+/* The most that these take beyond so much of each address, of up to so many addresses. */
+static uint64_t most_at_once(size_t addresses, size_t length, uint32_t share, uint64_t takes, uint64_t of_each)
 {
     uint64_t most = 0;
     for (size_t count = 1; count <= addresses; count++)
         for (int by_turns = 0; by_turns < 2; by_turns++) {
-            uint64_t heard = at_once(count, length, share, by_turns == 1) - count;
-            most = heard > most ? heard : most;
+            uint64_t taken = at_once(count, length, share, by_turns == 1) * takes;
+            most = taken > most + of_each * count ? taken - of_each * count : most;
         }
     return most;
+}
+
+/* Beyond a packet of each address no more than five shares, or 250; and of bytes no more than 64 of the longest take, and one of these of
+ * each address. */
+static void at_once_of(uint32_t share, size_t length, uint64_t pieces)
+{
+    enum { ADDRESSES = 40, LONGEST_PIECES = 89, LONGEST_AT_ONCE = 64 };
+    uint64_t packets = most_at_once(ADDRESSES, length, share, 1, 1), bytes = most_at_once(ADDRESSES, length, share, pieces, LONGEST_PIECES);
+    expect(packets <= 5 * (share > SHARE ? share : SHARE), "what all have, beside one of each");
+    expect(bytes <= LONGEST_AT_ONCE * LONGEST_PIECES, "and what all take, beside one of the longest of each");
+    printf("with a share of %" PRIu32 ": %" PRIu64 " packets of %zu bytes\n", share, packets, length);
 }
 
 /* What a client receives of one who speaks alone, after the router has said much: all of that goes out, and counts. */
@@ -210,7 +221,7 @@ static void from_other_links(void)
     network_setting set = usual(LINK_INTERFACE);
     speaker network = {0};
     throttle limits;
-    fair queues = {0};
+    receiver queues = {.clock = 0};
     uint64_t carried = 0;
     throttle_set(&limits, &set);
     speaker_be_network(&network, NUMBER);
@@ -222,7 +233,6 @@ static void from_other_links(void)
 
 static void once(void)
 {
-    enum { ADDRESSES = 40 };
     static const uint32_t SHARES[] = {1, SHARE, 4 * SHARE, RATE};
     join(MOST_SPEAKERS);
     pass(MILLISECOND);
@@ -230,11 +240,9 @@ static void once(void)
     from_other_links();
     expect(behind_the_router() < 100, "the router's packets count towards what a client receives");
     for (size_t k = 0; k < sizeof SHARES / sizeof *SHARES; k++) {
-        uint64_t small = most_at_once(ADDRESSES, 100, SHARES[k]), middle = most_at_once(ADDRESSES, 600, SHARES[k]);
-        uint64_t longest = most_at_once(ADDRESSES, 1424, SHARES[k]);
-        expect(small <= 250 && middle <= 153 && longest <= 64, "what all have, beside one of each");
-        printf("with a share of %" PRIu32 ": %" PRIu64 " short packets, %" PRIu64 " longer, %" PRIu64 " of the longest\n", SHARES[k], small,
-               middle, longest);
+        at_once_of(SHARES[k], 100, 22);
+        at_once_of(SHARES[k], 600, 37);
+        at_once_of(SHARES[k], 1424, 89);
     }
 }
 

@@ -8,7 +8,7 @@
 #include <stdlib.h>
 #include <string.h>
 
-#include "limits/limit.h"
+#include "limits/meter.h"
 #include "systems/clock.h"
 
 #define MILLISECOND UINT64_C(1000000)

@@ -78,8 +78,8 @@ def builds_siphash(compiler, made, flags):
 def builds_limits(compiler, folder, flags, end=""):
     """The programs that try the limits by a clock of their own."""
     files = [*sources("gateway/limits"), "gateway/tunnel/roster.c", "gateway/siphash.c"]
-    return all(succeeds(compiler, *FLAGS, *flags, "-Ibuild", "-Iinclude", f"{TESTS}/{name}.c", *files, "-o", f"{folder}/{name}{end}")
-        for name in ("queues", "minutes"))
+    return all(succeeds(compiler, *FLAGS, *flags, "-Ibuild", "-Iinclude", f"{TESTS}/{name}.c", *files, f"{folder}/libipxr.a",
+        "-o", f"{folder}/{name}{end}") for name in ("queues", "minutes"))
 
 
 def builds_made_up(flags):

@@ -69,7 +69,7 @@ static void check_clients(network *on)
     for (size_t k = 0; ipxr_tunnel_client(&on->tunnel, k, &client) == 0; k++) {
         if (!same_node(list->list[k].place, client.place))
             wrong("client %zu of network %X is another one in the list", k, (unsigned)on->set->network);
-        queues_are_well(list->list[k].queues, "a client");
+        receiver_is_well(list->list[k].queues, "a client");
     }
 }
 
@@ -91,7 +91,7 @@ static void check_tunnel(network *on)
 static void check_queues(const gateway *it, const network *on)
 {
     const network *at = it->networks;
-    queues_are_well(&on->queues, "a link");
+    receiver_is_well(&on->queues, "a link");
     while (at < it->networks + it->count && &at->queues != on->of_link)
         at++;
     if (at > on || !(at == on || same_link(at->set, on->set)))

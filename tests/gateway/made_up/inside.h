@@ -19,7 +19,8 @@ bool speakers_are_gone(void);
 void line_is_well(gateway *it);
 bool line_is_unused(void);
 
-/* What all queues of somebody together must be, whoever he is. */
-void queues_are_well(const fair *it, const char *whose);
+/* What is counted of all queues of somebody must be so, whoever he is: of packets alone, and of their bytes, too. */
+void queues_are_well(const ipxr_fair *it, const char *whose);
+void receiver_is_well(const receiver *it, const char *whose);
 
 #endif

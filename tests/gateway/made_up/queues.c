@@ -1,23 +1,25 @@
-/* What the queues of somebody must be, as fair.h says: a queue stands in the list exactly if it isn't empty, and none stands behind one
- * that is empty later. */
+/* What the queues of somebody must be, as ipxr_fair.h says of its fields. */
 #include "inside.h"
 #include "play.h"
 
-/* Whether a queue in the list knows its place, and isn't empty before the one above it. */
-static bool is_in_order(const fair *it, size_t place)
+void queues_are_well(const ipxr_fair *it, const char *whose)
 {
-    size_t number = it->list[place];
-    return it->places[number] == place && (place == 0 || it->until[it->list[(place - 1) / 2]] <= it->until[number]);
+    uint64_t waits = 0, total = 0;
+    for (size_t k = 0; k < IPXR_SPEAKERS; k++) {
+        uint64_t length = it->ends[k] > it->served ? it->ends[k] - it->served : 0;
+        waits += length > 0;
+        total += length;
+        if (it->ends[k] > it->latest || (length > 0 && length <= it->spare))
+            wrong("the queues of %s: queue %zu ends at another time than is counted", whose, k);
+    }
+    if (waits != it->waits || total != it->total)
+        wrong("the queues of %s: %u aren't empty, and %u are counted", whose, (unsigned)waits, (unsigned)it->waits);
+    if (it->left > 0 && it->left >= waits)
+        wrong("the queues of %s: time is left, and wasn't used", whose);
 }
 
-void queues_are_well(const fair *it, const char *whose)
+void receiver_is_well(const receiver *it, const char *whose)
 {
-    size_t waiting = 0;
-    for (size_t k = 0; k < MOST_NUMBERS; k++)
-        waiting += it->until[k] > it->served;
-    if (waiting != it->waiting)
-        wrong("the queues of %s: %zu aren't empty, and %u are listed", whose, waiting, it->waiting);
-    for (size_t k = 0; k < it->waiting; k++)
-        if (!is_in_order(it, k))
-            wrong("the queues of %s: place %zu of the list is wrong", whose, k);
+    queues_are_well(&it->packets, whose);
+    queues_are_well(&it->pieces, whose);
 }
