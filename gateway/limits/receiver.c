@@ -3,7 +3,8 @@
 #include <string.h>
 
 /* One part in so many of the reserve is what a speaker may say at once while it lasts: by docs/FAIR.md (part_is_heard) seven such lose
- * nothing, whatever others say. (with more for each some would use up the reserve, and whoever speaks after them is heard one packet at a time) */
+ * nothing, whatever others say. (with more for each some would use up the reserve, and whoever speaks after them would be heard one packet
+ * at a time) */
 enum { OWN_PARTS = 8 };
 
 static uint64_t least(uint64_t a, uint64_t b)
