@@ -31,7 +31,7 @@ reading reading_of(uint32_t count, room packets, room longest, uint32_t pieces, 
         .pieces = setting_of(between, longest, frames)};
 }
 
-void fair_set(ipxr_fair *it, const ipxr_fair_setting *to)
+static void fair_set(ipxr_fair *it, const ipxr_fair_setting *to)
 {
     if (memcmp(&it->setting, to, sizeof *to) != 0)
         (void)ipxr_fair_make(it, to);
@@ -43,10 +43,16 @@ void receiver_set(receiver *it, const reading *as)
     fair_set(&it->pieces, &as->pieces);
 }
 
+void fair_begin(ipxr_fair *it, const ipxr_fair_setting *to)
+{
+    if (it->setting.one == 0)
+        (void)ipxr_fair_make(it, to);
+}
+
 void receiver_begin(receiver *it, const reading *as)
 {
-    if (it->packets.setting.one == 0)
-        receiver_set(it, as);
+    fair_begin(&it->packets, &as->packets);
+    fair_begin(&it->pieces, &as->pieces);
 }
 
 /* (where the clock was set back no time passes) */

@@ -35,11 +35,11 @@ ipxr_fair_setting setting_of(uint64_t between, room packets, uint32_t frames);
 reading reading_of(uint32_t count, room packets, room longest, uint32_t pieces, uint32_t frames);
 
 /* He reads so from now on. Where that is nothing new what waits stays. */
-void fair_set(ipxr_fair *it, const ipxr_fair_setting *to);
 void receiver_set(receiver *it, const reading *as);
 
-/* He reads so, unless somebody has said how he reads. */
+/* He reads so, unless somebody has said how he reads; the same of a receiver of packets alone. */
 void receiver_begin(receiver *it, const reading *as);
+void fair_begin(ipxr_fair *it, const ipxr_fair_setting *to);
 
 /* Whether a packet of so many pieces goes out to him, in so many frames at once, that somebody says who has a number. It is counted then. */
 bool receiver_hears(receiver *it, const reading *as, size_t number, uint32_t pieces, uint32_t frames);

@@ -244,7 +244,7 @@ static bool household_receives(const throttle *it, member *to, size_t queue)
     household *all = speaker_household(to->speaks, it->household_between);
     if (queue >= OF_ADDRESSES && queue == to->speaks->queue)
         return limit_lets(&it->among_household, &all->among, 1);
-    fair_set(&all->received, &it->household);
+    fair_begin(&all->received, &it->household);
     ipxr_fair_look(&all->received, &all->clock, limit_clock());
     return ipxr_fair_says(&all->received, (uint8_t)queue, it->household_between);
 }
