@@ -68,8 +68,8 @@ impl Meter {
         passes
     }
 
-    /// Whether something of that weight may pass.
-    fn has_room(&self, burst: u64, weight: u64) -> bool
+    /// Whether something of that weight passes if it comes now. It isn't counted by that.
+    pub fn has_room(&self, burst: u64, weight: u64) -> bool
         ensures { result ≡ lets self.now burst weight }
     {
         weight <= burst && self.used <= burst - weight

@@ -1,5 +1,5 @@
 //! A receiver that C can hold.
-ghost use Rattle.std.specs.Prelude.{◌≡◌, ◌&&◌, if◌then◌else◌};
+ghost use Rattle.std.specs.Prelude.{◌≡◌, ◌<◌, ◌&&◌, if◌then◌else◌, length};
 ghost use Rattle.ipx_fair.specs.Numbers.{can_be};
 ghost use Rattle.ipx_fair.specs.States.{empty};
 ghost use Rattle.ipx_fair.specs.Serving.{Passed};
@@ -115,5 +115,13 @@ impl Receiver256 {
             put(&mut other.tally, &mut other.ends, speaker, other_weight);
         }
         heard
+    }
+
+    /// Whether a packet of that weight is heard if a speaker says it now. It isn't said by that.
+    pub fn hears(&self, speaker: u8, weight: u64) -> bool
+        ensures hears { result ≡ hears_from (receiver_of self.now) speaker weight }
+        ensures there { speaker < length (receiver_of self.now).queues }
+    {
+        has_room(&self.tally, &self.ends, usize::from(speaker), weight)
     }
 }
