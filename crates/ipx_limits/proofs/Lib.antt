@@ -1,0 +1,2 @@
+pub mod TwoLevels
+pub mod examples
