@@ -1,2 +1,4 @@
 pub mod TwoLevels
+pub mod Limited
+pub mod Settings
 pub mod examples

@@ -1,15 +1,29 @@
 //! What a gateway's limits decide: who is heard where many send more than somebody can read.
 //!
-//! - A packet that two receivers have to hear, such as a client and its address, is heard if both hear it, and both count it then. If one
-//!   refuses it neither counts it.
-//! - Each call's contract is exact, by the definitions in `specs/`. The laws say what follows for every list of events: a speaker within
-//!   his part of both loses nothing, neither is given more than it can read, and whoever has more to say gets his part.
+//! - A network's limits follow from its setting, and each number has a name in `specs/Numbers.antt`: what a client receives, and all clients
+//!   of an address; pings; questions to the router, what routers tell it, and all else that it hears; the gateway's answers.
+//! - Each decision is one function of the packet's kind and of what is used, with the reason. A packet that has to pass several limits is
+//!   counted by all of them or by none. Each call's contract is exact, by the definitions in `specs/`.
+//! - The laws say what follows for every list of events: who keeps to his part of a client and of its address loses nothing, whatever others
+//!   send; the router, and whoever is pinged or answered, gets no more in any time than the limit says.
 //! - It has no clock and takes no memory: all state is values that the caller owns, and is told how many nanoseconds pass.
 //!
-//! It stands on `ipx_fair`, for receivers and meters.
+//! It stands on `ipx_fair`, for receivers and meters, and on `ipx_wire`, for packets.
 #![tactic(auto)]
 
+mod deciding;
+mod decision;
+mod kind;
 pub mod laws;
+mod limits;
+mod network;
+mod receiving;
 mod two_levels;
+mod uses;
 
+pub use crate::decision::Decision;
+pub use crate::kind::Kind;
+pub use crate::limits::{HouseholdLimits, Limit, Limits};
+pub use crate::network::{Link, NetworkSetting};
 pub use crate::two_levels::{Heard, both_hear, hears_with_meter};
+pub use crate::uses::{Account, Address, Client};

@@ -1,0 +1,141 @@
+-- The numbers of the limits that mean something, each under one name (own; measured with DOSBox, and with Linux' virtual cards).
+use Rattle.std.specs.Prelude.{ℕ}
+
+-- nanoseconds of a second
+abbrev pub second : ℕ
+second = 1000000000
+
+-- the most packets a second, and the most of a share, that a setting says
+abbrev pub most_rate : ℕ
+most_rate = 1000000
+
+-- ---- what a client receives
+
+-- shares that it receives a second beyond its rate
+abbrev pub shares : ℕ
+shares = 2
+
+-- packets for which there is room at once, of which somebody alone has half
+abbrev pub room_packets : ℕ
+room_packets = 200
+
+-- and more, for those who say little
+abbrev pub reserve_packets : ℕ
+reserve_packets = 50
+
+-- each queue has one part in so many of the reserve
+abbrev pub reserve_parts : ℕ
+reserve_parts = 8
+
+-- ---- how long packets are: pieces of the memory that a system keeps for one that isn't read
+
+-- packets of more bytes than these are longer
+abbrev pub short : ℕ
+short = 110
+
+abbrev pub middle : ℕ
+middle = 600
+
+abbrev pub short_pieces : ℕ
+short_pieces = 22
+
+abbrev pub middle_pieces : ℕ
+middle_pieces = 37
+
+abbrev pub longest_pieces : ℕ
+longest_pieces = 89
+
+-- so many of the longest fill the room and the reserve
+abbrev pub longest_at_once : ℕ
+longest_at_once = 64
+
+-- a packet goes out in so many frames at most
+abbrev pub most_frames : ℕ
+most_frames = 4
+
+-- ---- what all clients of an address receive
+
+-- somebody alone may say one part in so many of what they receive in a second at once, and no less than so many packets; all together
+-- twice as much
+abbrev pub household_parts : ℕ
+household_parts = 8
+
+abbrev pub household_least : ℕ
+household_least = 500
+
+-- ---- pings, questions, what routers tell, and answers: a second, and at once
+
+abbrev pub pings_at_once : ℕ
+pings_at_once = 2
+
+abbrev pub all_pings_a_second : ℕ
+all_pings_a_second = 4
+
+abbrev pub all_pings_at_once : ℕ
+all_pings_at_once = 8
+
+abbrev pub questions_at_once : ℕ
+questions_at_once = 4
+
+abbrev pub link_questions_a_second : ℕ
+link_questions_a_second = 20
+
+abbrev pub link_questions_at_once : ℕ
+link_questions_at_once = 80
+
+abbrev pub advertisements_a_second : ℕ
+advertisements_a_second = 4
+
+abbrev pub least_advertisements_at_once : ℕ
+least_advertisements_at_once = 32
+
+abbrev pub link_advertisements_a_second : ℕ
+link_advertisements_a_second = 100
+
+abbrev pub link_advertisements_at_once : ℕ
+link_advertisements_at_once = 400
+
+abbrev pub answers_a_second : ℕ
+answers_a_second = 2
+
+abbrev pub answers_at_once : ℕ
+answers_at_once = 8
+
+-- clients of one address that may each ask and be answered
+abbrev pub most_of_household : ℕ
+most_of_household = 4
+
+-- ---- what the router hears of an address
+
+-- one part in so many of the rate
+abbrev pub handed_part : ℕ
+handed_part = 2
+
+abbrev pub handed_at_once : ℕ
+handed_at_once = 64
+
+abbrev pub answers_handed_at_once : ℕ
+answers_handed_at_once = 32
+
+-- the tables of the router: the most routes and services, and how many one packet tells
+abbrev pub most_routes : ℕ
+most_routes = 2048
+
+abbrev pub most_tabled : ℕ
+most_tabled = 1024
+
+-- ---- what packets are
+
+-- the socket of pings and of their answers
+abbrev pub ping_socket : ℕ
+ping_socket = 2
+
+-- operations: what asks for routes, and for services, all or the nearest
+abbrev pub routes_asked : ℕ
+routes_asked = 1
+
+abbrev pub services_asked : ℕ
+services_asked = 1
+
+abbrev pub nearest_asked : ℕ
+nearest_asked = 3

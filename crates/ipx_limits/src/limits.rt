@@ -1,0 +1,318 @@
+//! The limits of a network.
+ghost use Rattle.std.specs.Prelude.{◌≡◌, ◌*◌, ◌<◌, ◌≤◌, ◌^◌};
+ghost use Rattle.ipx_limits.specs.Numbers.{second, most_rate};
+ghost use Rattle.ipx_limits.specs.Limits.{each_of, limit_of, rate_of, packet_of, piece_for, received_for, questions_on, told_at_once, advertisements_on, handed_each, limits_of, alone_of, household_of, of_clients};
+
+use crate::network::{Link, NetworkSetting};
+use ipx_fair::Setting;
+
+/// Nanoseconds of a second.
+const SECOND: u64 = 1_000_000_000;
+
+/// The most that counts of a rate or a share.
+const MOST_RATE: u32 = 1_000_000;
+
+/// Shares that a client receives a second beyond its rate.
+const SHARES: u64 = 2;
+
+/// Packets for which a client has room at once; more, for those who say little; and each of them has one part in so many of that.
+const ROOM: u64 = 200;
+
+const RESERVE: u64 = 50;
+
+const RESERVE_PARTS: u64 = 8;
+
+/// Pieces of the longest packet, how many of the longest there may be at once, and how many frames one goes out in at most.
+const LONGEST_PIECES: u64 = 89;
+
+const LONGEST_AT_ONCE: u64 = 64;
+
+const MOST_FRAMES: u64 = 4;
+
+/// What somebody alone may say at once to all clients of an address: one part in so many of a second, and at least so many packets. In any
+/// case he may say one part in so many of that.
+const HOUSEHOLD_PARTS: u64 = 8;
+
+const HOUSEHOLD_LEAST: u64 = 500;
+
+const OWN_PARTS: u64 = 16;
+
+/// Clients of one address that may each ask and be answered.
+const MOST_OF_HOUSEHOLD: u32 = 4;
+
+/// Pings, questions, what routers tell, and answers: a second, where it isn't one; and at once.
+const PINGS_AT_ONCE: u32 = 2;
+
+const ALL_PINGS: u32 = 4;
+
+const ALL_PINGS_AT_ONCE: u32 = 8;
+
+const QUESTIONS_AT_ONCE: u32 = 4;
+
+const LINK_QUESTIONS: u32 = 20;
+
+const LINK_QUESTIONS_AT_ONCE: u32 = 80;
+
+const ADVERTISEMENTS: u32 = 4;
+
+const LEAST_ADVERTISEMENTS_AT_ONCE: u32 = 32;
+
+const LINK_ADVERTISEMENTS: u32 = 100;
+
+const LINK_ADVERTISEMENTS_AT_ONCE: u32 = 400;
+
+const ANSWERS: u32 = 2;
+
+const ANSWERS_AT_ONCE: u32 = 8;
+
+/// What the router hears of an address: one part in so many of the rate; packets at once, and those of them that may be answers to pings.
+const HANDED_PART: u64 = 2;
+
+const HANDED_AT_ONCE: u64 = 64;
+
+const ANSWERS_HANDED_AT_ONCE: u64 = 32;
+
+/// The router's tables, and what one packet tells of them.
+const MOST_ROUTES: u16 = 2048;
+
+const MOST_SERVICES: u16 = 1024;
+
+const ROUTES_IN_PACKET: u32 = 50;
+
+const SERVICES_IN_PACKET: u32 = 7;
+
+/// So much in so much time.
+///
+/// See the example of [`Limits`].
+#[repr(C)]
+#[derive(Clone, Copy, Debug, Default, PartialEq, Eq)]
+pub struct Limit {
+    /// Nanoseconds for each.
+    pub each: u64,
+    /// Nanoseconds for what comes at once.
+    pub burst: u64,
+}
+
+impl Limit {
+    /// So many in a second, and so many at once.
+    fn of(a_second: u32, at_once: u32) -> Limit
+        requires a_second { 0 < a_second }
+        requires at_once { at_once ≤ 2 ^ 20 }
+        ensures { result ≡ limit_of a_second at_once }
+    {
+        let each = each_of(u64::from(a_second));
+        Limit {
+            each,
+            burst: times(each, u64::from(at_once)),
+        }
+    }
+
+    /// The limit of an address with so many clients: as much as each of them may, up to four.
+    pub fn of_clients(self, clients: u32) -> Limit
+        ensures { result ≡ of_clients clients self }
+    {
+        Limit {
+            each: self.each / u64::from(clients.min(MOST_OF_HOUSEHOLD).max(1)),
+            burst: self.burst,
+        }
+    }
+}
+
+/// Nanoseconds for each of so many in a second.
+fn each_of(count: u64) -> u64
+    requires { 0 < count }
+    ensures value { result ≡ each_of count }
+    ensures most { result ≤ second }
+{
+    SECOND / count
+}
+
+/// The limits of a network. A number is nanoseconds.
+///
+/// ```
+/// ```
+#[repr(C)]
+#[derive(Clone, Copy, Debug, Default, PartialEq, Eq)]
+pub struct Limits {
+    /// What a client receives of all who speak to it, or a link with frames of clients.
+    pub received: Setting,
+    /// What a packet takes of that, however short; and each piece of a longer one.
+    pub packet: u64,
+    /// A piece.
+    pub piece: u64,
+    /// What the router hears of an address.
+    pub handed: Limit,
+    /// How much of that may be used so that answers to pings are heard.
+    pub handed_answers: u64,
+    /// Pings of a client to all others.
+    pub pings: Limit,
+    /// Pings of all clients.
+    pub all_pings: Limit,
+    /// Questions of a client, or of a link with frames, to the router.
+    pub questions: Limit,
+    /// What else an address, or a link with frames, says to the router as routers do.
+    pub advertisements: Limit,
+    /// Answers of the gateway to a client.
+    pub answers: Limit,
+}
+
+impl Limits {
+    /// The limits of a network, or none where its rate is 0.
+    pub fn of(setting: NetworkSetting) -> Option<Limits>
+        ensures { result ≡ limits_of setting }
+    {
+        if setting.rate == 0 {
+            return None;
+        }
+        let packet = packet_of(setting);
+        let piece = piece_of(packet);
+        let each = handed_each(setting);
+        Some(Limits {
+            received: received_of(setting.link, packet, piece),
+            packet,
+            piece,
+            handed: Limit {
+                each,
+                burst: each * HANDED_AT_ONCE,
+            },
+            handed_answers: each * ANSWERS_HANDED_AT_ONCE,
+            pings: Limit::of(1, PINGS_AT_ONCE),
+            all_pings: Limit::of(ALL_PINGS, ALL_PINGS_AT_ONCE),
+            questions: questions_on(setting.link),
+            advertisements: advertisements_on(setting),
+            answers: Limit::of(ANSWERS, ANSWERS_AT_ONCE),
+        })
+    }
+}
+
+/// Nanoseconds of a packet, however short.
+fn packet_of(setting: NetworkSetting) -> u64
+    requires { 0 < setting.rate }
+    ensures value { result ≡ packet_of setting }
+    ensures most { result ≤ second }
+{
+    let rate = u64::from(setting.rate.min(MOST_RATE));
+    let share = u64::from(setting.share.min(MOST_RATE));
+    each_of(rate + SHARES * share)
+}
+
+/// Nanoseconds of a piece.
+fn piece_of(packet: u64) -> u64
+    requires { packet ≤ second }
+    ensures value { result ≡ piece_for packet }
+    ensures most { result ≤ packet }
+{
+    packet * (ROOM + RESERVE) / (LONGEST_AT_ONCE * LONGEST_PIECES)
+}
+
+/// What a client receives, or a link with frames.
+fn received_of(link: Link, packet: u64, piece: u64) -> Setting
+    requires packet { packet ≤ second }
+    requires piece { piece ≤ packet }
+    ensures { result ≡ received_for link packet piece }
+{
+    let frames = match link {
+        Link::Tunnel => 1,
+        Link::Frames => MOST_FRAMES,
+    };
+    let longest = frames * packet.max(piece * LONGEST_PIECES);
+    Setting {
+        one: longest,
+        own: longest.max(packet * RESERVE / RESERVE_PARTS),
+        reserve: packet * RESERVE,
+        room: packet * ROOM,
+    }
+}
+
+/// Nanoseconds for each packet that the router hears of an address.
+fn handed_each(setting: NetworkSetting) -> u64
+    requires { 0 < setting.rate }
+    ensures value { result ≡ handed_each setting }
+    ensures most { result ≤ 2 * second }
+{
+    HANDED_PART * SECOND / u64::from(setting.rate.min(MOST_RATE))
+}
+
+fn questions_on(link: Link) -> Limit
+    ensures { result ≡ questions_on link }
+{
+    match link {
+        Link::Tunnel => Limit::of(1, QUESTIONS_AT_ONCE),
+        Link::Frames => Limit::of(LINK_QUESTIONS, LINK_QUESTIONS_AT_ONCE),
+    }
+}
+
+fn advertisements_on(setting: NetworkSetting) -> Limit
+    ensures { result ≡ advertisements_on setting.link setting }
+{
+    match setting.link {
+        Link::Tunnel => Limit::of(ADVERTISEMENTS, told_at_once(setting)),
+        Link::Frames => Limit::of(LINK_ADVERTISEMENTS, LINK_ADVERTISEMENTS_AT_ONCE),
+    }
+}
+
+/// Packets that an address may tell at once: all that the tables take of its network, twice; where that is little, some more.
+fn told_at_once(setting: NetworkSetting) -> u32
+    ensures value { result ≡ told_at_once setting }
+    ensures most { result ≤ 2 ^ 13 }
+{
+    let routes = u32::from(setting.routes.min(MOST_ROUTES)).div_ceil(ROUTES_IN_PACKET);
+    let services = u32::from(setting.services.min(MOST_SERVICES)).div_ceil(SERVICES_IN_PACKET);
+    (2 * (routes + services)).max(LEAST_ADVERTISEMENTS_AT_ONCE)
+}
+
+/// What all clients of an address receive of others, on networks that say so much.
+///
+/// See the example of [`Limits`].
+#[repr(C)]
+#[derive(Clone, Copy, Debug, Default, PartialEq, Eq)]
+pub struct HouseholdLimits {
+    /// What they receive of each other address.
+    pub received: Setting,
+    /// What a packet takes of that.
+    pub packet: u64,
+    /// Nanoseconds for what they say to each other at once.
+    pub among: u64,
+}
+
+impl HouseholdLimits {
+    /// The limits for so many packets a second, or none where that is 0. At most 1,000,000 count.
+    pub fn of(rate: u32) -> Option<HouseholdLimits>
+        ensures { result ≡ household_of rate }
+    {
+        if rate == 0 {
+            return None;
+        }
+        let rate = u64::from(rate.min(MOST_RATE));
+        let packet = each_of(rate);
+        let among = times(packet, alone_of(rate));
+        Some(HouseholdLimits {
+            received: Setting {
+                one: packet,
+                own: packet.max(among / OWN_PARTS),
+                reserve: 0,
+                room: 2 * among,
+            },
+            packet,
+            among,
+        })
+    }
+}
+
+/// Packets that somebody alone may say at once.
+fn alone_of(rate: u64) -> u64
+    requires { rate ≤ most_rate }
+    ensures value { result ≡ alone_of rate }
+    ensures most { result ≤ 2 ^ 20 }
+{
+    2 * ((rate / HOUSEHOLD_PARTS).max(HOUSEHOLD_LEAST) / 2)
+}
+
+fn times(each: u64, count: u64) -> u64
+    requires each { each ≤ second }
+    requires count { count ≤ 2 ^ 20 }
+    ensures value { result ≡ each * count }
+    ensures most { result ≤ second * 2 ^ 20 }
+{
+    each * count
+}
