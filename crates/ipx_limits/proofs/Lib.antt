@@ -1,4 +1,5 @@
 pub mod TwoLevels
 pub mod Limited
 pub mod Settings
+pub mod ToStrangers
 pub mod examples

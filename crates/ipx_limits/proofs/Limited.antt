@@ -1,5 +1,5 @@
 -- What a limit lets pass in some time.
-use Rattle.std.proofs.Common.{◌≡◌, ◌∙◌, refl, sym, ap, subst, arith, ℕ, ◌+◌, ◌-◌, ◌*◌, ◌≤◌, Bool, true, false, ◌&&◌, not, if◌then◌else◌, List, [], ◌∷◌}
+use Rattle.std.proofs.Common.{◌≡◌, ◌∙◌, refl, sym, ap, arith, ℕ, ◌+◌, ◌*◌, ◌≤◌, Bool, true, false, ◌&&◌, not, if◌then◌else◌, List, [], ◌∷◌}
 use Rattle.std.proofs.lemmas.Bool.{and_parts, leb-true}
 use Rattle.ipx_fair.specs.declared.meter.Meter.{Meter}
 use Rattle.ipx_limits.specs.declared.decision.Decision.{Decision}
@@ -12,7 +12,7 @@ use Rattle.ipx_limits.specs.declared.uses.Account.{Account}
 use Rattle.ipx_limits.specs.declared.uses.Address.{Address}
 use Rattle.ipx_limits.specs.declared.uses.Client.{Client}
 use Rattle.ipx_limits.specs.Limits.{of_clients}
-use Rattle.ipx_limits.specs.Deciding.{has_room, used_then, passes, is_ping, is_question, is_told, pings, answers, hands, may_ask, may_tell, may_hand, frames_hand, Pinged, Answered, Handed, FramesHanded}
+use Rattle.ipx_limits.specs.Deciding.{has_room, passes, is_ping, is_question, is_told, may_ask, may_tell, may_hand, frames_hand, Handed}
 use Rattle.ipx_limits.specs.Metered.{Use, Time, Comes, Runs, elapsed, counted, Event, Passing, Decided, uses_by, any, time_of, passed, Handing, HandingRuns, PingingRuns, AnsweringRuns, FramesHanding, FramesRuns}
 
 -- ---- one limit

@@ -1,15 +1,14 @@
 -- What limits come from a setting.
-use Rattle.std.proofs.Common.{◌≡◌, ◌∙◌, refl, sym, ap, arith, ℕ, ◌+◌, ◌-◌, ◌*◌, ◌/◌, ◌^◌, ◌<◌, ◌≤◌, Bool, true, false, ◌&&◌, nat_le, nat_lt, min, max, if◌then◌else◌}
+use Rattle.std.proofs.Common.{◌≡◌, refl, arith, ℕ, ◌*◌, ◌≤◌, Bool, true, false, nat_lt, max, if◌then◌else◌}
 use Rattle.std.proofs.Math.Nat.{mul-le-mul_left, mul-le-mul_right, div-mul-le_self, div-le_self}
 use Rattle.std.proofs.lemmas.Bool.{and_from, le-leb}
 use Rattle.ipx_fair.specs.declared.setting.Setting.{Setting}
 use Rattle.ipx_fair.specs.Numbers.{can_be, most_time}
-use Rattle.ipx_limits.specs.declared.limits.Limits.{Limits}
 use Rattle.ipx_limits.specs.declared.network.Link.{Link}
 use Rattle.ipx_limits.specs.declared.network.Link.TheVariants.{Tunnel, Frames}
 use Rattle.ipx_limits.specs.declared.network.NetworkSetting.{NetworkSetting}
-use Rattle.ipx_limits.specs.Numbers.{second, longest_pieces, room_packets, reserve_packets, longest_at_once}
-use Rattle.ipx_limits.specs.Limits.{each_of, packet_of, piece_for, piece_of, frames_on, longest_for, received_for, received_a_second, limits_at, alone_of, household_at}
+use Rattle.ipx_limits.specs.Numbers.{second, longest_pieces}
+use Rattle.ipx_limits.specs.Limits.{packet_of, piece_for, piece_of, frames_on, longest_for, received_for, received_a_second, limits_at}
 use Rattle.ipx_limits.specs.Receiving.{pieces, in_word, weight}
 
 pub can : (s : Setting) → s.one ≤ s.own → s.own ≤ most_time → s.reserve ≤ most_time → s.room ≤ most_time → can_be s 256 ≡ true

@@ -3,3 +3,4 @@ pub mod TwoLevels
 pub mod Numbers
 pub mod Kinds
 pub mod Deciding
+pub mod Strangers

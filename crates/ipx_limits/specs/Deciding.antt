@@ -1,11 +1,11 @@
 -- What becomes of a packet by limits that are metered. A packet that one limit refuses is counted by none.
-use Rattle.std.specs.Prelude.{◌≡◌, ℕ, ◌+◌, ◌-◌, Bool, true, false, ◌&&◌, not, if◌then◌else◌}
+use Rattle.std.specs.Prelude.{◌≡◌, ℕ, ◌-◌, Bool, true, false, ◌&&◌, not, if◌then◌else◌}
 use Rattle.ipx_fair.specs.declared.meter.Meter.{Meter}
 use Rattle.ipx_fair.specs.Meters.{lets, used_after}
 use Rattle.ipx_limits.specs.declared.decision.Decision.{Decision}
 use Rattle.ipx_limits.specs.declared.decision.Decision.TheVariants.{Passes, TooManyPings, TooManyQuestions, TooManyAdvertisements, TooMuchForRouter, TooManyAnswers}
 use Rattle.ipx_limits.specs.declared.kind.Kind.{Kind}
-use Rattle.ipx_limits.specs.declared.kind.Kind.TheVariants.{Ping, Answer, Question, Told, Other}
+use Rattle.ipx_limits.specs.declared.kind.Kind.TheVariants.{Ping, Answer, Question, Told}
 use Rattle.ipx_limits.specs.declared.limits.Limit.{Limit}
 use Rattle.ipx_limits.specs.declared.limits.Limits.{Limits}
 use Rattle.ipx_limits.specs.declared.uses.Account.{Account}

@@ -1,6 +1,6 @@
 -- What kind of packet it is, as far as limits differ.
-use Rattle.std.specs.Prelude.{ℕ, ◌==◌, ◌||◌, ◌+◌, nat_lt, if◌then◌else◌, List, length, Result, Ok, Err, nat_le}
-use Rattle.ipx_wire.specs.Numbers.{rip_socket, sap_socket, header_size}
+use Rattle.std.specs.Prelude.{ℕ, ◌==◌, ◌||◌, nat_lt, if◌then◌else◌, List, length, Result, Ok, Err}
+use Rattle.ipx_wire.specs.Numbers.{rip_socket, sap_socket}
 use Rattle.ipx_wire.specs.Packet.{Parts, packet_of}
 use Rattle.ipx_wire.specs.Rip.{operation_field}
 use Rattle.ipx_wire.specs.declared.header.Header.{Header}

@@ -9,5 +9,6 @@ pub mod Nodes
 pub mod Kinds
 pub mod Deciding
 pub mod Receiving
+pub mod Strangers
 -- what follows
 pub mod Metered

@@ -1,5 +1,5 @@
 -- What a limit lets pass in some time, and what the limits of the router let pass.
-use Rattle.std.specs.Prelude.{◌≡◌, ℕ, ◌+◌, ◌-◌, ◌≤◌, Bool, true, false, ◌&&◌, if◌then◌else◌, List, [], ◌∷◌}
+use Rattle.std.specs.Prelude.{◌≡◌, ℕ, ◌+◌, Bool, true, ◌&&◌, if◌then◌else◌, List, [], ◌∷◌}
 use Rattle.ipx_fair.specs.declared.meter.Meter.{Meter}
 use Rattle.ipx_limits.specs.declared.decision.Decision.{Decision}
 use Rattle.ipx_limits.specs.declared.kind.Kind.{Kind}
@@ -8,8 +8,7 @@ use Rattle.ipx_limits.specs.declared.limits.Limits.{Limits}
 use Rattle.ipx_limits.specs.declared.uses.Account.{Account}
 use Rattle.ipx_limits.specs.declared.uses.Address.{Address}
 use Rattle.ipx_limits.specs.declared.uses.Client.{Client}
-use Rattle.ipx_limits.specs.Limits.{of_clients}
-use Rattle.ipx_limits.specs.Deciding.{has_room, used_then, later, passes, is_question, is_told, Pinged, Answered, Handed, FramesHanded}
+use Rattle.ipx_limits.specs.Deciding.{has_room, used_then, later, passes, Pinged, Answered, Handed, FramesHanded}
 
 -- ---- one limit
 

@@ -23,4 +23,6 @@ pub enum Decision {
     TooMuchForLink,
     /// The client, or its address, was answered too often.
     TooManyAnswers,
+    /// The place without a client, or all such places together, were sent too much.
+    TooMuchForStrangers,
 }

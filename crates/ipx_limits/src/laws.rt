@@ -1,5 +1,5 @@
 //! What follows from the definitions alone, for every state and every list of events, so for every stretch of time.
-ghost use Rattle.std.specs.Prelude.{◌≡◌, ℕ, ◌+◌, ◌*◌, ◌<◌, ◌≤◌, true, List, length};
+ghost use Rattle.std.specs.Prelude.{◌≡◌, ℕ, ◌+◌, ◌-◌, ◌*◌, ◌^◌, ◌<◌, ◌≤◌, true, List, length};
 ghost use Rattle.ipx_fair.specs.Hearing.{queue_of};
 ghost use Rattle.ipx_fair.specs.Events.{Runs as RunsOfOne};
 ghost use Rattle.ipx_fair.specs.Keeping.{IsKept};
@@ -14,6 +14,11 @@ ghost use Rattle.ipx_limits.specs.Limits.{of_clients, limits_at, frames_on};
 ghost use Rattle.ipx_limits.specs.Deciding.{is_ping, is_question, is_told};
 ghost use Rattle.ipx_limits.specs.Receiving.{weight};
 ghost use Rattle.ipx_limits.specs.Metered.{Use, Runs as UsesRun, elapsed as time_of_uses, counted, Event as Decided, any, time_of, passed, Handing, HandingRuns, FramesHanding, FramesRuns, PingingRuns, AnsweringRuns};
+ghost use Rattle.ipx_limits.specs.declared.decision.Decision.{Decision};
+ghost use Rattle.ipx_limits.specs.declared.decision.Decision.TheVariants.{Passes};
+ghost use Rattle.ipx_limits.specs.declared.strangers.StrangersLimits.{StrangersLimits};
+ghost use Rattle.ipx_limits.specs.Numbers.{most_rate};
+ghost use Rattle.ipx_limits.specs.Strangers.{registration, strangers_at, Sent, Event as ToStrangers, AllRuns, OneRuns, sent, time_of as time_to_strangers};
 ghost use Rattle.ipx_limits.specs.TwoLevels.{Pair};
 ghost use Rattle.ipx_limits.specs.PairEvents.{Event, Runs, of_first, of_second, said_to_first, said_to_second, LosesNothing};
 
@@ -110,4 +115,24 @@ pub fn answers_are_few()
     ensures { (limits : Limits) (clients : ℕ) (old new : Address) (events : List Decided) → AnsweringRuns limits clients old events new
         → old.answered.used ≤ limits.answers.burst
         → passed any events * (of_clients clients limits.answers).each ≤ time_of events + limits.answers.burst }
+{}
+
+/// Places without a client are sent no more in any time than the limit lets go, in datagrams: all of them together, whichever they are, and
+/// those of one address.
+pub fn strangers_are_sent_little()
+    ensures all { (limits : StrangersLimits) (old new : Meter) (events : List ToStrangers) → AllRuns limits old events new
+        → old.used ≤ limits.all.burst → limits.all.burst < 2 ^ 64 - 1
+        → sent events * limits.all.each ≤ time_to_strangers events + limits.all.burst }
+    ensures one { (limits : StrangersLimits) (old new : Meter) (events : List ToStrangers) → OneRuns limits old events new
+        → old.used ≤ limits.one.burst → limits.one.burst < 2 ^ 64 - 1
+        → sent events * limits.one.each ≤ time_to_strangers events + limits.one.burst }
+    ensures small { (rate : ℕ) → 0 < rate → rate ≤ most_rate
+        → ((strangers_at rate).all.burst < 2 ^ 64 - 1) × ((strangers_at rate).one.burst < 2 ^ 64 - 1) }
+{}
+
+/// A newcomer's registration is answered, by two datagrams, if its address was sent nothing lately and there is room in what goes to all.
+pub fn newcomer_is_answered()
+    ensures { (rate : ℕ) (decision : Decision) (address address_then all all_then : Meter)
+        → Sent (strangers_at rate) registration decision address address_then all all_then → address.used ≡ 0
+        → all.used + registration * (strangers_at rate).all.each ≤ (strangers_at rate).all.burst → decision ≡ Passes }
 {}

@@ -18,6 +18,7 @@ pub mod laws;
 mod limits;
 mod network;
 mod receiving;
+mod strangers;
 mod two_levels;
 mod uses;
 
@@ -25,5 +26,6 @@ pub use crate::decision::Decision;
 pub use crate::kind::Kind;
 pub use crate::limits::{HouseholdLimits, Limit, Limits};
 pub use crate::network::{Link, NetworkSetting};
+pub use crate::strangers::StrangersLimits;
 pub use crate::two_levels::{Heard, both_hear, hears_with_meter};
 pub use crate::uses::{Account, Address, Client};

@@ -7,10 +7,10 @@ use crate::network::{Link, NetworkSetting};
 use ipx_fair::Setting;
 
 /// Nanoseconds of a second.
-const SECOND: u64 = 1_000_000_000;
+pub(crate) const SECOND: u64 = 1_000_000_000;
 
 /// The most that counts of a rate or a share.
-const MOST_RATE: u32 = 1_000_000;
+pub(crate) const MOST_RATE: u32 = 1_000_000;
 
 /// Shares that a client receives a second beyond its rate.
 const SHARES: u64 = 2;
@@ -119,7 +119,7 @@ impl Limit {
 }
 
 /// Nanoseconds for each of so many in a second.
-fn each_of(count: u64) -> u64
+pub(crate) fn each_of(count: u64) -> u64
     requires { 0 < count }
     ensures value { result ≡ each_of count }
     ensures most { result ≤ second }
@@ -130,15 +130,34 @@ fn each_of(count: u64) -> u64
 /// The limits of a network. A number is nanoseconds.
 ///
 /// ```
+/// let setting = NetworkSetting {
+///     link: Link::Tunnel,
+///     rate: 800,
+///     share: 50,
+///     routes: 300,
+///     services: 100,
+/// };
+/// let Some(limits) = Limits::of(setting) else {
+///     return Ok(());
+/// };
+/// let (mut client, mut all) = (Client::default(), Meter::default());
+/// let first = limits.says(Kind::Ping, &mut client, &mut all);
+/// let second = limits.says(Kind::Ping, &mut client, &mut all);
+/// let third = limits.says(Kind::Ping, &mut client, &mut all);
+/// let both = first == Decision::Passes && second == Decision::Passes;
+/// println!(rt; "two pings pass: {both}")?;
+/// println!(rt; "a third is too much: {}", third == Decision::TooManyPings)?;
+/// // prints two pings pass: true
+/// // prints a third is too much: true
 /// ```
 #[repr(C)]
 #[derive(Clone, Copy, Debug, Default, PartialEq, Eq)]
 pub struct Limits {
     /// What a client receives of all who speak to it, or a link with frames of clients.
     pub received: Setting,
-    /// What a packet takes of that, however short; and each piece of a longer one.
+    /// What a packet takes of that, however short.
     pub packet: u64,
-    /// A piece.
+    /// What a piece of it takes: a long packet has many.
     pub piece: u64,
     /// What the router hears of an address.
     pub handed: Limit,
@@ -308,11 +327,12 @@ fn alone_of(rate: u64) -> u64
     2 * ((rate / HOUSEHOLD_PARTS).max(HOUSEHOLD_LEAST) / 2)
 }
 
-fn times(each: u64, count: u64) -> u64
-    requires each { each ≤ second }
+/// So many of so many nanoseconds.
+pub(crate) fn times(each: u64, count: u64) -> u64
+    requires each { each ≤ 8 * second }
     requires count { count ≤ 2 ^ 20 }
     ensures value { result ≡ each * count }
-    ensures most { result ≤ second * 2 ^ 20 }
+    ensures most { result ≤ 8 * second * 2 ^ 20 }
 {
     each * count
 }

@@ -23,8 +23,8 @@ pub struct NetworkSetting {
     pub rate: u32,
     /// Packets a second of somebody who says little. A client receives two such shares more.
     pub share: u32,
-    /// How many routes and services the router's tables take of it.
+    /// How many routes the router's table takes of it.
     pub routes: u16,
-    /// The services.
+    /// How many services.
     pub services: u16,
 }

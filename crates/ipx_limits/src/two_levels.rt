@@ -7,6 +7,8 @@ ghost use Rattle.ipx_limits.specs.TwoLevels.{pair, heard_by, BothSaid};
 use ipx_fair::{Meter, Receiver256};
 
 /// What becomes of a packet that two receivers have to hear.
+///
+/// See the example of [`Limits`](crate::Limits).
 #[derive(Clone, Copy, Debug, PartialEq, Eq)]
 pub enum Heard {
     /// Both hear it, and both count it.

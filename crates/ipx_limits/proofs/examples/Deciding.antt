@@ -1,9 +1,9 @@
 -- What becomes of packets by the usual limits, where so much of each is used.
-use Rattle.std.proofs.Common.{◌≡◌, refl, ℕ, true, false}
+use Rattle.std.proofs.Common.{◌≡◌, refl, ℕ}
 use Rattle.ipx_fair.specs.declared.meter.Meter.{Meter}
 use Rattle.ipx_limits.specs.declared.decision.Decision.TheVariants.{Passes, TooManyPings, TooManyQuestions, TooManyAdvertisements, TooMuchForRouter, TooMuchForAddress, TooMuchForClient, TooManyAnswers}
 use Rattle.ipx_limits.specs.declared.kind.Kind.TheVariants.{Ping, Answer, Question, Told, Other}
-use Rattle.ipx_limits.specs.declared.two_levels.Heard.TheVariants.{ByBoth, NotByFirst, NotBySecond}
+use Rattle.ipx_limits.specs.declared.two_levels.Heard.TheVariants.{NotByFirst, NotBySecond}
 use Rattle.ipx_limits.specs.declared.uses.Account.{Account}
 use Rattle.ipx_limits.specs.declared.uses.Address.{Address}
 use Rattle.ipx_limits.specs.declared.uses.Client.{Client}

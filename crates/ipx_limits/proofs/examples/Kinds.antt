@@ -1,5 +1,5 @@
 -- What kind packets are.
-use Rattle.std.proofs.Common.{◌≡◌, refl, ℕ, List, [], ◌∷◌, ◌++◌, length, ◌+◌, replicate}
+use Rattle.std.proofs.Common.{◌≡◌, refl, ℕ, List, [], ◌∷◌, ◌++◌, length, ◌+◌}
 use Rattle.ipx_wire.specs.Address.{address_at, address_bytes}
 use Rattle.ipx_wire.specs.Header.{header_at, header_bytes}
 use Rattle.ipx_wire.specs.Packet.{packet_of}
