@@ -1,0 +1,12 @@
+pub mod Alike
+pub mod Blank
+pub mod Carrying
+pub mod Each
+pub mod Going
+pub mod Pairs
+pub mod Places
+pub mod Planning
+pub mod Ports
+pub mod Sharing
+pub mod Single
+pub mod Unchanged
