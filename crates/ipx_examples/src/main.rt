@@ -10,6 +10,7 @@ mod ends;
 mod internets;
 mod offers;
 mod packets;
+mod plans;
 mod routers;
 mod routes;
 mod runs;
@@ -249,6 +250,7 @@ fn serve(rt: &HostRuntime) -> Result<()> {
         is_trusted: false,
     };
     tunnels::tunnel(rt, from, &REGISTRATION, &ANSWER)?;
+    plans::plan(rt)?;
     segments::segment(rt, Node([0, 0, 0, 0, 0, 2]), Node([0, 0, 0, 0, 0, 0xAA]))?;
     shares::receivers(rt)?;
     shares::meters(rt)

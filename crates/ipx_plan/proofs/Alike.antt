@@ -1,6 +1,8 @@
 -- Links that are the same.
-use Rattle.std.proofs.Common.{◌≡◌, ◌⊎◌, ◌∙◌, refl, sym, ap, ap₂, arith, ℕ, ◌<◌, ◌≤◌, Bool, true, false, ◌==◌, ◌&&◌, ◌||◌, not, if◌then◌else◌, eqb-true, eq-eqb, inl, inr, List, length, slice_get, Option, Some, None}
+use Rattle.std.proofs.Common.{◌≡◌, ◌⊎◌, ◌∙◌, refl, sym, ap, ap₂, arith, ℕ, ◌<◌, ◌≤◌, Bool, true, false, ◌==◌, ◌&&◌, ◌||◌, not, if◌then◌else◌, eqb-true, eq-eqb, inl, inr, nat_eq, List, [], ◌∷◌, length, slice_get, Option, Some, None}
 use Rattle.std.specs.Bool.{beq}
+use Rattle.std.specs.Cmp.Lexicographic.{pointwise}
+use Rattle.ipx_wire.specs.declared.node.Node.{Node}
 use Rattle.std.proofs.lemmas.Bool.{cases_Bool, false≢true, and_parts, and_from, or_left, or_right}
 use Rattle.std.proofs.lemmas.Option.{slice_get-get_or, none-some}
 use Rattle.ipx_plan.specs.declared.carrier.Carrier.{Carrier}
@@ -48,9 +50,13 @@ pub beq_itself : (b : Bool) → beq b b ≡ true
 beq_itself true = refl
 beq_itself false = refl
 
-pub node_itself : (o : Option ℕ) → same_node o o ≡ true
+list_itself : (xs : List ℕ) → pointwise nat_eq xs xs ≡ true
+list_itself [] = refl
+list_itself (x ∷ xs) = and_from (nat_eq x x) (pointwise nat_eq xs xs) (eq-eqb x x refl) (list_itself xs)
+
+pub node_itself : (o : Option Node) → same_node o o ≡ true
 node_itself None = refl
-node_itself (Some n) = eq-eqb n n refl
+node_itself (Some n) = list_itself n.0
 
 pub same_itself : (a : Link) → same_link a a ≡ true
 same_itself a = and_from (same_carrier a.carrier a.carrier) (a.frames == a.frames) (carrier_itself a.carrier) (eq-eqb a.frames a.frames refl)
@@ -58,7 +64,7 @@ same_itself a = and_from (same_carrier a.carrier a.carrier) (a.frames == a.frame
 pub distance_itself : (a : Link) → distance a a ≡ same
 distance_itself a =
     let is : is_same a a ≡ true =
-    and_from (a.network == a.network) (not (a.is_of_several || a.is_of_several) || same_link a a) (eq-eqb a.network a.network refl)
+    and_from (a.network.0 == a.network.0) (not (a.is_of_several || a.is_of_several) || same_link a a) (eq-eqb a.network.0 a.network.0 refl)
     (or_right (not (a.is_of_several || a.is_of_several)) (same_link a a) (same_itself a)) in
     ap (λ (b : Bool). if b then same else if is_at_same_port a a then at_port else apart) is
 
@@ -72,13 +78,13 @@ most a b = omega arith
 pub distance_at_most : (old new : List Link) (j k : ℕ) → distance_at old new j k ≤ apart
 distance_at_most old new j k = most (slice_get old j) (slice_get new k)
 
-pub distance_network : (a b : Link) → distance a b < apart → a.network ≡ b.network
+pub distance_network : (a b : Link) → distance a b < apart → a.network.0 ≡ b.network.0
 distance_network a b near = elim (cases_Bool (is_same a b)) [
-  | inl is ↦ eqb-true a.network b.network (and_parts (a.network == b.network) (not (a.is_of_several || b.is_of_several) || same_link a b) is).0
+  | inl is ↦ eqb-true a.network.0 b.network.0 (and_parts (a.network.0 == b.network.0) (not (a.is_of_several || b.is_of_several) || same_link a b) is).0
   | inr other ↦ elim (cases_Bool (is_at_same_port a b)) [
     | inl is ↦
-        let parts = and_parts ((a.network == b.network) && not (tunnel_port a.carrier == 0)) (tunnel_port a.carrier == tunnel_port b.carrier) is in
-        eqb-true a.network b.network (and_parts (a.network == b.network) (not (tunnel_port a.carrier == 0)) parts.0).0
+        let parts = and_parts ((a.network.0 == b.network.0) && not (tunnel_port a.carrier == 0)) (tunnel_port a.carrier == tunnel_port b.carrier) is in
+        eqb-true a.network.0 b.network.0 (and_parts (a.network.0 == b.network.0) (not (tunnel_port a.carrier == 0)) parts.0).0
     | inr far ↦
         let away : distance a b ≡ apart =
         ap₂ (λ (x y : Bool). if x then same else if y then at_port else apart) other far in
@@ -97,8 +103,8 @@ port_tunnel (Own number) is = absurd (false≢true is)
 
 pub at_port_found : (a b : Link) → is_at_same_port a b ≡ true → is_found a b ≡ true
 at_port_found a b is =
-    let parts = and_parts ((a.network == b.network) && not (tunnel_port a.carrier == 0)) (tunnel_port a.carrier == tunnel_port b.carrier) is in
-    let port : not (tunnel_port a.carrier == 0) ≡ true = (and_parts (a.network == b.network) (not (tunnel_port a.carrier == 0)) parts.0).1 in
+    let parts = and_parts ((a.network.0 == b.network.0) && not (tunnel_port a.carrier == 0)) (tunnel_port a.carrier == tunnel_port b.carrier) is in
+    let port : not (tunnel_port a.carrier == 0) ≡ true = (and_parts (a.network.0 == b.network.0) (not (tunnel_port a.carrier == 0)) parts.0).1 in
     let equal = eqb-true (tunnel_port a.carrier) (tunnel_port b.carrier) parts.1 in
     let also : not (tunnel_port b.carrier == 0) ≡ true = ap (λ (p : ℕ). not (p == 0)) (sym equal) ∙ port in
     let both = and_from (is_tunnel a.carrier) (is_tunnel b.carrier) (port_tunnel a.carrier port) (port_tunnel b.carrier also) in

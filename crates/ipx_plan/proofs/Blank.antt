@@ -5,7 +5,7 @@ use Rattle.ipx_plan.specs.declared.link.Link.{Link}
 
 abbrev pub blank : Link
 blank = record {
-  network = 0;
+  network = record { 0 = 0 };
   carrier = Tunnel 0 0;
   frames = 0;
   is_of_several = false;

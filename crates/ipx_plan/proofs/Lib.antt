@@ -10,3 +10,4 @@ pub mod Ports
 pub mod Sharing
 pub mod Single
 pub mod Unchanged
+pub mod examples

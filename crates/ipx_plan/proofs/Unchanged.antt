@@ -36,9 +36,9 @@ port_itself : (a : Link) → same_port a a ≡ true
 port_itself a =
     let sort : same_sort a a ≡ true = and_from (beq (is_tunnel a.carrier) (is_tunnel a.carrier)) (beq (is_card a.carrier) (is_card a.carrier))
     (beq_itself (is_tunnel a.carrier)) (beq_itself (is_card a.carrier)) in
-    let numbers = and_from (a.network == a.network) (a.port == a.port) (eq-eqb a.network a.network refl) (eq-eqb a.port a.port refl) in
-    and_from ((a.network == a.network) && (a.port == a.port) && beq a.is_of_several a.is_of_several) (a.is_of_several || (same_sort a a && not (has_other_card a a)))
-    (and_from ((a.network == a.network) && (a.port == a.port)) (beq a.is_of_several a.is_of_several) numbers (beq_itself a.is_of_several))
+    let numbers = and_from (a.network.0 == a.network.0) (a.port == a.port) (eq-eqb a.network.0 a.network.0 refl) (eq-eqb a.port a.port refl) in
+    and_from ((a.network.0 == a.network.0) && (a.port == a.port) && beq a.is_of_several a.is_of_several) (a.is_of_several || (same_sort a a && not (has_other_card a a)))
+    (and_from ((a.network.0 == a.network.0) && (a.port == a.port)) (beq a.is_of_several a.is_of_several) numbers (beq_itself a.is_of_several))
     (or_right a.is_of_several (same_sort a a && not (has_other_card a a)) (and_from (same_sort a a) (not (has_other_card a a)) sort (ap not (same_card a))))
 
 ports_itself : (links : List Link) → pointwise same_port links links ≡ true

@@ -10,12 +10,12 @@ same_link a b = same_carrier a.carrier b.carrier && (a.frames == b.frames)
 
 -- they are of the same network, and the only link of it; or, where it has several links or had, also carried alike
 abbrev pub is_same : Link → Link → Bool
-is_same a b = (a.network == b.network) && (not (a.is_of_several || b.is_of_several) || same_link a b)
+is_same a b = (a.network.0 == b.network.0) && (not (a.is_of_several || b.is_of_several) || same_link a b)
 
 -- they are tunnels of the same network at the same port: clients find the one where the other was
 abbrev pub is_at_same_port : Link → Link → Bool
 is_at_same_port a b =
-    (a.network == b.network) && not (tunnel_port a.carrier == 0) && (tunnel_port a.carrier == tunnel_port b.carrier)
+    (a.network.0 == b.network.0) && not (tunnel_port a.carrier == 0) && (tunnel_port a.carrier == tunnel_port b.carrier)
 
 -- how far two links are from each other: the same, at the same port, or apart. Those that are less than apart are alike
 abbrev pub same : ℕ

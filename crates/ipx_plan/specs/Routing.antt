@@ -22,7 +22,7 @@ has_other_card a b = is_card b.carrier && is_some b.node && not (same_node a.nod
 -- a port is as it was. Where its network has several links, its node is none of theirs
 abbrev pub same_port : Link → Link → Bool
 same_port a b =
-    (a.network == b.network) && (a.port == b.port) && beq a.is_of_several b.is_of_several
+    (a.network.0 == b.network.0) && (a.port == b.port) && beq a.is_of_several b.is_of_several
     && (a.is_of_several || (same_sort a b && not (has_other_card a b)))
 
 -- the router stays: it has the same ports, in the same order

@@ -1,14 +1,17 @@
 -- What becomes of tunnels and of their clients.
-use Rattle.std.specs.Prelude.{ℕ, Bool, true, false, ◌==◌, ◌&&◌, ◌||◌, not, if◌then◌else◌, Option, None, Some}
+use Rattle.std.specs.Prelude.{ℕ, Bool, true, false, ◌==◌, ◌&&◌, ◌||◌, not, nat_eq, if◌then◌else◌, Option, None, Some}
 use Rattle.std.specs.Bool.{beq}
+use Rattle.std.specs.Cmp.Lexicographic.{pointwise}
+use Rattle.ipx_wire.specs.declared.node.Node.{Node}
 use Rattle.ipx_plan.specs.declared.link.Link.{Link}
 use Rattle.ipx_plan.specs.declared.origin.Tunnel.{Tunnel}
 use Rattle.ipx_plan.specs.declared.origin.Tunnel.TheVariants.{Absent, Stays, Again, New}
 use Rattle.ipx_plan.specs.Carriers.{is_tunnel, tunnel_port}
 use Rattle.ipx_plan.specs.Likeness.{same_link}
 
-abbrev pub same_node : Option ℕ → Option ℕ → Bool
-same_node (Some a) (Some b) = a == b
+-- the router's nodes there are the same; or neither is known
+abbrev pub same_node : Option Node → Option Node → Bool
+same_node (Some a) (Some b) = pointwise nat_eq a.0 b.0
 same_node (Some a) None = false
 same_node None (Some b) = false
 same_node None None = true

@@ -30,7 +30,7 @@ pub fn once()
 pub fn alike()
     ensures alike { (old new : List Link) (plan : Planned) → IsPlan old new plan → (j k : ℕ) →
         was_of plan k ≡ Some j → distance_at old new j k < apart }
-    ensures network { (a b : Link) → distance a b < apart → a.network ≡ b.network }
+    ensures network { (a b : Link) → distance a b < apart → a.network.0 ≡ b.network.0 }
 {}
 
 /// As many links stay as can: no link is added that is like one which is removed.

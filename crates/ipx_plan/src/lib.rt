@@ -8,7 +8,7 @@
 //!   only where the links say so, and where nothing has changed there is nothing to do.
 //! - It opens nothing, has no clock and takes no memory: it is handed two lists, and says what is to be done.
 //!
-//! It stands on no other crate of this repository. A gateway can stand on it.
+//! It stands on `ipx_wire`, for networks and nodes. A gateway can stand on it.
 #![tactic(auto)]
 
 mod cables;

@@ -1,6 +1,7 @@
 //! Links.
 
 use crate::carrier::Carrier;
+use ipx_wire::{Network, Node};
 
 /// A link of a configuration, with what a plan needs to know of it. Of what is only compared it has a number: equal numbers, in either
 /// configuration, mean the same.
@@ -9,7 +10,7 @@ use crate::carrier::Carrier;
 #[derive(Clone, Copy, Debug, Default, PartialEq, Eq)]
 pub struct Link {
     /// The number of its network.
-    pub network: u32,
+    pub network: Network,
     /// What carries it.
     pub carrier: Carrier,
     /// The kind of its frames.
@@ -22,7 +23,7 @@ pub struct Link {
     pub port: u32,
     /// The router's node there: of an old link the one that it has, of a new one the one that a new router would have; `None` while a card's
     /// address isn't known.
-    pub node: Option<u64>,
+    pub node: Option<Node>,
     /// A number for the rules for its clients.
     pub clients: u32,
     /// A number for the sockets whose broadcasts are extended.

@@ -5,8 +5,9 @@ ghost use Rattle.ipx_plan.specs.Tunnels.{same_node, is_found, is_same_tunnel, tu
 use crate::likeness::{is_tunnel, same_link, tunnel_port};
 use crate::link::Link;
 use crate::origin::Tunnel;
+use ipx_wire::Node;
 
-pub(crate) fn same_node(a: Option<u64>, b: Option<u64>) -> bool
+pub(crate) fn same_node(a: Option<Node>, b: Option<Node>) -> bool
     ensures { result ≡ same_node a b }
 {
     match (a, b) {
