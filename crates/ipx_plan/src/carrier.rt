@@ -1,4 +1,6 @@
 //! What carries links.
+ghost use Rattle.std.specs.Prelude.{◌≡◌};
+ghost use Rattle.ipx_plan.specs.declared.carrier.Carrier.TheVariants.{Own};
 
 /// What carries a link. Carriers are the same if all that they say is equal.
 ///
@@ -21,7 +23,9 @@ pub enum Carrier {
 }
 
 impl Default for Carrier {
-    fn default() -> Carrier {
+    fn default() -> Carrier
+        ensures { result ≡ Own 0 }
+    {
         Carrier::Own(0)
     }
 }

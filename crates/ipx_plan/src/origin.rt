@@ -1,4 +1,6 @@
 //! What a link of the new configuration is made from.
+ghost use Rattle.std.specs.Prelude.{◌≡◌};
+ghost use Rattle.ipx_plan.specs.declared.origin.Cable.TheVariants.{Opened};
 
 /// The cable of a link of the new configuration.
 ///
@@ -12,7 +14,9 @@ pub enum Cable {
 }
 
 impl Default for Cable {
-    fn default() -> Cable {
+    fn default() -> Cable
+        ensures { result ≡ Opened 0 }
+    {
         Cable::Opened(0)
     }
 }

@@ -1,8 +1,8 @@
 -- The links of the worked examples.
-use Rattle.std.proofs.Common.{ℕ, Bool, true, false, List, [], ◌∷◌, Option, Some, None}
+use Rattle.std.proofs.Common.{ℕ, true, false, List, [], ◌∷◌, Some}
 use Rattle.ipx_wire.specs.declared.node.Node.{Node}
 use Rattle.ipx_plan.specs.declared.carrier.Carrier.{Carrier}
-use Rattle.ipx_plan.specs.declared.carrier.Carrier.TheVariants.{Tunnel, Card, Shared, Own}
+use Rattle.ipx_plan.specs.declared.carrier.Carrier.TheVariants.{Tunnel, Card, Shared}
 use Rattle.ipx_plan.specs.declared.link.Link.{Link}
 use Rattle.ipx_plan.specs.declared.fate.Fate.{Fate}
 use Rattle.ipx_plan.specs.declared.origin.Origin.{Origin}

@@ -2,7 +2,7 @@
 use Rattle.std.proofs.Common.{◌≡◌, refl, true, false, [], ◌∷◌, map, Some, None}
 use Rattle.ipx_plan.specs.declared.carrier.Carrier.TheVariants.{Own}
 use Rattle.ipx_plan.specs.declared.origin.Cable.TheVariants.{Kept, Opened}
-use Rattle.ipx_plan.specs.declared.origin.Tunnel.TheVariants.{Absent, Stays, Again, New}
+use Rattle.ipx_plan.specs.declared.origin.Tunnel.TheVariants.{Again}
 use Rattle.ipx_plan.specs.inside.Pairs.{paired}
 use Rattle.ipx_plan.specs.Routing.{keeps_router}
 use Rattle.ipx_plan.proofs.examples.Links.{node_of, alone, first, later, here, everywhere, card, qemu, origins_of, fates_of}
