@@ -1,12 +1,13 @@
 /* Calls every export of the headers, and is made of these alone. Each argument and each field has a value of its own, and what each call
  * answers is read back: the first wrong answer is named, and the program ends with 1. dev/exports sees that it fails where two exports,
  * two arguments or two fields are exchanged. What is wanted was given here, or follows from the documents: docs/PACKETS.md,
- * docs/ROUTER.md, docs/TUNNEL.md, docs/SEGMENT.md and docs/FAIR.md. */
+ * docs/ROUTER.md, docs/TUNNEL.md, docs/SEGMENT.md, docs/RELOAD.md and docs/FAIR.md. */
 #include <stdio.h>
 #include <stdlib.h>
 #include <string.h>
 
 #include "ipxr_fair.h"
+#include "ipxr_plan.h"
 #include "ipxr_segment.h"
 #include "ipxr_tunnel.h"
 
@@ -588,6 +589,95 @@ static void a_meter(void)
     WROTE(20, other.used);
 }
 
+/* ---- Plans ---- */
+
+/* A tunnel, and a card. */
+static const ipxr_plan_link TUNNEL_LINE = {
+    .network = 0x11, .carrier = IPXR_CARRIER_TUNNEL, .frames = 0x21, .udp_port = 0x3132, .number = 0x41, .port = 0x51, .clients = 0x61,
+    .sockets = 0x71, .node = {0x81}, .has_node = 1, .is_of_several = 0, .is_first = 1};
+static const ipxr_plan_link CARD_LINE = {
+    .network = 0x12, .carrier = IPXR_CARRIER_CARD, .frames = 0x22, .number = 0x42, .port = 0x52, .clients = 0x62, .sockets = 0x72,
+    .node = {0x82}, .has_node = 1, .is_of_several = 0, .is_first = 1};
+
+/* What must be said of a plan of one link: of the router, of what the new link is made from, and of what becomes of the old one. */
+static void plans(const ipxr_plan_link *old, const ipxr_plan_link *links, const char *wanted)
+{
+    char text[64];
+    ipxr_plan_origin o;
+    ipxr_plan_fate f;
+    int32_t stays = ipxr_plan(old, 1, links, 1, &o, 1, &f, 1);
+    snprintf(text, sizeof text, "%d: %u %u %u%u %u %u%u, %u %u%u", (int)stays, (unsigned)o.was, (unsigned)o.cable, o.is_kept,
+             o.is_as_before, o.tunnel, o.has_other_clients, o.has_other_sockets, (unsigned)f.becomes, f.is_closed, f.ends_tunnel);
+    if (strcmp(text, wanted) != 0) {
+        printf("a plan is %s, not %s\n", text, wanted);
+        exit(1);
+    }
+    called = wanted;
+}
+
+/* With one field that differs. */
+#define CHANGED(line, field, value, wanted) \
+    do { \
+        ipxr_plan_link it = line; \
+        it.field = value; \
+        plans(&line, &it, wanted); \
+    } while (0)
+
+static void plans_of_one(void)
+{
+    ipxr_plan_link a = TUNNEL_LINE, b = TUNNEL_LINE;
+    plans(&TUNNEL_LINE, &TUNNEL_LINE, "1: 0 0 11 1 00, 0 00");
+    CHANGED(TUNNEL_LINE, network, 0x13, "0: 64 0 10 3 00, 64 01");
+    CHANGED(TUNNEL_LINE, carrier, IPXR_CARRIER_SHARED, "0: 0 0 00 0 00, 0 11");
+    CHANGED(TUNNEL_LINE, frames, 0x23, "1: 0 0 10 2 00, 0 00");
+    CHANGED(TUNNEL_LINE, udp_port, 0x3133, "1: 0 0 00 3 00, 0 11");
+    CHANGED(TUNNEL_LINE, number, 0x43, "1: 0 0 00 2 00, 0 10");
+    CHANGED(TUNNEL_LINE, port, 0x53, "0: 0 0 11 1 00, 0 00");
+    CHANGED(TUNNEL_LINE, clients, 0x63, "1: 0 0 11 2 10, 0 00");
+    CHANGED(TUNNEL_LINE, sockets, 0x73, "1: 0 0 11 1 01, 0 00");
+    CHANGED(CARD_LINE, number, 0x43, "1: 0 0 00 0 00, 0 10");
+    CHANGED(CARD_LINE, node[5], 0x83, "0: 0 0 11 0 00, 0 00");
+    CHANGED(CARD_LINE, is_of_several, 1, "0: 0 0 00 0 00, 0 10");
+    /* a card that isn't there yet may be the same; and a link that isn't the first of its network is no port */
+    a = b = CARD_LINE;
+    b.node[5] = 0x83;
+    b.has_node = 0;
+    plans(&a, &b, "1: 0 0 11 0 00, 0 00");
+    a = b = TUNNEL_LINE;
+    a.is_first = b.is_first = 0;
+    b.port = 0x53;
+    plans(&a, &b, "1: 0 0 11 1 00, 0 00");
+    /* of several it is another link, if it isn't carried alike */
+    a = b = CARD_LINE;
+    a.is_of_several = b.is_of_several = 1;
+    b.number = 0x43;
+    plans(&a, &b, "1: 64 0 00 0 00, 64 10");
+}
+
+static void a_plan(void)
+{
+    ipxr_plan_link old[3] = {CARD_LINE, TUNNEL_LINE, TUNNEL_LINE}, links[2] = {TUNNEL_LINE, CARD_LINE};
+    ipxr_plan_origin origins[4] = {{0}};
+    ipxr_plan_fate fates[5] = {{0}};
+    plans_of_one();
+    old[2].network = 0x14;
+    origins[2].was = fates[3].becomes = 0x91;
+    ANSWERS(0, ipxr_plan(old, 3, links, 2, origins, 4, fates, 5));
+    WROTE(1, origins[0].was);
+    WROTE(0, origins[1].was);
+    WROTE(0x91, origins[2].was);
+    WROTE(1, fates[0].becomes);
+    WROTE(0, fates[1].becomes);
+    WROTE(IPXR_NO_ONE, fates[2].becomes);
+    WROTE(0x91, fates[3].becomes);
+    ANSWERS(1, ipxr_plan(links, 2, links, 2, origins, 2, fates, 2));
+    ANSWERS(IPXR_SHORT_BUFFER, ipxr_plan(old, 3, links, 2, origins, 1, fates, 3));
+    ANSWERS(IPXR_SHORT_BUFFER, ipxr_plan(old, 3, links, 2, origins, 2, fates, 2));
+    ANSWERS(0, ipxr_plan(old, 3, links, 2, origins, 2, fates, 3));
+    links[1].carrier = IPXR_CARRIER_OWN + 1;
+    ANSWERS(IPXR_BAD_LINK, ipxr_plan(old, 3, links, 2, origins, 2, fates, 3));
+}
+
 int main(void)
 {
     words();
@@ -600,5 +690,6 @@ int main(void)
     a_receiver();
     two_receivers();
     a_meter();
+    a_plan();
     return 0;
 }

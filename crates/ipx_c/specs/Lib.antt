@@ -26,6 +26,9 @@ pub mod SegmentValues
 pub mod SegmentMakes
 pub mod SegmentEvents
 pub mod SegmentReads
+-- the plan of a reload: structs, and the call
+pub mod PlanValues
+pub mod Plans
 -- broadcasts that are copied to another network
 pub mod Extends
 -- nothing that a public contract says

@@ -1,5 +1,5 @@
-//! The router for C, and for whatever can call C: a static library, whose headers are `ipxr.h`, `ipxr_tunnel.h`, `ipxr_segment.h` and
-//! `ipxr_fair.h` in `include/`.
+//! The router for C, and for whatever can call C: a static library, whose headers are `ipxr.h`, `ipxr_tunnel.h`, `ipxr_segment.h`,
+//! `ipxr_plan.h` and `ipxr_fair.h` in `include/`.
 //!
 //! - C holds a router by a `RouterHandle`: a flag and a pointer. All bytes 0 are a handle without a router.
 //! - `Handle` and `Cell` serve any machine, and are proved once. What crosses to C may have no type parameter, so each kind of machine
@@ -14,6 +14,7 @@
 //!   one (`Extends`).
 //! - A network over several links is the third: `SegmentMachine` has the segment of `ipx_segment` and the links that get the packet of
 //!   its last event (`SegmentMakes`, `SegmentEvents`, `SegmentReads`).
+//! - The plan of a reload is made of values and written to values (`Plans`), by `ipx_plan`.
 //! - Fair queueing and meters are no machines: C keeps them in memory of its own, where all bytes 0 are one, and lends them. Each call's
 //!   clause is that of `ipx_fair`.
 //! - Frames of Ethernet are read and written as `ipx_capture` does, by the numbers of their kinds (`Kinds`).
@@ -35,6 +36,8 @@ mod handle;
 mod item;
 mod machine;
 mod making;
+mod plan_values;
+mod planning;
 mod reading;
 mod segment_events;
 mod segment_machine;
@@ -65,6 +68,8 @@ pub use crate::frames::{ipxr_frame_read, ipxr_frame_write};
 pub use crate::handle::{RouterHandle, SegmentHandle, TunnelHandle};
 pub use crate::machine::Machine;
 pub use crate::making::{ipxr_free, ipxr_make, ipxr_version};
+pub use crate::plan_values::{PlanFate, PlanLink, PlanOrigin};
+pub use crate::planning::ipxr_plan;
 pub use crate::reading::{
     ipxr_is_running, ipxr_is_up, ipxr_route, ipxr_routes, ipxr_service, ipxr_services,
 };
