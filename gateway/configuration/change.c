@@ -28,7 +28,7 @@ static plan next;
 static struct {
     network networks[MOST_LINKS];
     cable cables[MOST_LINKS];
-    size_t count, cable_count;
+    size_t count;
     cable *moved[MOST_LINKS]; /* where each cable is now, or NULL */
 } before;
 
@@ -38,7 +38,6 @@ static void keep_before(gateway *it)
     memcpy(before.cables, it->cables, sizeof before.cables);
     memset(before.moved, 0, sizeof before.moved);
     before.count = it->count;
-    before.cable_count = it->cable_count;
     for (size_t k = 0; k < before.count; k++)
         before.networks[k].cable = before.cables + (it->networks[k].cable - it->cables);
     memset(it->networks, 0, sizeof it->networks);
@@ -49,7 +48,8 @@ static void keep_before(gateway *it)
 /* A network on a link as it was, or NULL. */
 static network *network_before(size_t number)
 {
-    return next.was[number] != NOBODY ? &before.networks[next.was[number]] : NULL;
+    size_t was = next.origins[number].was;
+    return was != IPXR_NO_ONE ? &before.networks[was] : NULL;
 }
 
 /* A cable that stays goes to its new place, once for all networks that it carries. */
@@ -64,25 +64,6 @@ static cable *move_cable(gateway *it, const cable *was, const network_setting *s
     return *moved;
 }
 
-/* Whether a link is as it was. (on an interface of several links its socket hears the frames for others too) */
-static bool is_as_before(const network *was, const network_setting *set)
-{
-    return was != NULL && has_same_link(was->set, set) &&
-           (set->type != LINK_INTERFACE || was->set->is_of_several == set->is_of_several);
-}
-
-/* The cable at a link's place until now, or NULL. It stays for whatever network and in whatever kind of frames: else a TAP would leave its
- * bridge, and a PC would be cut off that connects only once. (each network of an interface has a socket of its own, which nobody misses) */
-static cable *cable_before(const network *was, const network_setting *set)
-{
-    if (is_as_before(was, set))
-        return was->cable;
-    for (size_t k = 0; k < before.cable_count; k++)
-        if (set->type != LINK_INTERFACE && same_link(before.cables[k].set, set))
-            return &before.cables[k];
-    return NULL;
-}
-
 /* Each network that stays, with what it has counted and its clients; and each cable whose place a link has still. */
 static void move_networks(gateway *it, const settings *set)
 {
@@ -94,28 +75,24 @@ static void move_networks(gateway *it, const settings *set)
         on->set = &set->networks[k];
         if (on->loop.is_shut)
             on->lacks = on->loop.why; /* (which has moved, too) */
-        const cable *stays = cable_before(was, on->set);
-        on->cable = stays != NULL ? move_cable(it, stays, on->set) : NULL;
+        const ipxr_plan_origin *origin = &next.origins[k];
+        on->cable = origin->is_kept ? move_cable(it, before.networks[origin->cable].cable, on->set) : NULL;
         memcpy(on->node, next.ports[on->set->port].node, sizeof on->node);
     }
 }
 
 static void close_cables(void)
 {
-    for (size_t k = 0; k < before.cable_count; k++)
-        if (before.moved[k] == NULL)
-            cable_close(&before.cables[k]);
+    for (size_t k = 0; k < before.count; k++)
+        if (next.fates[k].is_closed)
+            cable_close(before.networks[k].cable);
 }
 
 /* ---- What is new ---- */
 
-/* The cable of a network whose link is new: one that is there already, or one that is opened now. */
-static cable *new_cable(gateway *it, const network_setting *set, changed *what)
+static cable *open_cable(gateway *it, const network_setting *set, changed *what)
 {
     char words[LINK_ROOM];
-    for (size_t k = 0; k < it->cable_count; k++)
-        if (set->type != LINK_INTERFACE && same_link(it->cables[k].set, set))
-            return &it->cables[k];
     cable *made = &it->cables[it->cable_count++];
     const char *fault = cable_open(made, set);
     if (fault != NULL) {
@@ -125,14 +102,22 @@ static cable *new_cable(gateway *it, const network_setting *set, changed *what)
     return made;
 }
 
-/* A network whose link is another one. */
-static void begin_link(gateway *it, network *on, const network *was, changed *what)
+/* A cable that isn't open is opened for the first network on it. */
+static cable *new_cable(gateway *it, size_t number, changed *what)
 {
+    size_t first = next.origins[number].cable;
+    return first == number ? open_cable(it, it->networks[number].set, what) : it->networks[first].cable;
+}
+
+/* A network whose link is another one. */
+static void begin_link(gateway *it, size_t number, changed *what)
+{
+    network *on = &it->networks[number];
     if (on->cable == NULL)
-        on->cable = new_cable(it, on->set, what);
+        on->cable = new_cable(it, number, what);
     on->lacks = NULL;
     memset(on->told, 0, sizeof on->told);
-    if (was == NULL)
+    if (network_before(number) == NULL)
         what->added++;
     else
         what->reopened++;
@@ -142,8 +127,8 @@ static void begin_link(gateway *it, network *on, const network *was, changed *wh
 static void begin_links(gateway *it, changed *what)
 {
     for (size_t k = 0; k < it->count; k++)
-        if (!is_as_before(network_before(k), it->networks[k].set))
-            begin_link(it, &it->networks[k], network_before(k), what);
+        if (!next.origins[k].is_as_before)
+            begin_link(it, k, what);
 }
 
 /* ---- The router and segments ---- */
@@ -181,26 +166,15 @@ static void take_segments(gateway *it)
 
 /* ---- Clients ---- */
 
-/* Whether nobody finds a tunnel who was there: it is at another port, or at whatever port is free then. */
-static bool is_elsewhere(const network_setting *was, const network_setting *is)
-{
-    return is->type != LINK_DOSBOX || is->local.port != was->local.port || (is->local.port == 0 && !has_same_link(was, is));
-}
-
 /* The tunnel of a network: its clients stay as far as they may and can. */
-static void change_tunnel(gateway *it, size_t number, changed *what)
+static void change_tunnel(gateway *it, size_t number)
 {
     network *on = &it->networks[number];
-    const network *was = network_before(number);
-    bool is_tunnel = on->set->type == LINK_DOSBOX, was_tunnel = was != NULL && was->set->type == LINK_DOSBOX;
-    if (was_tunnel && is_elsewhere(was->set, on->set))
+    size_t was = next.origins[number].was;
+    if (was != IPXR_NO_ONE && next.fates[was].ends_tunnel)
         tunnel_end(on);
     throttle_set(&on->throttle, on->set); /* (what may be advertised at once follows the shares) */
     receiver_set(&on->queues, &on->throttle.received); /* (by the same limits what waits stays) */
-    if (is_tunnel && was_tunnel)
-        what->clients += !has_same_clients(was->set, on->set);
-    else if (was != NULL && !is_tunnel && !was_tunnel)
-        what->clients += was->set->rate != on->set->rate || was->set->share != on->set->share;
     if (next.has_tunnel[number])
         tunnel_again(it, on, &next.tunnels[number]);
 }
@@ -210,9 +184,9 @@ static void change_tunnels(gateway *it, const settings *set, changed *what)
     speakers_forget();
     line_set(set);
     for (size_t k = 0; k < it->count; k++) {
-        const network *was = network_before(k);
-        change_tunnel(it, k, what);
-        what->sockets += was != NULL && !has_same_sockets(was->set, it->networks[k].set);
+        change_tunnel(it, k);
+        what->clients += next.origins[k].has_other_clients;
+        what->sockets += next.origins[k].has_other_sockets;
     }
 }
 
@@ -230,7 +204,7 @@ static void remove_networks(gateway *it, changed *what)
 {
     for (size_t k = 0; k < it->count; k++) {
         network *on = &it->networks[k];
-        if (next.becomes[k] != NOBODY)
+        if (next.fates[k].becomes != IPXR_NO_ONE)
             continue;
         if (on->set->type == LINK_DOSBOX)
             tunnel_end(on);

@@ -1,16 +1,15 @@
-/* A change of the settings before it is made: what stays, and all that takes memory, which is made first. Where any of it is refused there
- * is no change at all. */
+/* A change of the settings before it is made: what stays, as the library plans it, and all that takes memory, which is made first. Where
+ * any of it is refused there is no change at all. */
 #ifndef PLAN_H
 #define PLAN_H
 
 #include "gateway.h"
-
-enum { NOBODY = MOST_LINKS };
+#include "ipxr_plan.h"
 
 typedef struct plan {
     const settings *set;
-    size_t was[MOST_LINKS];     /* for each link of the settings its number until now, or NOBODY; */
-    size_t becomes[MOST_LINKS]; /* and for each link until now its number among these, or NOBODY */
+    ipxr_plan_origin origins[MOST_LINKS]; /* what each link of the settings is made from, */
+    ipxr_plan_fate fates[MOST_LINKS];     /* and what becomes of each link until now */
     ipxr_port ports[IPXR_MOST_PORTS]; /* of the router, with the gateway's nodes */
     bool is_new_router;         /* the router is made anew: */
     ipxr router;                /* this one, which has started */
@@ -24,11 +23,5 @@ bool plan_make(plan *it, gateway *gate, const settings *set);
 
 /* It isn't carried out: what was made for it is freed. */
 void plan_drop(plan *it);
-
-/* Whether two lines say the same link, so that it stays open; whether the same may be clients, within the same limits; and whether the same
- * sockets are extended. */
-bool has_same_link(const network_setting *a, const network_setting *b);
-bool has_same_clients(const network_setting *a, const network_setting *b);
-bool has_same_sockets(const network_setting *a, const network_setting *b);
 
 #endif

@@ -45,8 +45,8 @@ def all_is_compared():
     struct = re.search(r"typedef struct network_setting \{(.*?)\} network_setting;", source("settings.h"), re.DOTALL)[1]
     declared = re.findall(r"^\s*\w+ ([^;]+);", struct, re.MULTILINE)
     fields = [name for names in declared for name in re.findall(r"(\w+)(?:\[\w+\])?(?:,|$)", names)]
-    compared = source("plan.c")
-    forgotten = [it for it in fields if not it.endswith("line") and it not in OF_OTHERS and f"a->{it}" not in compared]
+    compared = source("compared.c")
+    forgotten = [it for it in fields if not it.endswith("line") and it not in OF_OTHERS and not re.search(rf"\b(?:a|set)->{it}\b", compared)]
     assert len(fields) > len(OF_OTHERS) and not forgotten, forgotten
 
 
