@@ -10,7 +10,7 @@ from systems import HEADERS
 from telling import has, left_out, prints, quietly, succeeds, tell
 
 STRICT = ["-Wall", "-Wextra", "-Wpedantic", "-Wconversion", "-Werror"]
-ROUTER, TUNNEL, SEGMENT, FAIR = HEADERS
+ROUTER, TUNNEL, SEGMENT, PLAN, FAIR = HEADERS
 # Numbers with words: all of the router's, and those of the others that a call answers. The kinds of frames, what a datagram said and what a
 # link is have no words.
 ANSWERS = {
@@ -33,6 +33,8 @@ ALTERED = (
     (SEGMENT, "uint8_t links; ", "uint16_t links;"),
     (SEGMENT, "_STATIONS 8192", "_STATIONS 8191"),
     (SEGMENT, "ipxr_segment_link(ipxr_segment *segment, ", "ipxr_segment_link("),
+    (PLAN, "size_t becomes;", "uint32_t becomes;"),
+    (PLAN, "ipxr_plan_fate *fates, size_t fates_room", "ipxr_plan_fate *fates"),
     (FAIR, "uint8_t speaker, uint64_t weight", "uint8_t speaker, uint32_t weight"),
     (FAIR, "uint64_t ends[256]", "uint64_t ends[255]"),
     (FAIR, "uint64_t waits;     /*", "uint64_t total;     /*"),
@@ -41,15 +43,16 @@ STANDARDS = {
     "c": (("gcc", "clang"), ("c89", "c99", "c11", "c17", "c2x")),
     "c++": (("g++", "clang++"), ("c++98", "c++11", "c++14", "c++17", "c++20", "c++2b")),
 }
-PROGRAMS = ("every_standard", "every_standard_tunnel", "every_standard_segment", "every_standard_fair")
+PROGRAMS = ("every_standard", "every_standard_tunnel", "every_standard_segment", "every_standard_plan", "every_standard_fair")
 # What those programs show, where they run.
 SHOWN = ("an empty handle, a text and a router of one port", "an empty handle of a tunnel, and a tunnel",
-         "an empty handle of a segment, and a segment", "a receiver of zeros, a receiver and a meter")
+         "an empty handle of a segment, and a segment", "a plan", "a receiver of zeros, a receiver and a meter")
 
 BEGIN = """\
 #include <stdio.h>
 #include "ipxr_tunnel.h"
 #include "ipxr_segment.h"
+#include "ipxr_plan.h"
 #include "ipxr_fair.h"
 typedef void call(void);
 call *const calls[] = {
