@@ -77,9 +77,19 @@ static void take_links(gateway *it)
             cable_hears(it->networks[k].cable, kinds_for_socket(it, &it->networks[k]));
 }
 
+/* Each link with frames has a queue of its own, as long as there are numbers: tunnels take none of these. */
+static void number_links(gateway *it)
+{
+    size_t count = 0;
+    for (size_t k = 0; k < it->count; k++)
+        if (it->networks[k].set->type != LINK_DOSBOX)
+            speaker_be_network(&it->networks[k].speaks, count++);
+}
+
 void gateway_take_ports(gateway *it)
 {
     take_links(it);
+    number_links(it);
     it->port_count = 0;
     for (size_t k = 0; k < it->count; k++) {
         port *router_port = &it->ports[it->networks[k].set->port];

@@ -103,16 +103,15 @@ static bool is_heard_beside(const gateway *it, const cable *carrier, uint8_t kin
 }
 
 /* Who said what came on a network: the network itself, whoever is there. */
-static origin spoken_on(const gateway *it, network *on)
+static origin spoken_on(network *on)
 {
-    speaker_be_network(&on->speaks, (size_t)(on - it->networks));
     return (origin){.speaks = &on->speaks};
 }
 
 /* A packet came for the gateway or for all. (clients of DOSBox' receive of all who are there as much as of one address) */
 static void hear_packet(gateway *it, network *on, const uint8_t *packet, size_t length)
 {
-    origin by = spoken_on(it, on);
+    origin by = spoken_on(on);
     bool is_whole = has_length(packet, length);
     if (is_whole) {
         reason why = throttle_hears(&on->throttle, &on->speaks, packet, length);
@@ -172,7 +171,7 @@ static void hear_at_link(gateway *it, network *on, const uint8_t *frame, const u
         gateway_lose(on, FALSE_SOURCE);
         return;
     }
-    origin by = spoken_on(it, on);
+    origin by = spoken_on(on);
     heard what = segment_hear(it, on, &by, from, to, packet, carried);
     if (what.by_router || what.links > 0)
         look_for_twins(it, on, from);

@@ -4,10 +4,11 @@ the system's, what a cable with several kinds of frames receives for a while.
 It runs in networks of its own (spaces.py).
 """
 import re
+import socket
 import time
 
 from attacks import OTHER_PORT, QUIET, Playground, during, none
-from frames import Packets, unframed
+from frames import Packets, frame, unframed
 from lab import EVERYONE, GAME, Clock, address, packet, played_anew
 from limits import AT_ONCE, BURST, CHAT, HOUSEHOLD, LONGEST, RATE, RECEIVED, SHARE, TWO, chatter, come
 from players import NETWORK, NUMBERED, Player
@@ -26,6 +27,8 @@ CARDS = (("g2", "t2"), ("g3", "t3"))  # of the gateway's, each with the one at t
 GAMES, SIXTH = 5, 80  # players of 35 packets a second, and how many a sixth says: in four kinds of frames more than a link receives
 LONG, AFTER, SLICE = 12, 2, 2  # seconds that they play, and more without the sixth; and after how many it is looked who was heard
 ON_CABLE = bytes.fromhex("020000000CC3")
+BETWEEN = 11  # networks of DOSBox' beside the usual two, so that 14 links are from one of QEMU to the next
+WIRES = ((0x30, 5201, 6201), (0x50, 5202, 6202))  # networks of QEMU, each with its port of the gateway and its PC's
 # (one card has the players' network, and to that of the other what they say is extended)
 EXTENDS = f"extend {GAME:X}\n"
 ALL_KINDS = (f"network {NETWORK:X} 1 1424\nlink dosbox 0.0.0.0:{GATEWAY[1]}\nlink interface {CARDS[0][0]} auto\n{EXTENDS}"
@@ -138,6 +141,30 @@ def one_part_on_two_networks():
         assert ALONE <= listener.beside <= ALONE + 1, f"{listener.beside} packets"
 
 
+def wired():
+    """A configuration with networks of QEMU, the first and the last of the file, from which a socket is extended to one of DOSBox'."""
+    first, last = (f"network {it:X} 1 1424 qemu-udp {GATEWAY[0]}:{near} {host(0)}:{far} raw\nextend {CHAT:X}\n" for it, near, far in WIRES)
+    between = "".join(f"network {0x100 + k:X} 1 1424 dosbox 0.0.0.0:{OTHER_PORT + 1 + k}\nstrangers none\n" for k in range(BETWEEN))
+    return first + TWO.replace("network 20", f"extend {CHAT:X}\nnetwork 20") + between + last
+
+
+def links_far_apart():
+    """What comes from two networks of QEMU has two queues, also where 13 networks of DOSBox' stand between them in the file: after 128 packets
+    at once from the one, a client is given all of 20 from the other."""
+    with Playground(wired(), numbers=(0, 0, 0), more=1, clock=Clock()) as it:
+        client, = come(it, it.free, [GATEWAY[1]])
+        for (network, near, far), said, heard in (WIRES[1], 2 * BURST, ALONE), (WIRES[0], WORDS, WORDS):
+            before, node = client.beside, ON_CABLE[:5] + bytes([network])
+            with socket.socket(socket.AF_INET, socket.SOCK_DGRAM) as wire:
+                wire.bind((host(0), far))
+                for _ in range(said):
+                    word = packet(address(0, EVERYONE, CHAT), address(network, node, CHAT), b"chatter")
+                    wire.sendto(frame("raw", EVERYONE, node, word), (GATEWAY[0], near))
+            it.gate.report()
+            it.party.until(lambda: client.beside - before >= heard, QUIET)
+            assert heard <= client.beside - before <= heard + 1, f"{client.beside - before} packets of network {network:X}"
+
+
 def each_has_its_part_of_an_address():
     """Of 500 packets at once that eight clients of an address receive of one who says 128 to all, each has its own; whoever says 20 then is
     heard whole, and so is one who says 2 more."""
@@ -235,6 +262,7 @@ TESTS = [
     no_more_than_it_reads,
     long_packets_at_once,
     one_part_on_two_networks,
+    links_far_apart,
     each_has_its_part_of_an_address,
     cables_of_four_kinds,
 ]

@@ -98,6 +98,22 @@ static void check_queues(const gateway *it, const network *on)
         wrong("network %X has the queues of another link", (unsigned)on->set->network);
 }
 
+/* Links with frames have queues of their own, where there are as many. */
+static void check_numbers(const gateway *it)
+{
+    size_t count = 0, users[OF_ADDRESSES] = {0};
+    for (size_t k = 0; k < it->count; k++) {
+        size_t queue = it->networks[k].speaks.queue;
+        if (it->networks[k].set->type == LINK_DOSBOX)
+            continue;
+        count++;
+        if (queue < OF_NETWORKS || queue >= OF_ADDRESSES)
+            wrong("what comes on network %X has queue %zu", (unsigned)it->networks[k].set->network, queue);
+        else if (users[queue]++ > 0 && count <= OF_ADDRESSES - OF_NETWORKS)
+            wrong("what comes on network %X has the queue of another link, %zu", (unsigned)it->networks[k].set->network, queue);
+    }
+}
+
 static void check_network(gateway *it, network *on)
 {
     const port *at = &it->ports[on->set->port];
@@ -190,6 +206,7 @@ static void check_ports(gateway *it)
 void gateway_is_well(gateway *it)
 {
     check_descriptors(it);
+    check_numbers(it);
     for (size_t k = 0; k < it->count; k++)
         check_network(it, &it->networks[k]);
     check_ports(it);
