@@ -212,11 +212,11 @@ bool line_has_room(line_use *to)
     return ahead(&the.used) <= most;
 }
 
-/* Moves what is used of the line. (a second is more than waits there) */
+/* Moves what is used of the line. (a second, or the longest packet behind what finds room last, is more than waits there) */
 static void use(uint64_t cost)
 {
     move(&the.used, cost);
-    hold(&the.used, SECOND_NS);
+    hold(&the.used, larger(SECOND_NS, MOST_OF_LITTLE + the.longest));
 }
 
 /* (what goes beyond a part takes nothing of it) */

@@ -275,6 +275,12 @@ reason throttle_carries(const throttle *it, receiver *queues, const origin *by, 
     return TOO_MUCH_FOR_LINK;
 }
 
+reason throttle_lets_in(throttle *it, const uint8_t *packet)
+{
+    bool lets = it->is_off || !is_ping(packet) || limit_lets(&it->all_pings, &it->pinged, 1);
+    return lets ? REASONS : TOO_MANY_PINGS;
+}
+
 reason throttle_hears(throttle *it, speaker *from, const uint8_t *packet, size_t length)
 {
     if (it->is_off || !is_of_routers(packet))

@@ -62,6 +62,9 @@ reason throttle_receives(const throttle *it, member *to, size_t queue, size_t le
  * clients say is limited there. */
 reason throttle_carries(const throttle *it, receiver *queues, const origin *by, const uint8_t *packet, size_t length, uint32_t frames);
 
+/* Why a packet that came in a frame goes nowhere; REASONS where it does. (a ping to all is answered by each client there is) */
+reason throttle_lets_in(throttle *it, const uint8_t *packet);
+
 /* Why the router doesn't hear a packet that came in a frame; REASONS where it does. (what it hears of other routers it says to all other
  * networks at once, and what it is asked it answers at length) */
 reason throttle_hears(throttle *it, speaker *from, const uint8_t *packet, size_t length);

@@ -230,6 +230,26 @@ static void lose_other_kind(gateway *it, network *on, uint8_t kind, const uint8_
           is_shared(it, on) ? " for one more network" : ", or auto");
 }
 
+/* Whether a packet that came in a frame goes anywhere. */
+static bool is_let_in(network *on, const uint8_t *packet, size_t length)
+{
+    reason why = has_length(packet, length) ? throttle_lets_in(&on->throttle, packet) : REASONS;
+    if (why != REASONS)
+        gateway_lose(on, why);
+    return why == REASONS;
+}
+
+/* A packet came, and the frame may be heard. */
+static void hear(gateway *it, network *on, const uint8_t *frame, const uint8_t *packet, size_t length)
+{
+    if (!is_let_in(on, packet, length))
+        return;
+    if (on->segment != NULL)
+        hear_at_link(it, on, frame, packet, length);
+    else
+        hear_packet(it, on, packet, length);
+}
+
 void ether_hear(gateway *it, cable *carrier, const uint8_t *frame, size_t length)
 {
     bool is_there = false;
@@ -253,9 +273,6 @@ void ether_hear(gateway *it, cable *carrier, const uint8_t *frame, size_t length
         gateway_lose(on, FOR_ANOTHER);
     else {
         capture_frame(frame, length);
-        if (on->segment != NULL)
-            hear_at_link(it, on, frame, frame + front, length - front);
-        else
-            hear_packet(it, on, frame + front, length - front);
+        hear(it, on, frame, frame + front, length - front);
     }
 }

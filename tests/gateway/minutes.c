@@ -8,6 +8,7 @@
  *     minutes address            a client's address has no room for what the client has room for
  *     minutes line KILOBITS      four play by a line of so many kilobits, beside one who says 1,000 of the longest packets a second: for
  *                                ten minutes all five, and for one more the four
+ *     minutes narrow             one says the longest packets by a line of 8 kbit/s: in ten minutes no more than nine tenths of it are used
  *     minutes router             clients and a link say to the router what it limits: for ten minutes it hears as much as it is to
  *     minutes accounts           an address says more than the router hears by a network's limits: by another's it is heard
  *     minutes gateway            the same of what the gateway answers to clients and strangers, and of pings for all
@@ -319,18 +320,45 @@ static uint64_t play_by_line(uint64_t rate, uint64_t lasts)
     return lost;
 }
 
-static void by_line(uint32_t kilobits)
+static void use_line_of(uint32_t kilobits)
 {
     static settings set;
     set.count = 1;
     set.networks[0].kilobits = kilobits;
     line_set(&set);
+}
+
+static void by_line(uint32_t kilobits)
+{
+    use_line_of(kilobits);
     join(BY_LINE);
     for (size_t k = 0; k < BY_LINE; k++)
         line_join(&speakers[k]->line);
     expect(play_by_line(1000, 10 * MINUTE) > 0, "the line has no room for all");
     (void)play_by_line(0, MINUTE);
     expect(play_by_line(1, MINUTE) == 0, "the fifth is heard whole again, once it says little");
+}
+
+/* Each packet takes such a line longer than a second. */
+static void narrow(void)
+{
+    enum { KILOBITS = 8, LONG = 1424, HEADERS = 46, BITS = 8, TENTHS = 9, LASTS = 10 * MINUTE };
+    uint64_t sent = 0;
+    use_line_of(KILOBITS);
+    join(2);
+    for (size_t k = 0; k < 2; k++)
+        line_join(&speakers[k]->line);
+    for (uint64_t at = 1; at <= LASTS; at++) {
+        pass_millisecond(at);
+        line_begin(&speakers[0]->line, LONG);
+        if (line_has_room(&speakers[1]->line)) {
+            line_send(&speakers[1]->line);
+            sent++;
+        }
+    }
+    uint64_t most = (uint64_t)KILOBITS * LASTS * TENTHS / 10 / ((LONG + HEADERS) * BITS);
+    printf("%" PRIu64 " packets, of %" PRIu64 " that the line carries\n", sent, most);
+    expect(sent > most / 2 && sent <= most + 1, "a narrow line carries no more than nine tenths of its width");
 }
 
 /* ---- What the router hears ---- */
@@ -575,7 +603,7 @@ static void of_address(void)
 static const struct {
     const char *word;
     void (*does)(void);
-} WORDS_ALONE[] = {{"once", once}, {"two", two}, {"address", of_address}, {"router", router}, {"accounts", accounts},
+} WORDS_ALONE[] = {{"once", once}, {"two", two}, {"address", of_address}, {"narrow", narrow}, {"router", router}, {"accounts", accounts},
                    {"gateway", gateway}};
 
 int main(int count, char **words)

@@ -36,6 +36,7 @@ TESTS = (
     named("of 200 who flood for a minute each has its part", plays, "parts", 200),
     named("what one receives at once, of one to 40 addresses", plays, "once"),
     named("for ten minutes four play by a line of 1 Mbit/s, beside one who says 1,000 long packets a second", plays, "line", 1000),
+    named("for ten minutes one says the longest packets by a line of 8 kbit/s, which carries no more than nine tenths of that", plays, "narrow"),
     named("for ten minutes clients and a link ask the router, and tell it, more than it hears", plays, "router"),
     named("what an address says to the router on one network doesn't use up another network's limits, nor does what was said before a reload",
           plays, "accounts"),

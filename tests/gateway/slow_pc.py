@@ -13,7 +13,7 @@ from fair import LASTS, STEP, dropped, say_up_to
 from frames import frame
 from lab import EVERYONE, GAME, RIP, ROOM, Clock, address, packet, played_anew, rip_response
 from limits import AT_ONCE, CHAT, FIRST, FLOOD, RATE, RECEIVED, SECONDS, are_answering, come, place_of
-from players import HELLO, NETWORK, Player, Slow
+from players import HELLO, NETWORK, TUNNEL, Player, Slow
 from spaces import GATEWAY, build_flood, host
 from trying import begin, figures, named, tried, tried_on_own_system
 
@@ -165,6 +165,22 @@ def questions_of_a_pc():
         assert sorted(map(int, lost)) == [2 * ASKED - 100, 2 * ASKED], lost
 
 
+def pings_of_a_pc(text, network):
+    """A PC in QEMU pings all 100 times at once, and again a second later: DOSBox's clients get eight of these pings, and four more."""
+    with Playground(text, numbers=(0, 0, 0), more=1, clock=Clock()) as it:
+        (client,), pc = come(it, it.free, [GATEWAY[1]]), Eager()
+        for passed, heard in (0, 8), (1, 4):
+            it.let_pass(passed)
+            before = client.pings
+            for _ in range(ASKED):
+                pc.send(packet(address(NETWORK, EVERYONE, TUNNEL), address(network, PC_NODE, TUNNEL), kind=0))
+            it.gate.report()
+            it.party.until(lambda: client.pings >= before + heard, QUIET)
+            assert client.pings == before + heard, f"{client.pings - before} pings"
+        assert re.findall(r"too many pings: (\d+)", it.gate.report()) == [str(2 * ASKED - 12)], it.gate.report()
+        pc.close()
+
+
 ALL = 10 * FLOOD
 MOST = RECEIVED * LASTS + AT_ONCE
 TWO_KINDS = ("raw", "ethernet2")
@@ -184,6 +200,8 @@ TESTS = [
           ON_ONE_LINK + "rate 799\n", [350, 40, 200], [270, 80, 230], MOST, TWO_KINDS),
     changes_of_a_route,
     questions_of_a_pc,
+    named("a PC on the same network pings all again and again", pings_of_a_pc, several("network 20 1 1424 dosbox 0.0.0.0:0\n"), NETWORK),
+    named("a PC on another network does", pings_of_a_pc, beside(), 0x20),
 ]
 
 
