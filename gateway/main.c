@@ -170,6 +170,15 @@ static int route_and_say(const options *it, const settings *set)
     return status;
 }
 
+/* Whether what was printed could be written. */
+static int written(void)
+{
+    if (fflush(stdout) == 0 && !ferror(stdout))
+        return 0;
+    fprintf(stderr, "ipxr-gateway: standard output can't be written: %s\n", fault_words());
+    return CANNOT_OPEN;
+}
+
 int gateway_main(int count, char **words)
 {
     static settings set;
@@ -182,14 +191,14 @@ int gateway_main(int count, char **words)
     }
     if (it.is_help || it.is_version || it.is_example) {
         (it.is_help ? show_use : it.is_version ? show_version : example_show)(stdout);
-        return 0;
+        return written();
     }
     int fault = read_configuration(&set, it.configuration);
     if (fault != 0)
         return fault;
     if (it.is_check) {
         printf("%s: %zu %s, nothing wrong\n", it.configuration, set.ports, set.ports == 1 ? "network" : "networks");
-        return 0;
+        return written();
     }
     return route_and_say(&it, &set);
 }

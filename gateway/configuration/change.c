@@ -81,6 +81,29 @@ static void move_networks(gateway *it, const settings *set)
     }
 }
 
+/* The first link of a network by its number, or NULL. */
+static network *first_of_network(gateway *it, uint32_t number)
+{
+    size_t k = 0;
+    while (k < it->count && it->networks[k].set->network != number)
+        k++;
+    return k < it->count ? &it->networks[k] : NULL;
+}
+
+/* What was counted of links that are there no more goes on at another of their network: a network's counts only grow. */
+static void count_on(gateway *it)
+{
+    for (size_t k = 0; k < before.count; k++) {
+        network *gone = &before.networks[k];
+        bool is_gone = next.becomes[k] == NOBODY, is_cut = before.moved[gone->cable - before.cables] == NULL;
+        network *on = is_gone ? first_of_network(it, gone->set->network) : &it->networks[next.becomes[k]];
+        if (is_gone && on != NULL)
+            counts_add(&on->counts, &gone->counts);
+        if (is_cut && on != NULL && gone->set->type == LINK_QEMU_LISTEN)
+            on->counts.refused += gone->cable->refused;
+    }
+}
+
 static void close_cables(void)
 {
     for (size_t k = 0; k < before.count; k++)
@@ -240,6 +263,7 @@ changed gateway_change(gateway *it, const settings *set)
         segment_close(&it->ports[k]);
     keep_before(it);
     move_networks(it, set);
+    count_on(it);
     close_cables();
     begin_links(it, &what);
     take_router(it);

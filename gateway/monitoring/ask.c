@@ -98,13 +98,15 @@ static bool read_words(question *q, int count, char **words)
 
 /* ---- The answer ---- */
 
-/* Prints a part of an answer. Returns how many bytes of it are text: fewer where its end is in it. */
-static size_t print(FILE *file, const char *bytes, size_t length)
+/* Prints a part of an answer. Returns how many bytes of it are text: fewer where its end is in it; what can't be written is told once. */
+static size_t print(FILE *file, const char *bytes, size_t length, bool *is_lost)
 {
     const char *end = memchr(bytes, '\0', length);
     size_t count = end != NULL ? (size_t)(end - bytes) : length;
-    fwrite(bytes, 1, count, file);
-    fflush(file);
+    bool is_written = fwrite(bytes, 1, count, file) == count && fflush(file) == 0;
+    if (!is_written && !*is_lost)
+        fprintf(stderr, "ipxr-gateway: the answer can't be written: %s\n", fault_words());
+    *is_lost = *is_lost || !is_written;
     return count;
 }
 
@@ -114,16 +116,16 @@ static int hear(int fd, const char *path)
     char bytes[PIECE];
     FILE *file = NULL;
     ssize_t length;
-    bool has_ended = false;
+    bool has_ended = false, is_lost = false;
     while ((length = connection_receive(fd, (uint8_t *)bytes, sizeof bytes)) > 0) {
         size_t done = 0;
         if (file == NULL)
             file = bytes[done++] == FOR_OUTPUT ? stdout : stderr;
         if (!has_ended)
-            done += print(file, bytes + done, (size_t)length - done);
+            done += print(file, bytes + done, (size_t)length - done, &is_lost);
         has_ended = has_ended || done < (size_t)length;
         if (has_ended && bytes[length - 1] != '\0')
-            return bytes[length - 1] == IS_WELL ? WELL : NOT_WELL;
+            return bytes[length - 1] == IS_WELL && !is_lost ? WELL : NOT_WELL;
     }
     fprintf(stderr, "ipxr-gateway: the gateway at %s ended before its answer did\n", path);
     return NOT_WELL;

@@ -39,6 +39,18 @@ const char *reason_words(reason why)
     return WORDS_OF[why];
 }
 
+void counts_add(counts *it, const counts *other)
+{
+    it->in += other->in;
+    it->out += other->out;
+    it->extended += other->extended;
+    it->refused += other->refused;
+    for (size_t why = 0; why < REASONS; why++)
+        it->lost[why] += other->lost[why];
+    for (size_t answer = 0; answer < MOST_HUNDREDS * MOST_REST; answer++)
+        it->dropped[answer / MOST_REST][answer % MOST_REST] += other->dropped[answer / MOST_REST][answer % MOST_REST];
+}
+
 void count_drop(counts *it, int32_t answer)
 {
     if (answer / 100 < MOST_HUNDREDS && answer % 100 < MOST_REST)

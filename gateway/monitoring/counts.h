@@ -44,11 +44,15 @@ typedef struct counts {
     uint64_t in;  /* packets that came, by the link */
     uint64_t out; /* packets that were sent; a broadcast to several clients is one */
     uint64_t extended; /* copies of broadcasts that were handed to this network */
+    uint64_t refused;  /* connections, while a PC was connected, to a link that is there no more */
     uint64_t lost[REASONS];
     uint64_t dropped[MOST_HUNDREDS][MOST_REST]; /* by the router */
 } counts;
 
 const char *reason_words(reason why);
+
+/* Adds what was counted elsewhere. */
+void counts_add(counts *it, const counts *other);
 
 /* Counts a drop of the router, by its number. */
 void count_drop(counts *it, int32_t answer);

@@ -78,6 +78,25 @@ def wrong_file():
         assert told.decode().count("0x20") == 1 and "No such file" in told.decode() and gate.run.returncode == 0
 
 
+def counts_go_on():
+    """What was counted of a link that is taken away goes on at another of its network: no count becomes smaller."""
+    wires = [Udp(), Udp()]
+    for wire, near in zip(wires, free_ports(2)):
+        wire.to = near
+    links = [f"link qemu-udp {it.to} {it.port} raw\n" for it in wires]
+    with Changed(tunnels(1) + "network 20 1 1424\n" + "".join(links)) as gate:
+        for wire in wires:
+            wire.send(b"no frame")
+
+        def came():
+            return sum(it["number"] for it in gate.shown("counts") if (it["network"], it["count"]) == ("00000020", "in"))
+
+        until(lambda: came() == 2, "both datagrams")
+        for left in links[1:], links[:1]:
+            gate.reload(tunnels(1) + "network 20 1 1424\n" + "".join(left))
+            assert came() == 2, f"{came()} datagrams"
+
+
 def rules_for_clients():
     """Others may be clients: who still may stays, and says and hears on; who may not any more leaves at once."""
     with Changed(tunnels(1)) as gate:
@@ -543,8 +562,8 @@ def inside():
 def main():
     if not has_linux("reading the configuration anew"):
         return Counts()
-    counts = tried(all_is_compared, nothing_changes, wrong_file, rules_for_clients, newcomers, limits, limits_of_a_link, a_line, shares,
-                   sockets, a_link_is_another, frames_on_another_link, networks_come_and_go, links_that_are_alike, a_node_of_several_links,
+    counts = tried(all_is_compared, nothing_changes, wrong_file, counts_go_on, rules_for_clients, newcomers, limits, limits_of_a_link,
+                   a_line, shares, sockets, a_link_is_another, frames_on_another_link, networks_come_and_go, links_that_are_alike, a_node_of_several_links,
                    another_address, a_link_is_taken, the_router_begins_anew, shown_while_links_go, shown_while_a_network_goes,
                    shown_while_counts_go, followed, at_a_terminal)
     return counts + tried_inside(__file__, "cards beside a reload")

@@ -232,6 +232,14 @@ def metrics():
             left_out("Prometheus' own check of the counts", "no promtool")
 
 
+def an_answer_that_is_lost():
+    """Where an answer can't be written that is said, and the status isn't 0, so that nothing takes the place of an older one."""
+    with Watched(tunnels(1)) as gate, open("/dev/full", "wb") as full:
+        run = subprocess.run([*SYSTEM.quick, SYSTEM.program, "show", "counts", "--prometheus", "--status", gate.path], stdout=full,
+                             stderr=subprocess.PIPE, timeout=LIMIT, check=False)
+        assert run.returncode == 1 and run.stderr == b"ipxr-gateway: the answer can't be written: No space left on device\n", run
+
+
 def wrong_questions():
     """Wrong words are told with what was expected; whatever else is said by hand, it answers the next."""
     with Watched(tunnels(1)) as gate:
@@ -345,8 +353,8 @@ def nobody_reads():
 def main():
     if not has_linux("the status socket"):
         return Counts()
-    return tried(seen, a_field_a_column, all_of_it, as_the_report, hostile_names, full_tables, metrics, wrong_questions, who_may_ask,
-                 who_takes_nobody, many_ask, no_room_to_ask, nobody_reads)
+    return tried(seen, a_field_a_column, all_of_it, as_the_report, hostile_names, full_tables, metrics, an_answer_that_is_lost,
+                 wrong_questions, who_may_ask, who_takes_nobody, many_ask, no_room_to_ask, nobody_reads)
 
 
 if __name__ == "__main__":

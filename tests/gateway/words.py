@@ -138,6 +138,15 @@ def the_example():
     assert re.findall(r"(?m)^[^#\n]+$", out) == ["network 10      1     1424               dosbox 127.0.0.1:2130"], out
 
 
+def what_cannot_be_written():
+    """Words that only print something end with 1, and say why, where it can't be written."""
+    for words in ["--example"], ["--help"], ["--version"], ["--check", STDIN]:
+        with open("/dev/full", "wb") as full:
+            run = subprocess.run([*SYSTEM.quick, SYSTEM.program, *words], input=tunnels(1).encode(), stdout=full, stderr=subprocess.PIPE,
+                                 timeout=LIMIT, check=False)
+        assert run.returncode == 1 and b"standard output can't be written: No space left on device\n" in run.stderr, (words, run)
+
+
 def status_on_windows():
     """On Windows a status socket is told to be Linux' own."""
     status, _, complaint = asked("--status", "status", STDIN, stdin=tunnels(1).encode())
@@ -218,8 +227,7 @@ def what_cannot_be_opened():
 def main():
     counts = tried(each_wrong_line, nothing_is_opened, no_configuration, a_long_word, too_much, what_editors_write, the_command_line,
                    the_version, no_words, the_example, what_is_right, as_many_links, one_rate_a_link, names_and_marks, what_cannot_be_opened)
-    if SYSTEM is Windows:
-        counts.run(status_on_windows)
+    counts.run(status_on_windows if SYSTEM is Windows else what_cannot_be_written)
     return counts
 
 
