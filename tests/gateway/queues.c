@@ -10,13 +10,13 @@
 
 enum { RECEIVED = 900, MOST_FRAMES = 4 }; /* packets a second that a client receives, and frames of one */
 
-/* How long each queue is, and what is left of the time. */
+/* How long the queues of all senders are, and what is left of the time. */
 typedef struct queues {
-    uint64_t length[MOST_NUMBERS], left;
+    uint64_t senders, length[MOST_NUMBERS], left;
 } queues;
 
 typedef struct model {
-    uint64_t senders, looked;
+    uint64_t looked;
     queues packets, pieces;
 } model;
 
@@ -24,7 +24,7 @@ static uint64_t waiting_of(const queues *it, uint64_t *shortest)
 {
     uint64_t count = 0;
     *shortest = UINT64_MAX;
-    for (size_t k = 0; k < MOST_NUMBERS; k++) {
+    for (size_t k = 0; k < it->senders; k++) {
         count += it->length[k] > 0;
         if (it->length[k] > 0 && it->length[k] < *shortest)
             *shortest = it->length[k];
@@ -35,14 +35,14 @@ static uint64_t waiting_of(const queues *it, uint64_t *shortest)
 static uint64_t all_of(const queues *it)
 {
     uint64_t sum = 0;
-    for (size_t k = 0; k < MOST_NUMBERS; k++)
+    for (size_t k = 0; k < it->senders; k++)
         sum += it->length[k];
     return sum;
 }
 
 static void take_of_each(queues *it, uint64_t part)
 {
-    for (size_t k = 0; k < MOST_NUMBERS; k++)
+    for (size_t k = 0; k < it->senders; k++)
         it->length[k] -= it->length[k] > 0 ? part : 0;
 }
 
@@ -79,13 +79,13 @@ static bool model_hears(const reading *as, model *it, size_t number, uint32_t pi
     return true;
 }
 
-static void compare(const ipxr_fair *it, const queues *like, const ipxr_fair_setting *of, uint64_t senders)
+static void compare(const ipxr_fair *it, const queues *like, const ipxr_fair_setting *of)
 {
     uint64_t shortest, waiting = waiting_of(like, &shortest);
-    for (size_t k = 0; k < MOST_NUMBERS; k++)
+    for (size_t k = 0; k < like->senders; k++)
         expect((it->ends[k] > it->served ? it->ends[k] - it->served : 0) == like->length[k], "a queue is as long as in the model");
     expect(it->waits == waiting && it->total == all_of(like) && it->left == like->left, "what is counted of queues is so");
-    expect(it->total <= of->room + of->reserve + of->one * senders, "no more waits than there is room for");
+    expect(it->total <= of->room + of->reserve + of->one * like->senders, "no more waits than there is room for");
 }
 
 static reading any_reading(void)
@@ -117,7 +117,7 @@ static void any_call(const reading *as, receiver *it, model *like)
 {
     static const uint32_t PIECES[] = {22, 37, 89};
     uint32_t pieces = as->piece == as->between ? 1 : PIECES[draw(3)], frames = 1 + (uint32_t)draw(MOST_FRAMES);
-    size_t number = draw(like->senders);
+    size_t number = draw(like->packets.senders);
     bool is_heard = receiver_hears(it, as, number, pieces, frames);
     expect(is_heard == model_hears(as, like, number, pieces, frames), "a packet is heard if the model hears it");
 }
@@ -137,13 +137,14 @@ static void round_of_calls(uint64_t count)
     reading as = any_reading();
     memset(&it, 0, sizeof it);
     it.clock = now;
-    like = (model){.looked = now, .senders = 1 + draw(draw(4) > 0 ? 8 : MOST_NUMBERS)};
+    uint64_t senders = 1 + draw(draw(4) > 0 ? 8 : MOST_NUMBERS);
+    like = (model){.looked = now, .packets.senders = senders, .pieces.senders = senders};
     receiver_set(&it, &as);
     for (uint64_t k = 0; k < count; k++) {
         pass(any_time(&as));
         any_call(&as, &it, &like);
-        compare(&it.packets, &like.packets, &as.packets, like.senders);
-        compare(&it.pieces, &like.pieces, &as.pieces, like.senders);
+        compare(&it.packets, &like.packets, &as.packets);
+        compare(&it.pieces, &like.pieces, &as.pieces);
     }
     pass(it.packets.total > it.pieces.total ? it.packets.total : it.pieces.total);
     expect_peace(&as, &it);
