@@ -281,11 +281,28 @@ reason throttle_lets_in(throttle *it, const uint8_t *packet)
     return lets ? REASONS : TOO_MANY_PINGS;
 }
 
+/* What all links with frames tell the router together: it says that to each client, whatever these receive else. Of it each link has its
+ * part; one that tells alone has as much as its own limit. */
+static bool links_tell(const speaker *from)
+{
+    enum { EACH = 8, OWN = 100 };
+    static struct {
+        ipxr_fair of;
+        uint64_t clock;
+    } told;
+    const uint64_t between = SECOND_NS / LINK_ADVERTISEMENTS, most = LINK_ADVERTISEMENTS_AT_ONCE * between;
+    const ipxr_fair_setting setting = {.one = EACH * between, .own = OWN * between, .reserve = most / 2, .room = 2 * most};
+    if (told.of.setting.one == 0)
+        (void)ipxr_fair_make(&told.of, &setting);
+    ipxr_fair_look(&told.of, &told.clock, limit_clock());
+    return ipxr_fair_says(&told.of, (uint8_t)from->queue, between);
+}
+
 reason throttle_hears(throttle *it, speaker *from, const uint8_t *packet, size_t length)
 {
     if (it->is_off || !is_of_routers(packet))
         return REASONS;
     if (is_question(packet, length))
         return limit_lets(&it->questions, &from->asked, 1) ? REASONS : TOO_MANY_QUESTIONS;
-    return lets_advertise(it, from) ? REASONS : TOO_MANY_ADVERTISEMENTS;
+    return lets_advertise(it, from) && links_tell(from) ? REASONS : TOO_MANY_ADVERTISEMENTS;
 }

@@ -10,6 +10,8 @@
  *                                ten minutes all five, and for one more the four
  *     minutes narrow             one says the longest packets by a line of 8 kbit/s: in ten minutes no more than nine tenths of it are used
  *     minutes router             clients and a link say to the router what it limits: for ten minutes it hears as much as it is to
+ *     minutes links              eleven links tell the router as much as each may, for a minute: it hears no more than of one, and a twelfth
+ *                                that tells little whole
  *     minutes accounts           an address says more than the router hears by a network's limits: by another's it is heard
  *     minutes gateway            the same of what the gateway answers to clients and strangers, and of pings for all
  *
@@ -454,6 +456,39 @@ static void router(void)
     drive_all(LINK_TAP, 0, 2);
 }
 
+static void links(void)
+{
+    enum { LINKS = 12, EACH = 100, AT_ONCE = 1100 };
+    static speaker speaks[LINKS];
+    network_setting set = usual(LINK_TAP);
+    teller it = {.says = &WORDS_TO_ROUTER[3]};
+    uint64_t said[LINKS] = {0}, heard[LINKS] = {0}, all = 0, least = UINT64_MAX;
+    throttle limits[LINKS];
+    set.routes = set.services = IPXR_NO_LIMIT;
+    for (size_t k = 0; k < LINKS; k++) {
+        throttle_set(&limits[k], &set);
+        speaker_be_network(&speaks[k], k);
+    }
+    for (uint64_t at = 1; at <= MINUTE; at++) {
+        pass_millisecond(at);
+        for (size_t k = 0; k < LINKS; k++)
+            for (; said[k] < said_by(k == 0 ? 1 : EACH, at); said[k]++) {
+                it.limits = limits[k];
+                it.speaks = &speaks[k];
+                heard[k] += to_router(&it, 1);
+                limits[k] = it.limits;
+            }
+    }
+    for (size_t k = 0; k < LINKS; k++)
+        all += heard[k];
+    for (size_t k = 1; k < LINKS; k++)
+        least = heard[k] < least ? heard[k] : least;
+    printf("%" PRIu64 " of %" PRIu64 " of one, of the others %" PRIu64 " at least, %" PRIu64 " of all\n", heard[0], said[0], least, all);
+    expect(heard[0] == said[0], "a link that tells little is heard whole");
+    expect(all <= EACH * (MINUTE / SECOND) + AT_ONCE, "all links are heard no more often than one may be");
+    expect(least + 1 >= (EACH - 1) * (MINUTE / SECOND) / LINKS, "each has its part");
+}
+
 /* An address has a client on each of some networks: as usual, with much larger shares, and with a lower rate. */
 enum { USUALLY, MUCH, SLOW, NETWORKS };
 
@@ -603,8 +638,8 @@ static void of_address(void)
 static const struct {
     const char *word;
     void (*does)(void);
-} WORDS_ALONE[] = {{"once", once}, {"two", two}, {"address", of_address}, {"narrow", narrow}, {"router", router}, {"accounts", accounts},
-                   {"gateway", gateway}};
+} WORDS_ALONE[] = {{"once", once}, {"two", two}, {"address", of_address}, {"narrow", narrow}, {"router", router}, {"links", links},
+                   {"accounts", accounts}, {"gateway", gateway}};
 
 int main(int count, char **words)
 {
