@@ -8,6 +8,7 @@ mod addresses;
 mod captures;
 mod ends;
 mod internets;
+mod limited;
 mod offers;
 mod packets;
 mod plans;
@@ -238,7 +239,7 @@ fn port(network: u32, node: u8) -> Result<Port, PortFault> {
     Port::new(Network(network), Node([0, 0, 0, 0, 0, node]), 1, 576)
 }
 
-/// The examples of a tunnel, of a segment, of receivers and of meters.
+/// The examples of a tunnel, of a plan, of a segment, of receivers and meters, and of limits.
 fn serve(rt: &HostRuntime) -> Result<()> {
     let cookies = Cookies {
         current: Node([2, 0x11, 0x22, 0x33, 0x44, 0x55]),
@@ -253,5 +254,6 @@ fn serve(rt: &HostRuntime) -> Result<()> {
     plans::plan(rt)?;
     segments::segment(rt, Node([0, 0, 0, 0, 0, 2]), Node([0, 0, 0, 0, 0, 0xAA]))?;
     shares::receivers(rt)?;
-    shares::meters(rt)
+    shares::meters(rt)?;
+    limited::limits(rt, &ROUTES)
 }
