@@ -95,8 +95,9 @@ static void count_on(gateway *it)
 {
     for (size_t k = 0; k < before.count; k++) {
         network *gone = &before.networks[k];
-        bool is_gone = next.becomes[k] == NOBODY, is_cut = before.moved[gone->cable - before.cables] == NULL;
-        network *on = is_gone ? first_of_network(it, gone->set->network) : &it->networks[next.becomes[k]];
+        size_t becomes = next.fates[k].becomes;
+        bool is_gone = becomes == IPXR_NO_ONE, is_cut = before.moved[gone->cable - before.cables] == NULL;
+        network *on = is_gone ? first_of_network(it, gone->set->network) : &it->networks[becomes];
         if (is_gone && on != NULL)
             counts_add(&on->counts, &gone->counts);
         if (is_cut && on != NULL && gone->set->type == LINK_QEMU_LISTEN)
