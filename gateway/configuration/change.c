@@ -90,17 +90,18 @@ static network *first_of_network(gateway *it, uint32_t number)
     return k < it->count ? &it->networks[k] : NULL;
 }
 
-/* What was counted of links that are there no more goes on at another of their network: a network's counts only grow. */
+/* What was counted of links that are there no more goes on at another of their network: a network's counts only grow. (a listener
+ * that another network has from now on counts for that one) */
 static void count_on(gateway *it)
 {
     for (size_t k = 0; k < before.count; k++) {
         network *gone = &before.networks[k];
         size_t becomes = next.fates[k].becomes;
-        bool is_gone = becomes == IPXR_NO_ONE, is_cut = before.moved[gone->cable - before.cables] == NULL;
-        network *on = is_gone ? first_of_network(it, gone->set->network) : &it->networks[becomes];
-        if (is_gone && on != NULL)
+        network *on = becomes == IPXR_NO_ONE ? first_of_network(it, gone->set->network) : &it->networks[becomes];
+        const cable *moved = before.moved[gone->cable - before.cables];
+        if (becomes == IPXR_NO_ONE && on != NULL)
             counts_add(&on->counts, &gone->counts);
-        if (is_cut && on != NULL && gone->set->type == LINK_QEMU_LISTEN)
+        if (on != NULL && gone->set->type == LINK_QEMU_LISTEN && (moved == NULL || on->cable != moved))
             on->counts.refused += gone->cable->refused;
     }
 }
