@@ -114,12 +114,25 @@ static bool begins_network(const both *all, size_t first, size_t place)
     return place == first || all->list[place]->port != all->list[place - 1]->port;
 }
 
+/* The port of a tunnel until now: where any that was free was taken, the one that this is, if the new file names it for the network. */
+static uint16_t old_port(const gateway *gate, const both *all, size_t place)
+{
+    const network_setting *set = all->list[place];
+    uint16_t taken = gate->networks[place].cable->local.port;
+    for (size_t k = gate->count; set->local.port == 0 && k < all->count; k++)
+        if (all->list[k]->type == LINK_DOSBOX && all->list[k]->network == set->network && all->list[k]->local.port == taken)
+            return taken;
+    return set->local.port;
+}
+
 static void compare_old(compared *it, const gateway *gate, const both *all)
 {
     for (size_t k = 0; k < gate->count; k++) {
         ipxr_plan_link *link = &it->old[k];
         *link = link_at(all, k);
         link->is_first = begins_network(all, 0, k);
+        if (link->carrier == IPXR_CARRIER_TUNNEL)
+            link->udp_port = old_port(gate, all, k);
         memcpy(link->node, gate->networks[k].node, NODE);
         link->has_node = true;
     }

@@ -352,6 +352,11 @@ def another_address():
         assert gate.counted(0x10, "clients") == 0
         until(lambda: comes_in(moved), "somebody comes in at the other port")
         gate.reload(at(0x10, "127.0.0.1:0"))
+        taken = port_in(gate.shown("links")[0]["link"])
+        b = Client(taken)
+        gate.reload(at(0x10, taken))
+        assert reaches(b, b), "the port that was free is written into the file"
+        gate.reload(at(0x10, "127.0.0.1:0"))
         b = Client(port_in(gate.shown("links")[0]["link"]))
         gate.reload(at(0x10, "0.0.0.0:0"))
         assert gate.shown("clients") == [], "nobody finds the tunnel at the port that is free now"
