@@ -28,8 +28,10 @@ PAIR = "{ i64, i64 }"
 CALLED = re.compile(r"(?m)^(?:declare|define) (?!internal |private |.*@llvm\.).*$")
 # Values that every system hands over alike, where nothing is said of bits above them; and two words, where C gives them back.
 WORD = r"(?:noundef )?(?:i8|i16|i32|i64|ptr)"
+# What a call of the module gives back as a bool: the module itself makes it 0 or 1 in as many bits as somebody reads.
+FLAG = "(?:noundef )?zeroext i1"
 ARGUMENTS = r"\((?:(?:(?:i8|i16|i32|i64|ptr)(?: noundef)?(?: %\w+)?|\.\.\.)(?:, |(?=\))))*\)"
-ALIKE = re.compile(rf"(?:declare (?:void|{WORD}|{PAIR})|define (?:void|{WORD})) @\w+{ARGUMENTS}(?: .*)?")
+ALIKE = re.compile(rf"(?:declare (?:void|{WORD}|{PAIR})|define (?:void|{WORD}|{FLAG})) @\w+{ARGUMENTS}(?: .*)?")
 ONLY_X86 = re.compile(r"(?m)^module asm.*$|^ .*\bcall\b.*\basm\b.*$|@llvm\.x86\.\S+")
 
 
