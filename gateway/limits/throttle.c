@@ -282,16 +282,17 @@ reason throttle_lets_in(throttle *it, const uint8_t *packet)
 }
 
 /* What all links with frames tell the router together: it says that to each client, whatever these receive else. Of it each link has its
- * part; one that tells alone has as much as its own limit. */
+ * part; one that tells alone has as much as its own limit. (once a minute a neighbour tells all that it has at once: that is always heard if
+ * it is no more than EACH, and within its part) */
 static bool links_tell(const speaker *from)
 {
-    enum { EACH = 8, OWN = 100 };
+    enum { EACH = 200 };
     static struct {
         ipxr_fair of;
         uint64_t clock;
     } told;
     const uint64_t between = SECOND_NS / LINK_ADVERTISEMENTS, most = LINK_ADVERTISEMENTS_AT_ONCE * between;
-    const ipxr_fair_setting setting = {.one = EACH * between, .own = OWN * between, .reserve = most / 2, .room = 2 * most};
+    const ipxr_fair_setting setting = {.one = EACH * between, .own = EACH * between, .reserve = most / 2, .room = 2 * most};
     if (told.of.setting.one == 0)
         (void)ipxr_fair_make(&told.of, &setting);
     ipxr_fair_look(&told.of, &told.clock, limit_clock());
