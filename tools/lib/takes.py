@@ -22,10 +22,10 @@ class Takes(NamedTuple):
 
 
 TAKES = {
-    "run": Takes("45", "17"),
+    "run": Takes("64", "22"),
     "show": Takes("6", "2"),
-    "embed": Takes("12", "5", "make run"),
-    "gateway": Takes("12", "5", "make run"),
+    "embed": Takes("13", "6", "make run"),
+    "gateway": Takes("13", "6", "make run"),
     "wasm": Takes("2", "2", "make run and make embed"),
     "page": Takes("2", "2", "make run and make embed"),
     "web": Takes("1", "1", "make embed"),
