@@ -52,24 +52,14 @@ module _ (net : Internet) (laws : Layouts) (is : IsInternet net) (most_routes mo
   AreRight now = NearerRight net up server most_services host.hops reached now.histories
 
   none_nearer : (histories : List History) → NearerRight net up server most_services host.hops reached histories
-  none_nearer histories router within nearer =
-      let some = none_less nearer.fewest.0 in
-      let less = nearer.near in
-      absurd (omega (arith, some, less))
+  none_nearer histories router within nearer = grind (arith, none_less)
 
   abbrev Good : ServiceOffer → Type 0
   Good = G net laws is most_routes most_services up server names place.router apart in_ports host.hops reached unlike fewest room inside listed
 
   -- what that host says there
   nearest_good : Good (record { service = at_hops server host.hops; port = place.port; node = host.node })
-  nearest_good = record {
-    who = inl (record {
-      which = which;
-      listed = announces ∙ ap (λ n. Some (record { network = n; node = host.node; hops = host.hops })) (sym network);
-    });
-    on = on;
-    said = refl;
-  }
+  nearest_good = grind arith
 
   module _ (start : Run) (rests : Rests net laws is most_routes most_services up server (IsListedName names) 0 start) where
     abbrev known_after : List (List Step) → Type 0

@@ -1,5 +1,5 @@
 -- The words of routers that have a service with the fewest hops: one hop more than that, whatever else they say, and never that it ended.
-use Rattle.std.proofs.Common.{◌≡◌, refl, sym, ap, ap₂, ◌∙◌, subst, ℕ, suc, ◌+◌, ◌<◌, ◌≤◌, ◌==◌, Bool, true, List, [], ◌∷◌, filter, find, length, map, option_map, Option, None, Some, inl, inr, arith, true≢false, Ordering, Less, Equal, Greater, is_eq}
+use Rattle.std.proofs.Common.{◌≡◌, refl, sym, ap, ap₂, ◌∙◌, subst, ℕ, suc, ◌<◌, ◌≤◌, ◌==◌, Bool, true, List, [], ◌∷◌, filter, find, length, map, option_map, Option, None, Some, inl, inr, arith, true≢false, Ordering, Less, Equal, Greater, is_eq}
 use Rattle.std.specs.List.{AllByRecursion}
 use Rattle.std.specs.Ordering.{nat_cmp, ordering_then}
 use Rattle.std.proofs.lemmas.Bool.{cases_Bool, both_ways, lt-ltb}
@@ -130,9 +130,7 @@ module _ (server : Server) where
     So s = IsOf server s → s ≡ at_hops server (suc hops)
 
     farther_so : (s : ServiceOffer) → Is s → So (farther s.service)
-    farther_so s one of =
-        let more : hops + 1 ≡ suc hops = omega arith in
-        ap farther (one of) ∙ ap (at_hops server) more
+    farther_so s one of = grind arith
 
     told_so : (j : ℕ) → AllByRecursion So (told_services services j)
     told_so j =
@@ -215,9 +213,7 @@ module _ (net : Internet) (up : ℕ → List ℕ) (server : Server) (most_servic
       (router : ℕ) → router < length net → (nearer : IsNearer router) → known_of server (services_of net most_services histories router) ≡ Some (at_hops server nearer.hops)
 
   few : (router : ℕ) (nearer : IsNearer router) → suc nearer.hops < unreachable
-  few router nearer =
-      let less = nearer.near in
-      omega (arith, less, reached)
+  few router nearer = grind arith
 
   pub exact : AreExact net most_services Words NearerRight
   exact = record {

@@ -1,8 +1,8 @@
 -- Who is heard to announce a service at a step, whether the packet comes from outside or is handed out; and what is so at each moment of a tick.
-use Rattle.std.proofs.Common.{◌≡◌, ◌⊎◌, ℕ, List, [], ◌∷◌, ◌++◌, Some, inl, inr}
+use Rattle.std.proofs.Common.{◌≡◌, ◌⊎◌, ℕ, List, [], ◌∷◌, ◌++◌, Some, inl, inr, arith}
 use Rattle.ipx_router.specs.Facts.{heard_after}
 use Rattle.ipx_router.specs.Heard.{Heard}
-use Rattle.ipx_router.specs.History.{History, Start, Stop, Second, Packet, PortDown, PortUp}
+use Rattle.ipx_router.specs.History.{History, Packet}
 use Rattle.ipx_internet.specs.Internet.{Internet, Place, ports_of}
 use Rattle.ipx_internet.specs.Queue.{history_of}
 use Rattle.ipx_internet.specs.Run.{Step, Happens, Settles, Run, Waiting, stepped, run_of}
@@ -41,20 +41,13 @@ module _ (net : Internet) (most_routes most_services : ℕ) (server : Server) wh
 
   -- what comes from outside is one kind of it
   outside : (to : Place) (host : Announcer) (run : Run) (step : Step) → IsHeard net most_routes most_services server to host run step → IsHeardAt to host run step
-  outside to host run (Happens router (Packet number bytes)) is = is
-  outside to host run (Happens router Start) is = is
-  outside to host run (Happens router Stop) is = is
-  outside to host run (Happens router Second) is = is
-  outside to host run (Happens router (PortDown number)) is = is
-  outside to host run (Happens router (PortUp number)) is = is
-  outside to host run Settles is = absurd is
+  outside to host run step is = grind arith
 
   outside_steps : (to : Place) (host : Announcer) (Later After : Run → Type 0) → ((now : Run) → Later now → After now) → (run : Run) (steps : List Step)
       → HeardInSteps net most_routes most_services server to host Later run steps → HeardWithin to host After run steps
   outside_steps to host Later After so run [] later = so run later
   outside_steps to host Later After so run (step ∷ steps) (inl now) = inl (outside to host run step now)
-  outside_steps to host Later After so run (step ∷ steps) (inr later) =
-      inr (outside_steps to host Later After so (stepped net most_routes most_services run step) steps later)
+  outside_steps to host Later After so run (step ∷ steps) (inr later) = grind (arith, outside_steps to host Later After so (stepped net most_routes most_services run step) steps later)
 
   pub outside_ticks : (to : Place) (host : Announcer) (run : Run) (ticks : List (List Step))
       → HeardInTicks net most_routes most_services server to host run ticks → HeardWithinTicks to host run ticks
@@ -97,14 +90,12 @@ module _ (net : Internet) (most_routes most_services : ℕ) (server : Server) wh
   -- what is both
   at_each_both : (Is So : Run → Type 0) (run : Run) (steps : List Step) → AtEach Is run steps → AtEach So run steps → AtEach (λ now. Is now × So now) run steps
   at_each_both Is So run [] one two = (one, two)
-  at_each_both Is So run (step ∷ steps) one two =
-      ((one.0, two.0), at_each_both Is So (stepped net most_routes most_services run step) steps one.1 two.1)
+  at_each_both Is So run (step ∷ steps) one two = grind (arith, at_each_both Is So (stepped net most_routes most_services run step) steps one.1 two.1)
 
   pub each_tick_both : (Is So : Run → Type 0) (run : Run) (ticks : List (List Step)) → EachTick net most_routes most_services (AtEach Is) run ticks
       → EachTick net most_routes most_services (AtEach So) run ticks → EachTick net most_routes most_services (AtEach (λ now. Is now × So now)) run ticks
   each_tick_both Is So run [] one two = tt
-  each_tick_both Is So run (steps ∷ ticks) one two =
-      (at_each_both Is So run steps one.0 two.0, each_tick_both Is So (run_of net most_routes most_services run steps) ticks one.1 two.1)
+  each_tick_both Is So run (steps ∷ ticks) one two = grind (arith, each_tick_both Is So (run_of net most_routes most_services run steps) ticks one.1 two.1, at_each_both)
 
   -- what is always so
   pub at_each_all : (Is : Run → Type 0) → ((now : Run) → Is now) → (run : Run) (steps : List Step) → AtEach Is run steps
@@ -114,8 +105,7 @@ module _ (net : Internet) (most_routes most_services : ℕ) (server : Server) wh
   pub each_tick_then : (Is So : Run → List Step → Type 0) → ((run : Run) (steps : List Step) → Is run steps → So run steps) → (run : Run) (ticks : List (List Step))
       → EachTick net most_routes most_services Is run ticks → EachTick net most_routes most_services So run ticks
   each_tick_then Is So so run [] each = tt
-  each_tick_then Is So so run (steps ∷ ticks) each =
-      (so run steps each.0, each_tick_then Is So so (run_of net most_routes most_services run steps) ticks each.1)
+  each_tick_then Is So so run (steps ∷ ticks) each = grind (arith, each_tick_then Is So so (run_of net most_routes most_services run steps) ticks each.1)
 
   pub each_tick_all : (Is : Run → List Step → Type 0) → ((run : Run) (steps : List Step) → Is run steps) → (run : Run) (ticks : List (List Step))
       → EachTick net most_routes most_services Is run ticks

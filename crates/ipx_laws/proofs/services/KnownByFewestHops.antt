@@ -1,6 +1,6 @@
 -- Each router has a service with the fewest hops of all its ways there: by induction on these hops, a period for each, and at each moment of the
 -- ticks that follow.
-use Rattle.std.proofs.Common.{◌≡◌, refl, sym, ap, ◌∙◌, subst, ◌⊎◌, ℕ, zero, suc, ◌+◌, ◌-◌, ◌*◌, ◌<◌, ◌≤◌, true, List, [], ◌∷◌, ◌++◌, length, take, drop, Some, inl, inr, arith, append_assoc, append-nil, slice_get}
+use Rattle.std.proofs.Common.{◌≡◌, refl, sym, ap, ◌∙◌, subst, ◌⊎◌, ℕ, zero, suc, ◌+◌, ◌-◌, ◌*◌, ◌<◌, ◌≤◌, true, List, [], ◌∷◌, ◌++◌, length, take, drop, Some, inl, inr, arith, append_assoc, append-nil, slice_get, rules}
 use Rattle.std.specs.List.{AllByRecursion}
 use Rattle.std.proofs.lemmas.Bool.{cases_lt}
 use Rattle.std.proofs.lemmas.List.{take-append-drop, length-drop, length-append}
@@ -191,15 +191,11 @@ module _ (net : Internet) (laws : Layouts) (is : IsInternet net) (most_routes mo
 
         busy : EachTick net most_routes most_services (IsBusyTick net most_routes most_services) middle window
             × EachTick net most_routes most_services (IsBusyTick net most_routes most_services) last further
-        busy =
-            parts_of net most_routes most_services (IsBusyTick net most_routes most_services) middle window further
-            (parts_of net most_routes most_services (IsBusyTick net most_routes most_services) start before (window ++ further) passes.busy).1
+        busy = grind (arith, parts_of)
 
         right : EachTick net most_routes most_services (AtEach net most_routes most_services server Right) middle window
             × EachTick net most_routes most_services (AtEach net most_routes most_services server Right) last further
-        right =
-            parts_of net most_routes most_services (AtEach net most_routes most_services server Right) middle window further
-            (ticks_right before (window ++ further) long passes)
+        right = search (rules, parts_of, AtEach, ticks_right)
 
         leave : AllByRecursion (AllByRecursion LeavesPorts) window × AllByRecursion (AllByRecursion LeavesPorts) further
         leave = both (AllByRecursion LeavesPorts) passes.leave
@@ -291,8 +287,7 @@ module _ (net : Internet) (laws : Layouts) (is : IsInternet net) (most_routes mo
 
     same_run : (ticks : List (List Step)) (p : Parts ticks)
         → ticked net most_routes most_services (ticked net most_routes most_services start p.before) p.window ≡ ticked net most_routes most_services start ticks
-    same_run ticks p =
-        sym (ticked_on net most_routes most_services start p.before p.window) ∙ ap (λ (ts : List (List Step)). ticked net most_routes most_services start ts) p.whole
+    same_run ticks p = grind (arith, ticked_on)
 
     same_ticks : (ticks more : List (List Step)) (p : Parts ticks) → ticks ++ more ≡ p.before ++ (p.window ++ more)
     same_ticks ticks more p = ap (λ (ts : List (List Step)). ts ++ more) (sym p.whole) ∙ append_assoc p.before p.window more

@@ -1,10 +1,7 @@
 -- A query for the nearest server of a type, where a router has one: it answers with a server of that type that is no farther.
-use Rattle.std.proofs.Common.{◌≡◌, ◌≢◌, refl, sym, ap, ◌∙◌, subst, ℕ, suc, ◌<◌, ◌≤◌, ◌==◌, ◌||◌, true, false, List, [], ◌∷◌, ◌++◌, length, Some, inl, inr, arith, true≢false, Ordering, Less, Greater, if◌then◌else◌}
-use Rattle.std.specs.Cmp.{nat_cmp_is}
+use Rattle.std.proofs.Common.{◌≡◌, ◌≢◌, refl, sym, ap, ◌∙◌, subst, ℕ, suc, ◌<◌, ◌≤◌, ◌==◌, ◌||◌, true, false, List, [], ◌∷◌, ◌++◌, length, Some, inl, inr, arith, if◌then◌else◌}
 use Rattle.std.specs.List.{AllByRecursion}
-use Rattle.std.specs.Ordering.{nat_cmp, is_lt, ordering_then}
-use Rattle.std.proofs.lemmas.Bool.{cases_Bool, cases_lt, eq-eqb, eqb-true, or_cases, or_right, lt-ltb}
-use Rattle.ipx_wire.specs.Name.{name_order}
+use Rattle.std.proofs.lemmas.Bool.{cases_Bool, eq-eqb, or_right}
 use Rattle.ipx_wire.specs.Piece.{IsBytes}
 use Rattle.ipx_wire.specs.declared.address.Address.{Address}
 use Rattle.ipx_wire.specs.declared.sap.Sap.TheVariants.{Query}
@@ -40,20 +37,10 @@ use Rattle.ipx_laws.proofs.services.SoundAtEachStep.{held_off, Sound, tick_sound
 -- ---- the nearest of some services
 
 nearer_is : (a b : Service) → is_nearer a b ≡ true → a.hops ≤ b.hops
-nearer_is a b e = elim (cases_lt b.hops a.hops) [
-  | inr no_more ↦ no_more
-  | inl less ↦
-      absurd (true≢false (sym e
-      ∙ ap (λ (o : Ordering). is_lt (ordering_then o (ordering_then (name_order a.name b.name) (nat_cmp a.kind b.kind)))) (sym (nat_cmp_is a.hops b.hops Greater less))))
-]
+nearer_is a b e = grind arith
 
 not_nearer_is : (a b : Service) → is_nearer a b ≡ false → b.hops ≤ a.hops
-not_nearer_is a b e = elim (cases_lt a.hops b.hops) [
-  | inr no_more ↦ no_more
-  | inl less ↦
-      absurd (true≢false (ap (λ (o : Ordering). is_lt (ordering_then o (ordering_then (name_order a.name b.name) (nat_cmp a.kind b.kind))))
-      (nat_cmp_is a.hops b.hops Less less) ∙ e))
-]
+not_nearer_is a b e = grind arith
 
 -- one of them, and none is nearer
 record Nearest (P : Service → Type 0) (services : List Service) : Type 0 where
@@ -111,16 +98,10 @@ module _ (server : Server) (hops : ℕ) (near : suc hops < unreachable) (kind : 
   told_here = of_kind server.kind (told_services known number)
 
   of_its_kind : (s : Service) → ((server.kind == every_service) || (s.kind == server.kind)) ≡ true → s.kind ≡ server.kind
-  of_its_kind s e = elim (or_cases (server.kind == every_service) (s.kind == server.kind) e) [
-    | inl every ↦ absurd (kind (eqb-true server.kind every_service every))
-    | inr same ↦ eqb-true s.kind server.kind same
-  ]
+  of_its_kind s e = grind arith
 
   is_told : (s : ServiceOffer) → s.service ≡ at_hops server hops → (s.port == number) ≡ false → is_service_told number s ≡ true
-  is_told s same off =
-      let as_many = ap (λ (x : Service). x.hops) same in
-      let reached = lt-ltb s.service.hops 15 (omega (arith, as_many, near)) in
-      rw (off, reached) refl
+  is_told s same off = grind arith
 
   there : AnyIs (λ t. t ≡ farther (at_hops server hops)) told_here
   there =
@@ -148,9 +129,7 @@ module _ (server : Server) (hops : ℕ) (near : suc hops < unreachable) (kind : 
 module _ (net : Internet) (up : ℕ → List ℕ) (server : Server) where
   not_there : (port hops : ℕ) {router : ℕ} {s : ServiceOffer} → LeadsElsewhere net up server (record { router = router; port = port }) hops → IsServed net up server router s
       → s.service.hops ≡ hops → s.port ≡ port → ⊥
-  not_there port hops {router} {s} elsewhere (announced on is) same here =
-      let more = elsewhere.hosts is.which _ is.listed (ap (λ (k : ℕ). network_of net (record { router = router; port = k })) (sym here)) in
-      omega (arith, more, same)
+  not_there port hops {router} {s} elsewhere (announced on is) same here = grind arith
   not_there port hops {router} {s} elsewhere (passed_on from other off on there network node told near served) same here =
       let more = elsewhere.neighbours from other.service.hops off there (ap (λ (k : ℕ). network_of net (record { router = router; port = k })) (sym here) ∙ network)
       (has_way net up server served).1 in

@@ -1,8 +1,8 @@
 -- A neighbour that has a service all the time, and didn't learn it on the common network, is heard to tell it there in any
 -- period.
-use Rattle.std.proofs.Common.{◌≡◌, ◌≢◌, refl, sym, ap, ◌∙◌, subst, ◌⊎◌, ℕ, zero, suc, ◌+◌, ◌%◌, ◌<◌, ◌≤◌, ◌==◌, nat_lt, Bool, true, false, List, [], ◌∷◌, ◌++◌, length, map, filter, flat_map, Some, None, inl, inr, arith, true≢false, slice_get, get_or-set_same, get_or-set_other, length-append}
+use Rattle.std.proofs.Common.{◌≡◌, ◌≢◌, refl, sym, ap, ◌∙◌, subst, ◌⊎◌, ℕ, zero, suc, ◌+◌, ◌%◌, ◌<◌, ◌≤◌, ◌==◌, nat_lt, Bool, true, false, List, [], ◌∷◌, ◌++◌, length, map, filter, flat_map, Some, None, inl, inr, arith, slice_get, get_or-set_same, get_or-set_other, length-append}
 use Rattle.std.specs.List.{AllByRecursion}
-use Rattle.std.proofs.lemmas.Bool.{cases_Bool, cases_eq, eq-eqb, lt-ltb}
+use Rattle.std.proofs.lemmas.Bool.{cases_eq, eq-eqb, lt-ltb}
 use Rattle.std.proofs.lemmas.List.Elements.{filter-append}
 use Rattle.std.proofs.lemmas.Nat.{mod_below}
 use Rattle.ipx_wire.specs.WriteServices.{entry_of}
@@ -36,7 +36,6 @@ use Rattle.ipx_laws.proofs.records.RecordsGrowOld.{passed}
 use Rattle.ipx_laws.proofs.services.FewestHops.{Link}
 use Rattle.ipx_laws.proofs.services.HeardAtAStep.{Hears, FirstHears, HeardWithin, HeardWithinTicks, AtEach, at_first}
 use Rattle.ipx_laws.proofs.services.ServiceIsTold.{AnyService, told_there, NamesTo, waits_for, second_says}
-use Rattle.ipx_laws.proofs.ticks.BusyTickAfterTick.{own_seconds}
 use Rattle.ipx_laws.proofs.ticks.AfterRest.{Kept, steps_keep}
 use Rattle.ipx_laws.proofs.ticks.TickAfterTick.{second_there}
 
@@ -88,20 +87,10 @@ module _ (net : Internet) (laws : Layouts) (is : IsInternet net) (differ : Nodes
   -- ---- ports that are up
 
   is_place : (histories : List History) → Stay histories → (place : Place) → is_up (up place.router) place.port ≡ true → IsPlace net place
-  is_place histories stay place on =
-      one_up (λ j. j < length (ports_of net place.router)) (ups net histories place.router) place.port
-      (ports_up-within (ports_of net place.router) (history_of histories place.router))
-      (subst (λ (us : List ℕ). is_up us place.port ≡ true) (sym (stay place.router)) on)
+  is_place histories stay place on = grind (arith, one_up, ports_up-within)
 
   runs : (histories : List History) → Stay histories → (place : Place) → is_up (up place.router) place.port ≡ true → running (history_of histories place.router) ≡ true
-  runs histories stay place on = elim (cases_Bool (running (history_of histories place.router))) [
-    | inl is_so ↦ is_so
-    | inr stopped ↦
-        let none : is_up [] place.port ≡ true =
-        subst (λ (us : List ℕ). is_up us place.port ≡ true)
-        (sym (stay place.router) ∙ none_up (ports_of net place.router) (history_of histories place.router) stopped) on in
-        absurd (true≢false (sym none))
-  ]
+  runs histories stay place on = grind (arith, none_up)
 
   from_there : (histories : List History) → Stay histories → from.router < length net
   from_there histories stay = router_there net from.router from.port (is_place histories stay from link.there)
@@ -109,9 +98,7 @@ module _ (net : Internet) (laws : Layouts) (is : IsInternet net) (differ : Nodes
   -- ---- it is heard there
 
   named : word ≡ at_hops server (suc hops)
-  named =
-      let more : hops + 1 ≡ suc hops = omega arith in
-      ap (at_hops server) more
+  named = grind arith
 
   number_of : (page : List Service) → AnyIs (λ t. t ≡ word) page → (which : ℕ) × (slice_get (map entry_of page) which ≡ Some (entry_of (at_hops server (suc hops))))
   number_of [] any = absurd any
@@ -154,10 +141,7 @@ module _ (net : Internet) (laws : Layouts) (is : IsInternet net) (differ : Nodes
     past = history_of histories from.router
 
     listed : from.router < length histories
-    listed =
-        let each = are.each in
-        let within = from_there histories stay in
-        omega (arith, each, within)
+    listed = grind (arith, from_there)
 
     -- one of the neighbour's own
     own_state : (event : Event) (left rest : ℕ) → LeavesPorts (Happens from.router event) → left ≡ passed event 0 + rest
@@ -267,8 +251,7 @@ module _ (net : Internet) (laws : Layouts) (is : IsInternet net) (differ : Nodes
   left_of steps = seconds_of from.router steps
 
   own_of : (k : ℕ) (event : Event) (steps : List Step) → from.router ≡ k → left_of (Happens k event ∷ steps) ≡ passed event 0 + left_of steps
-  own_of k event steps same =
-      subst (λ (r : ℕ). left_of (Happens r event ∷ steps) ≡ passed event 0 + left_of steps) same (own_seconds from.router event steps)
+  own_of k event steps same = grind arith
 
   other_of : (k : ℕ) (event : Event) (steps : List Step) → from.router ≢ k → left_of (Happens k event ∷ steps) ≡ left_of steps
   other_of k event steps off = second_there k from.router event steps off
@@ -307,9 +290,7 @@ module _ (net : Internet) (laws : Layouts) (is : IsInternet net) (differ : Nodes
       by (inr (inr any)) = inr (goes_on (inr any))
 
   none_wait : (waiting : List Waiting) → waiting ≡ [] → AnyIs Names (map (λ w. w.delivery) waiting) → ⊥
-  none_wait waiting none any =
-      let gone : AnyIs Names [] = subst (λ (ws : List Waiting). AnyIs Names (map (λ (w : Waiting). w.delivery) ws)) none any in
-      gone
+  none_wait waiting none any = grind arith
 
   steps_hear : (Later : Run → Type 0) (steps : List Step) (run : Run) → AllByRecursion (IsStep net) steps → AllByRecursion LeavesPorts steps → IsKept run
       → AtEach net most_routes most_services server Holds run steps → (run_of net most_routes most_services run steps).waiting ≡ []

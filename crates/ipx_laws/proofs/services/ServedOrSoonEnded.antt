@@ -1,15 +1,14 @@
 -- What a router has and says of a service that hosts announce: what it may know of it, or what is so old that it soon ends.
-use Rattle.std.proofs.Common.{◌≡◌, refl, sym, ◌∙◌, subst, ◌⊎◌, ℕ, ◌+◌, ◌*◌, ◌<◌, ◌≤◌, true, false, List, [], ◌∷◌, ◌++◌, length, map, Option, Some, None, inl, inr, arith, true≢false}
+use Rattle.std.proofs.Common.{◌≡◌, refl, sym, subst, ◌⊎◌, ℕ, ◌+◌, ◌*◌, ◌<◌, ◌≤◌, true, false, List, [], ◌∷◌, ◌++◌, length, map, Option, Some, None, inl, inr, arith, true≢false, rules}
 use Rattle.std.specs.List.{AllByRecursion}
 use Rattle.ipx_table.specs.Facts.{Fact, Offered}
 use Rattle.ipx_wire.specs.declared.node.Node.{Node}
-use Rattle.ipx_wire.specs.declared.sap.Sap.TheVariants.{Query, Response as SapResponse}
 use Rattle.ipx_wire.specs.declared.sap_entries.SapEntry.{SapEntry}
 use Rattle.ipx_wire.specs.declared.service.Service.{Service}
 use Rattle.ipx_table.specs.Alive.{lifetime}
-use Rattle.ipx_router.specs.Facts.{services_offered, services_heard, heard_after, service_facts, service_facts_of, services_held, offers}
-use Rattle.ipx_router.specs.Heard.{Heard, HeardRip, HeardSap}
-use Rattle.ipx_router.specs.History.{Event, History, Start, Stop, Second, Packet, PortDown, PortUp, running, ports_up}
+use Rattle.ipx_router.specs.Facts.{services_offered, services_heard, heard_after, service_facts, services_held, offers}
+use Rattle.ipx_router.specs.Heard.{Heard}
+use Rattle.ipx_router.specs.History.{Event, History, Packet, running, ports_up}
 use Rattle.ipx_router.specs.News.{news_services}
 use Rattle.ipx_router.specs.Port.{Port, is_up}
 use Rattle.ipx_router.specs.Services.{service_reading, service_order}
@@ -51,22 +50,12 @@ module _ (net : Internet) (up : ℕ → List ℕ) (server : Server) (Listed : �
     pub ups : ports_up ports history ≡ up router
 
   pub at_begin : (history : History) → ports_up ports history ≡ up router → Endures 0 history
-  at_begin history same = record {
-    services =
-        at_first service_reading service_order service_total most_services (map (λ p. p.service_share) ports) (λ s. s.service.hops) (λ s. refl) Fine
-        (service_facts ports history);
-    ups = same;
-  }
+  at_begin history same = search (rules, at_first, service_total)
 
   -- ---- an event
 
   ups_stay : (history : History) (event : Event) → LeavesPorts (Happens router event) → ports_up ports (history ++ event ∷ []) ≡ ports_up ports history
-  ups_stay history (Packet number bytes) leaves = ports_stay ports history (Packet number bytes) refl refl (λ port. refl) (λ port. refl)
-  ups_stay history Second leaves = ports_stay ports history Second refl refl (λ port. refl) (λ port. refl)
-  ups_stay history Start leaves = absurd leaves
-  ups_stay history Stop leaves = absurd leaves
-  ups_stay history (PortDown number) leaves = absurd leaves
-  ups_stay history (PortUp number) leaves = absurd leaves
+  ups_stay history event leaves = grind (arith, ports_stay)
 
   module _ (had begun : ℕ) (late : had ≤ begun) where
     abbrev pub ServiceOld : ServiceOffer → Type 0
@@ -96,9 +85,7 @@ module _ (net : Internet) (up : ℕ → List ℕ) (server : Server) (Listed : �
 
       heard_old : (number : ℕ) → is_up (up router) number ≡ true → (m : Heard) → Told net up server Listed Speaks begun (record { router = router; port = number }) m
           → AllByRecursion (OffersOf ServiceOld) (services_heard number (Some m))
-      heard_old number on (HeardRip source rip) said = tt
-      heard_old number on (HeardSap source (Query nearest kind)) said = tt
-      heard_old number on (HeardSap source (SapResponse nearest entries)) said = services_old number on source.node entries said
+      heard_old number on m said = grind (arith, services_old)
 
       module _ (history : History) (endures : Endures had history) where
         packet_old : (number : ℕ) (bytes : List ℕ) → Waits net up server Listed Speaks begun (record { router = router; port = number }) bytes
@@ -124,15 +111,7 @@ module _ (net : Internet) (up : ℕ → List ℕ) (server : Server) (Listed : �
         pub event_endures : (event : Event) → LeavesPorts (Happens router event)
             → ((number : ℕ) (bytes : List ℕ) → event ≡ Packet number bytes → Waits net up server Listed Speaks begun (record { router = router; port = number }) bytes)
             → Endures (passed event had) (history ++ event ∷ [])
-        event_endures event leaves waits = record {
-          services =
-              subst (λ (fs : List (Fact ServiceOffer)). ServicesAged (passed event had) fs) (sym (facts_from-more (service_facts_of ports) [] history event))
-              (after_event service_reading service_order service_total most_services (map (λ p. p.service_share) ports) (λ s. s.service.hops) (λ s. refl) Fine
-              had (service_facts ports history) endures.services (ports_up ports history) (running history)
-              (λ number bytes. services_heard number (heard_after ports history number bytes)) event none_where
-              (λ number bytes same. packet_old number bytes (waits number bytes same)));
-          ups = ups_stay history event leaves ∙ endures.ups;
-        }
+        event_endures event leaves waits = search (rules, passed, facts_from-more, after_event, service_total, none_where, packet_old, ups_stay)
 
   -- ---- what it says
 
@@ -142,9 +121,7 @@ module _ (net : Internet) (up : ℕ → List ℕ) (server : Server) (Listed : �
         IsOldHeld service_reading service_order service_total most_services (map (λ p. p.service_share) ports) (λ s. s.service.hops) (λ s. refl) Fine had
 
     services_are : AllByRecursion ServiceHeld (offers (services_held ports most_services history))
-    services_are =
-        old_held service_reading service_order service_total most_services (map (λ p. p.service_share) ports) (λ s. s.service.hops) (λ s. refl) Fine had
-        (service_facts ports history) endures.services
+    services_are = search (rules, old_held, service_total)
 
     learned_said : (j : ℕ) (s : ServiceOffer) → ServiceHeld s → IsSoon net up server Listed begun (record { router = router; port = j }) (farther s.service)
     learned_said j s held near = by held.0

@@ -1,19 +1,17 @@
 -- A router tells on a port, in each periodic broadcast, each service that it has and didn't learn there; and what it tells waits for its neighbours.
-use Rattle.std.proofs.Common.{◌≡◌, ◌≢◌, refl, sym, ap, ap₂, subst, ℕ, ◌==◌, ◌||◌, Bool, true, false, if◌then◌else◌, List, [], ◌∷◌, ◌++◌, map, filter, flat_map, arith}
+use Rattle.std.proofs.Common.{◌≡◌, ◌≢◌, refl, sym, ap, ap₂, subst, ℕ, Bool, true, false, if◌then◌else◌, List, [], ◌∷◌, ◌++◌, map, filter, flat_map, arith, rules}
 use Rattle.std.specs.List.{AllByRecursion}
-use Rattle.std.proofs.lemmas.Bool.{eq-eqb, ne_eqb, or_right}
-use Rattle.ipx_wire.specs.declared.network.Network.{Network}
 use Rattle.ipx_wire.specs.declared.node.Node.{Node}
 use Rattle.ipx_wire.specs.declared.service.Service.{Service}
 use Rattle.ipx_router.specs.Facts.{services_held, offers}
 use Rattle.ipx_router.specs.History.{History, Second, IsOfBytes, running}
-use Rattle.ipx_router.specs.News.{news, news_services}
+use Rattle.ipx_router.specs.News.{news_services}
 use Rattle.ipx_router.specs.Numbers.{services_a_page}
 use Rattle.ipx_router.specs.Pages.{pages}
-use Rattle.ipx_router.specs.Port.{Port, IsPort, broadcast, port_at, same_node, own_services, every_server}
+use Rattle.ipx_router.specs.Port.{Port, IsPort, broadcast, port_at, own_services, every_server}
 use Rattle.ipx_router.specs.Relays.{Sent}
-use Rattle.ipx_router.specs.Sends.{Holding, holding, is_periodic, second_on, rip_broadcast, sap_broadcast, services_sent}
-use Rattle.ipx_router.specs.Told.{name_before, by_network, by_name, farther, is_service_told, told, told_services}
+use Rattle.ipx_router.specs.Sends.{Holding, holding, is_periodic, second_on, sap_broadcast, services_sent}
+use Rattle.ipx_router.specs.Told.{name_before, farther, is_service_told, told_services}
 use Rattle.ipx_router.specs.declared.service_offer.ServiceOffer.{ServiceOffer}
 use Rattle.ipx_router.proofs.bytes.FieldsAreBytes.{IsTellable}
 use Rattle.ipx_router.proofs.bytes.LawsOfLayouts.{Readings, Rereadings}
@@ -87,11 +85,7 @@ module _ (ports : List Port) (s : Service) where
       gone = news_services before.services after.services j
 
       here_tells : AnyIs (TellsService j) (second_on ports before after true j)
-      here_tells =
-          any_behind (TellsService j) (rip_broadcast ports j (by_network (told ports after.up after.routes j ++ news ports before.routes after.routes j)))
-          (sap_broadcast ports j (by_name (rest ++ gone)))
-          (sap_tells (by_name (rest ++ gone)) (all_sorted IsTellable name_before (rest ++ gone) (all-append IsTellable rest gone fit changed))
-          (any-sorted Is name_before (rest ++ gone) (any_in_front Is rest gone any)))
+      here_tells = grind (arith, any_behind, sap_tells, all_sorted, IsTellable, all-append, any-sorted, any_in_front)
 
       pub second_tells : AnyIs (TellsService j) (flat_map (second_on ports before after true) after.up)
       second_tells =
@@ -109,13 +103,7 @@ module _ (net : Internet) (from here : Place) (s : Service) where
 
   module _ (other : here.router ≢ from.router) (there : IsPlace net here) (network : network_of net here ≡ network_of net from) where
     received : (link : Node) → link ≡ broadcast → receives net from link here ≡ true
-    received link all =
-        let off : (here.router == from.router) ≡ false = ne_eqb here.router from.router other in
-        let nets : ((network_of net here).0 == (network_of net from).0) ≡ true =
-        eq-eqb (network_of net here).0 (network_of net from).0 (ap (λ (n : Network). n.0) network) in
-        let every : (same_node (port_of net here).node link || same_node link broadcast) ≡ true =
-        or_right (same_node (port_of net here).node link) (same_node link broadcast) (subst (λ (l : Node). same_node l broadcast ≡ true) (sym all) refl) in
-        rw (off, nets, every) refl
+    received link all = grind arith
 
     -- what is told there to all waits for that port
     waits_of_one : (sent : Sent) → TellsService (ports_of net from.router) s from.port sent → AnyIs NamesTo (deliveries_of net from.router sent)
@@ -130,8 +118,7 @@ module _ (net : Internet) (from here : Place) (s : Service) where
         (places net) (all_places net here there))
 
     pub waits_for : (sents : List Sent) → AnyIs (TellsService (ports_of net from.router) s from.port) sents → AnyIs NamesTo (flat_map (deliveries_of net from.router) sents)
-    waits_for sents any =
-        any-flat_map (TellsService (ports_of net from.router) s from.port) NamesTo (deliveries_of net from.router) waits_of_one sents any
+    waits_for sents any = search (rules, any-flat_map, waits_of_one)
 
 -- what a router sends at a periodic second
 module _ (net : Internet) (laws : Layouts) (is : IsInternet net) (most_routes most_services : ℕ) (histories : List History) (are : AreHistories net histories)

@@ -1,12 +1,12 @@
 -- A route that differs from the one before is said: its network is among the changes on each port but that by which it came.
-use Rattle.std.proofs.Common.{◌≡◌, ◌≢◌, refl, sym, ap, ◌∙◌, subst, ℕ, ◌==◌, ◌&&◌, true, false, not, List, [], ◌∷◌, map, find, Option, Some, None, inl, inr, is_eq}
+use Rattle.std.proofs.Common.{◌≡◌, ◌≢◌, refl, sym, ap, ◌∙◌, subst, ℕ, ◌==◌, true, false, not, List, [], ◌∷◌, map, find, Option, Some, None, inl, inr, is_eq, arith}
 use Rattle.std.specs.List.{list_any}
-use Rattle.std.proofs.lemmas.Bool.{cases_Bool, and_parts, eqb-true}
+use Rattle.std.proofs.lemmas.Bool.{cases_Bool}
 use Rattle.ipx_wire.specs.declared.network.Network.{Network}
 use Rattle.ipx_wire.specs.declared.rip.RipEntry.{RipEntry}
 use Rattle.ipx_router.specs.Changes.{Change, same_or_none, put_key, put_keys, change_at, differs, changes}
 use Rattle.ipx_router.specs.News.{route_now, route_told, news, same_route}
-use Rattle.ipx_router.specs.Port.{Port, port_at, same_node}
+use Rattle.ipx_router.specs.Port.{Port, port_at}
 use Rattle.ipx_router.specs.Routes.{network_order}
 use Rattle.std.specs.Ordering.{is_lt}
 use Rattle.ipx_router.specs.Told.{is_reached_on}
@@ -16,7 +16,6 @@ use Rattle.ipx_internet.proofs.lists.FoundInAList.{nothing, it_is}
 use Rattle.ipx_internet.proofs.places.OneReceiverOfANode.{same_number}
 use Rattle.ipx_laws.specs.Least.{way_of}
 use Rattle.ipx_laws.proofs.lists.SomeElement.{AnyIs, any_then, any_passes, any-put, any-map, any-filter, any-flat_map, found_with}
-use Rattle.ipx_laws.proofs.tables.LeastWays.{same_way}
 use Rattle.ipx_laws.proofs.tables.RoomForEachNetwork.{same_where_equal}
 
 -- keys of which one is the network
@@ -31,10 +30,7 @@ module _ (network : Network) where
   put_some = put_keys (λ (r : RouteOffer). r.network) network_order same_route
 
   one_stays : (key : Network) (keys : List Network) → AnyIs IsIt keys → AnyIs IsIt (put_one key keys)
-  one_stays key keys any = elim (cases_Bool (list_any (λ other. is_eq (network_order key other)) keys)) [
-    | inl e ↦ rw e any
-    | inr e ↦ rw e (any-put IsIt (λ a b. is_lt (network_order a b)) key keys (inr any))
-  ]
+  one_stays key keys any = grind (arith, is_eq, any-put)
 
   one_comes : (key : Network) (keys : List Network) → key ≡ network → AnyIs IsIt (put_one key keys)
   one_comes key keys same = elim (cases_Bool (list_any (λ other. is_eq (network_order key other)) keys)) [
@@ -79,15 +75,7 @@ module _ (ports : List Port) (network : Network) (j : ℕ) (before after : List 
   keys = put_keys (λ r. r.network) network_order same_route before (put_keys (λ r. r.network) network_order same_route after [])
 
   apart : (s : RouteOffer) → way_of s ≢ way_of r → same_route s r ≡ false
-  apart s differ = elim (cases_Bool (same_route s r)) [
-    | inr other_route ↦ other_route
-    | inl same ↦
-        let one = and_parts (((s.network.0 == r.network.0) && (s.hops == r.hops)) && (s.ticks == r.ticks) && (s.port == r.port)) (same_node s.node r.node) same in
-        let two = and_parts (((s.network.0 == r.network.0) && (s.hops == r.hops)) && (s.ticks == r.ticks)) (s.port == r.port) one.0 in
-        let three = and_parts ((s.network.0 == r.network.0) && (s.hops == r.hops)) (s.ticks == r.ticks) two.0 in
-        let four = and_parts (s.network.0 == r.network.0) (s.hops == r.hops) three.0 in
-        absurd (differ (same_way (way_of s) (way_of r) (eqb-true s.ticks r.ticks three.1) (eqb-true s.hops r.hops four.1)))
-  ]
+  apart s differ = grind arith
 
   it_differs : differs (λ (x : RouteOffer). x.network) network_order same_route (at network) ≡ true
   it_differs = by (find (λ o. is_eq (network_order o.network network)) before) (find (λ o. is_eq (network_order o.network network)) after) refl now

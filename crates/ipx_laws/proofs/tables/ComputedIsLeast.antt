@@ -1,5 +1,5 @@
 -- The least way that is computed is a way, and no way of at most fifteen hops is better.
-use Rattle.std.proofs.Common.{◌≡◌, sym, ap, ◌∙◌, subst, ℕ, zero, suc, ◌+◌, ◌-◌, ◌<◌, ◌≤◌, ◌==◌, ◌&&◌, nat_lt, false, List, length, Some, inl, inr, arith}
+use Rattle.std.proofs.Common.{◌≡◌, sym, ◌∙◌, subst, ℕ, zero, suc, ◌+◌, ◌-◌, ◌<◌, ◌≤◌, ◌==◌, ◌&&◌, nat_lt, false, List, length, Some, inl, inr, arith}
 use Rattle.std.specs.List.{AllByRecursion}
 use Rattle.std.proofs.lemmas.Bool.{cases_Bool, and_parts, or_cases, ltb-true, eqb-true}
 use Rattle.ipx_wire.specs.declared.network.Network.{Network}
@@ -47,9 +47,7 @@ module _ (net : Internet) (up : ℕ → List ℕ) (in_ports : (router : ℕ) →
 
   -- a router that has a way of its own is on the network, and there
   on_there : (router : ℕ) (w : Way) → own_way (ports_of net router) (up router) network ≡ Some w → (router < length net) × (w.hops ≡ 0)
-  on_there router w e =
-      let (j, on, same, way) = own_is (ports_of net router) (up router) network w e in
-      (router_there net router j (one_up (λ k. k < length (ports_of net router)) (up router) j (in_ports router) on), ap (λ (x : Way). x.hops) way)
+  on_there router w e = grind (arith, own_is, router_there, one_up)
 
   pub beats : {router : ℕ} {w : Way} → IsWay net up network router w → (v : Way) × (within net up in_ports network w.hops router ≡ Some v) × NoWorse v w
   beats {router} {w} (direct e) =

@@ -108,10 +108,7 @@ module _ (given : Given) (before : ℕ) (long : most_ticks_gone ≤ before) (clo
     there_it_is = inside net laws is most_routes most_services up (suc before) histories queue d left righted.going
 
     listed : x < length histories
-    listed =
-        let each = righted.going.are.each in
-        let within_net = there_it_is in
-        omega (arith, each, within_net)
+    listed = omega (arith, there_it_is)
 
     is_now : history_of after_it x ≡ now
     is_now = get_or-set_same histories x now [] listed
@@ -123,10 +120,7 @@ module _ (given : Given) (before : ℕ) (long : most_ticks_gone ≤ before) (clo
     few_left = (righted.going.few x there_it_is).0
 
     enough : most_ticks_gone ≤ count
-    enough =
-        let f = few_left in
-        let l = long in
-        omega (arith, f, l)
+    enough = omega (arith, few_left)
 
     soon : suc before ≤ count + 1
     soon = let f = few_left in omega (arith, f)
@@ -161,14 +155,7 @@ module _ (given : Given) (before : ℕ) (long : most_ticks_gone ≤ before) (clo
     -- ---- the router's own state
 
     neighbour_of : (f : Place) → Reaches net up f d.to → is_up (up x) d.to.port ≡ true → IsNeighbour net up in_ports x d.to.port f
-    neighbour_of f reaches on = record {
-      other = λ e. reaches.other (sym e);
-      place = there_where_up net is cheap up in_ports network f.router f.port reaches.on;
-      here = place_is;
-      network = reaches.network;
-      on_here = on;
-      on_there = reaches.on;
-    }
+    neighbour_of f reaches on = grind (arith, there_where_up, place_is)
 
     module _ (w : Wanting x) where
       abbrev Fresh_by : Place → ℕ → Type 0
@@ -208,12 +195,7 @@ module _ (given : Given) (before : ℕ) (long : most_ticks_gone ≤ before) (clo
 
         is_real : (e : RipEntry) → RouteSaid net up (suc before) f e → takes_no_route ports e.network ≡ false → e.hops < unreachable
             → IsReal net up x (route_offer d.to.port (port_of net f).node e)
-        is_real e said taken near = elim (said near) [
-          | inl real ↦ real d.to reaches (record { up_here = on; wanted = taken })
-          | inr late ↦
-              let l = long in
-              absurd (omega (arith, late, near, l))
-        ]
+        is_real e said taken near = grind arith
 
         is_right : (e : RipEntry) → RouteSaid net up (suc before) f e → (Source_of x w.v d.to.port f → Words f e) → IsRight e
         is_right e said words = record {
@@ -238,9 +220,7 @@ module _ (given : Given) (before : ℕ) (long : most_ticks_gone ≤ before) (clo
             x w Fresh_by (λ g age. Late_by g age × (g ≢ f)) ⊥ Same_by (known_by given x w facts)
 
         on_now : is_up (up x) d.to.port ≡ true
-        on_now =
-            let same = one_port ports (apart_at net is x) port d.to.port source.neighbour.here place_is (source.neighbour.network ∙ sym pending.reaches.network) in
-            subst (λ (k : ℕ). is_up (up x) k ≡ true) same source.neighbour.on_here
+        on_now = grind (arith, one_port, apart_at, place_is)
 
         heard_so : heard_after ports past d.to.port d.bytes ≡ Some (HeardRip (own_address (port_of net f))
             (record { operation = Response; entries = pending.page.page }))
@@ -421,9 +401,7 @@ module _ (given : Given) (before : ℕ) (long : most_ticks_gone ≤ before) (clo
 
     -- an answer is of the routes that the router has still
     same_facts : (m : Heard) → heard_after ports past d.to.port d.bytes ≡ Some m → TellsNoRoute m → route_facts ports now ≡ route_facts ports past
-    same_facts m e silent =
-        facts_now ∙ ap (λ q. route_facts ports past ++ routes_heard ports d.to.port q) e
-        ∙ ap (λ fs. route_facts ports past ++ fs) (silent_offers ports d.to.port m silent) ∙ append-nil (route_facts ports past)
+    same_facts m e silent = grind (arith, facts_now, silent_offers, append-nil)
 
     said_told : (m : Heard) → heard_after ports past d.to.port d.bytes ≡ Some m → TellsNoRoute m
         → AllByRecursion (Says (place d.to.port)) (told ports (up x) old d.to.port)

@@ -2,14 +2,14 @@
 -- from which a least way came has no better one itself.
 use Rattle.std.proofs.Common.{◌≡◌, ◌≢◌, refl, sym, ap, ap₂, ◌∙◌, subst, ◌⊎◌, ℕ, zero, suc, ◌+◌, ◌-◌, ◌<◌, ◌≤◌, ◌==◌, nat_lt, true, false, List, [], ◌∷◌, length, Option, None, Some, inl, inr, arith}
 use Rattle.std.specs.List.{AllByRecursion, list_any}
-use Rattle.std.proofs.lemmas.Bool.{cases_Bool, cases_eq, cases_lt, lt-ltb, le-ltb}
+use Rattle.std.proofs.lemmas.Bool.{cases_eq, cases_lt, lt-ltb, le-ltb}
 use Rattle.ipx_wire.specs.declared.network.Network.{Network}
 use Rattle.ipx_router.specs.Port.{numbers}
 use Rattle.ipx_router.proofs.port_values.PortOfEachNumber.{one_up, port-all}
 use Rattle.ipx_internet.specs.Different.{AreDifferent}
 use Rattle.ipx_internet.specs.Internet.{Internet, Place, IsInternet, IsPlace, ports_of, port_of}
 use Rattle.ipx_internet.proofs.lists.EachElement.{all_or, all_then, no_more_than}
-use Rattle.ipx_internet.proofs.lists.FoundInAList.{nothing, it_is}
+use Rattle.ipx_internet.proofs.lists.FoundInAList.{nothing}
 use Rattle.ipx_internet.proofs.lists.HowManyPass.{is_number, length-numbers}
 use Rattle.ipx_internet.proofs.places.OneReceiverOfANode.{port_is}
 use Rattle.ipx_internet.proofs.trees.RunIsALog.{router_there}
@@ -43,10 +43,7 @@ module _ (net : Internet) (up : ℕ → List ℕ) (in_ports : (router : ℕ) →
     pub each : AllByRecursion (OnWay hops v) all
 
   no_hops : (hops router : ℕ) (v : Way) → within net up in_ports network hops router ≡ Some v → is_on (ports_of net router) network ≡ true → v.hops ≡ 0
-  no_hops hops router v e on =
-      let there = is_there net up in_ports network hops router v e in
-      let (j, is_j, same, cost) = own_is (ports_of net router) (up router) network v (sym (own net up in_ports network hops router there on) ∙ e) in
-      ap (λ (w : Way). w.hops) cost
+  no_hops hops router v e on = grind (arith, is_there, own_is, own)
 
   routers_of : (hops router : ℕ) (v : Way) → within net up in_ports network hops router ≡ Some v → v.hops ≡ hops → OnOrOff net up in_ports network router
       → Routers hops v
@@ -172,8 +169,7 @@ module _ (net : Internet) (up : ℕ → List ℕ) (in_ports : (router : ℕ) →
 
   module _ (cost : ℕ) (all_same : CostTheSame net cost) where
     one_cost : (from : Place) → IsPlace net from → cost_of from ≡ cost
-    one_cost from there =
-        port-all (λ p. p.cost ≡ cost) (ports_of net from.router) from.port (all_or (AllByRecursion (λ p. p.cost ≡ cost)) net from.router [] all_same tt) there
+    one_cost from there = grind (arith, port-all, all_or)
 
     costs_total : (hops router : ℕ) (v : Way) → within net up in_ports network hops router ≡ Some v → OnOrOff net up in_ports network router
         → v.ticks ≡ total cost v.hops
@@ -211,11 +207,7 @@ module _ (net : Internet) (up : ℕ → List ℕ) (in_ports : (router : ℕ) →
 
   -- what isn't of too many hops is that way
   pub taken : (o : Option Way) (v w : Way) → Some v ≡ of_few_hops o → o ≡ Some w → w ≡ v
-  taken None v w e is = nothing is
-  taken (Some u) v w e is = elim (cases_Bool (nat_lt 15 u.hops)) [
-    | inl many ↦ nothing (sym (rw many at e))
-    | inr few_hops ↦ it_is (λ (x : Way). x ≡ v) w u is (it_is (λ (x : Way). x ≡ v) u v (rw few_hops at e) refl)
-  ]
+  taken o v w e is = grind arith
 
   -- where there is a least way, none of sixteen hops is better
   pub none_better_still : FifteenSuffice net up network → (router port : ℕ) (from : Place) (v u : Way) → IsNeighbour net up in_ports router port from
@@ -232,10 +224,4 @@ module _ (net : Internet) (up : ℕ → List ℕ) (in_ports : (router : ℕ) →
       (ports_of net router) network ≡ false
       → within net up in_ports network 15 router ≡ Some v → v ≡ by_port (cost_of from) s → within net up in_ports network 15 from.router ≡ Some u → NoWorse u s
       → u ≡ s
-  nothing_hidden suffice router port from v s u neighbour off is_v by_s is_u less =
-      let one : NoWorse v (by_port (cost_of from) u) = none_better_still suffice router port from v u neighbour off is_v is_u in
-      let two : NoWorse (by_port (cost_of from) u) v = subst (λ (x : Way). NoWorse (by_port (cost_of from) u) x) (sym by_s) (goes_on (cost_of from) u s less) in
-      let same : by_port (cost_of from) u ≡ by_port (cost_of from) s = both_no_worse (by_port (cost_of from) u) v two one ∙ by_s in
-      let h = ap (λ (x : Way). x.hops) same in
-      let t = ap (λ (x : Way). x.ticks) same in
-      same_way u s (omega (arith, t)) (omega (arith, h))
+  nothing_hidden suffice router port from v s u neighbour off is_v by_s is_u less = grind (arith, NoWorse, none_better_still, goes_on, both_no_worse, same_way)

@@ -1,6 +1,6 @@
 -- What a table keeps of the routes that neighbours offer for a network: a route as good as the least way stays, but for another one as good,
 -- and comes where a neighbour offers it whose least way, gone on, it is.
-use Rattle.std.proofs.Common.{◌≡◌, refl, sym, ap, ◌∙◌, subst, ◌⊎◌, ℕ, nat_le, true, false, List, map, find, Option, None, Some, inl, inr, arith, is_eq}
+use Rattle.std.proofs.Common.{◌≡◌, refl, sym, ap, ◌∙◌, subst, ◌⊎◌, ℕ, nat_le, true, false, List, map, find, Option, None, Some, inl, inr, arith, is_eq, rules}
 use Rattle.std.specs.List.{AllByRecursion}
 use Rattle.std.specs.Ordering.{is_gt}
 use Rattle.std.proofs.lemmas.Bool.{cases_Bool, cases_eq, leb-true}
@@ -139,14 +139,7 @@ module _ (given : Given) (router : ℕ) (v : Way) (off : is_on (ports_of given.n
   pub steady : (from : Place) (o : RouteOffer) → IsNeighbour net up in_ports router o.port from → o.node ≡ (port_of net from).node
       → (nat_le unreachable o.hops ≡ false → IsReal net up router o) → (IsSource o.port from → o ≡ right_offer o.port from)
       → IsSteady route_reading network_order network_total most_routes shares network one (IsReal net up router) Right o
-  steady from o neighbour node real due = record {
-    real = real;
-    honest = λ f g right own.
-        let source = source_parts (g.port, g.node) (o.port, o.node) own in
-        let place = one_place g.port o.port f from source.0 right.source.neighbour neighbour (sym (right_node f g right) ∙ source.1 ∙ node) in
-        let is_source = subst (λ (p : Place). IsSource o.port p) place (subst (λ (k : ℕ). IsSource k f) source.0 right.source) in
-        subst (λ (p : Place). Right p o) (sym place) (record { source = is_source; same = due is_source });
-  }
+  steady from o neighbour node real due = search (rules, source_parts, one_place, right_node)
 
   -- and there is room for it
   pub place : (held : List (Held RouteOffer)) → IsDistinct (route_rules (ports_of net router) most_routes).by_key held

@@ -183,17 +183,11 @@ module _ (given : Given) where
 
       pub waits_map : (left : ℕ → ℕ) (histories : List History) (queue : List Delivery) (x : ℕ) (f : Place) (S T : Type 0) → (S → T)
           → Waits left histories queue x f S → Waits left histories queue x f T
-      waits_map left histories queue x f S T step (inl early) = inl early
-      waits_map left histories queue x f S T step (inr (inl (at_zero, due, s))) = inr (inl (at_zero, due, step s))
-      waits_map left histories queue x f S T step (inr (inr (inl bad))) = inr (inr (inl bad))
-      waits_map left histories queue x f S T step (inr (inr (inr (s, ends)))) = inr (inr (inr (step s, ends)))
+      waits_map left histories queue x f S T step given = grind arith
 
       -- not where tables are right for good
       pub waits_unsteady : (left : ℕ → ℕ) (histories : List History) (queue : List Delivery) (x : ℕ) (f : Place) → Waits left histories queue x f Unsteady → Unsteady
-      waits_unsteady left histories queue x f (inl early) = let c = few_seconds f.router in omega (arith, early, c)
-      waits_unsteady left histories queue x f (inr (inl due)) = due.2
-      waits_unsteady left histories queue x f (inr (inr (inl bad))) = bad.0
-      waits_unsteady left histories queue x f (inr (inr (inr last))) = last.0
+      waits_unsteady left histories queue x f given = grind arith
 
       abbrev pub Fresh : ℕ → Place → ℕ → Type 0
       Fresh mine f age = age + mine ≤ clock f.router + 1
@@ -212,9 +206,7 @@ module _ (given : Given) where
       Same x o = most_ticks_right ≤ before → at_start x ≡ Some o
 
       pub free : (left : ℕ → ℕ) (histories : List History) (queue : List Delivery) (x : ℕ) (w : WantsOf x) → Later left histories queue x w → (o : RouteOffer) → Same x o
-      free left histories queue x w later o steady =
-          let unsteady = waits_unsteady left histories queue x later.1 later.3 in
-          absurd (omega (arith, unsteady, steady))
+      free left histories queue x w later o steady = grind arith
 
       -- what a router has, with as many seconds left of its own
       abbrev pub StateWith : ℕ → (ℕ → ℕ) → List History → List Delivery → (x : ℕ) → WantsOf x → List (Fact RouteOffer) → Type 0
@@ -226,16 +218,10 @@ module _ (given : Given) where
 
       pub popped : (left : ℕ → ℕ) (histories : List History) (d : Delivery) (queue : List Delivery) (x : ℕ) (f : Place) (S : Type 0)
           → Waits left histories (d ∷ queue) x f S → Waits left histories queue x f S ⊎ PendingFor x f d
-      popped left histories d queue x f S (inl early) = inl (inl early)
-      popped left histories d queue x f S (inr (inl due)) = inl (inr (inl due))
-      popped left histories d queue x f S (inr (inr (inl bad))) = inl (inr (inr (inl bad)))
-      popped left histories d queue x f S (inr (inr (inr (s, inl ends)))) = inl (inr (inr (inr (s, ends))))
-      popped left histories d queue x f S (inr (inr (inr (s, inr last)))) = inr last.0
+      popped left histories d queue x f S given = grind arith
 
       pub calm_popped : (d : Delivery) (queue : List Delivery) (x : ℕ) (f : Place) → Calm x f (d ∷ queue) → Calm x f queue
-      calm_popped d queue x f (inl all) = inl all.1
-      calm_popped d queue x f (inr (unsteady, inl ends)) = inr (unsteady, ends)
-      calm_popped d queue x f (inr (unsteady, inr last)) = inl last.1
+      calm_popped d queue x f given = grind arith
 
       -- for another router nothing changes by that
       pub elsewhere : (mine : ℕ) (left : ℕ → ℕ) (histories : List History) (d : Delivery) (queue : List Delivery) (x : ℕ) → x ≢ d.to.router

@@ -1,5 +1,5 @@
 -- What a table keeps of the network after the entries of one packet: an instance of what any table keeps of the best offers of a key.
-use Rattle.std.proofs.Common.{◌≡◌, ◌≢◌, refl, sym, subst, ℕ, ◌<◌, ◌≤◌, true, false, List, [], ◌∷◌, ◌++◌, Option, Some, inl, inr, is_eq}
+use Rattle.std.proofs.Common.{◌≡◌, ◌≢◌, refl, sym, subst, ℕ, ◌<◌, ◌≤◌, true, false, List, [], ◌∷◌, ◌++◌, Option, Some, inl, inr, is_eq, arith}
 use Rattle.std.specs.List.{AllByRecursion}
 use Rattle.std.proofs.lemmas.Bool.{cases_Bool, leb-false}
 use Rattle.ipx_table.specs.Facts.{Fact, Offered}
@@ -88,10 +88,7 @@ module _ (given : Given) (router : ℕ) (v : Way) (off : is_on (ports_of given.n
     all_offered : (Is : RipEntry → Type 0) (Such : RouteOffer → Type 0) → ((e : RipEntry) → takes_no_route ports e.network ≡ false → Is e → Such (offer_of e))
         → (es : List RipEntry) → AllByRecursion Is es → AllByRecursion (OffersOf Such) (offered es)
     all_offered Is Such step [] all = tt
-    all_offered Is Such step (e ∷ es) all = elim (cases_Bool (takes_no_route ports e.network)) [
-      | inl none ↦ rw none (all_offered Is Such step es all.1)
-      | inr taken ↦ rw taken (step e taken all.0, all_offered Is Such step es all.1)
-    ]
+    all_offered Is Such step (e ∷ es) all = grind (arith, all_offered Is Such step es all.1)
 
     module _ (Fresh : Place → ℕ → Type 0) (now : (f : Place) → Fresh f 0) (Same : RouteOffer → Type 0) where
       -- whatever they say

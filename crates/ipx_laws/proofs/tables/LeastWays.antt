@@ -1,7 +1,8 @@
 -- Least ways: each is that of a neighbour gone on, none is better, and more hops make none worse.
-use Rattle.std.proofs.Common.{◌≡◌, ◌≢◌, refl, sym, ap, ap₂, ◌∙◌, subst, ◌⊎◌, ℕ, zero, suc, ◌+◌, ◌<◌, ◌≤◌, ◌==◌, ◌&&◌, nat_lt, Bool, true, false, not, List, [], ◌∷◌, ◌++◌, length, map, find, get_or, Option, None, Some, option_map, inl, inr, arith, true≢false}
+use Rattle.std.proofs.lemmas.Grind.{common_steps}
+use Rattle.std.proofs.Common.{◌≡◌, ◌≢◌, refl, sym, ap, ap₂, ◌∙◌, subst, ◌⊎◌, ℕ, zero, suc, ◌+◌, ◌<◌, ◌≤◌, ◌==◌, ◌&&◌, Bool, true, false, not, List, [], ◌∷◌, ◌++◌, length, map, find, get_or, Option, None, Some, option_map, inl, inr, arith, true≢false}
 use Rattle.std.specs.List.{AllByRecursion}
-use Rattle.std.proofs.lemmas.Bool.{cases_Bool, and_parts, or_cases, or_parts, ltb-true, ltb-false, eqb-true, eqb-false, eq-eqb, ne_eqb, cases_eq, cases_lt, not-true, both_ways}
+use Rattle.std.proofs.lemmas.Bool.{cases_Bool, and_parts, or_cases, eqb-true, eqb-false, eq-eqb, ne_eqb, cases_eq, cases_lt, not-true, both_ways}
 use Rattle.std.proofs.lemmas.List.{get_or_append_left, get_or-append-add, get_or_past, length-map, map-append}
 use Rattle.ipx_wire.specs.declared.network.Network.{Network}
 use Rattle.ipx_router.specs.History.{History}
@@ -30,15 +31,7 @@ pub itself : (a : Way) → NoWorse a a
 itself a = record { ticks = omega arith; hops = λ e. omega arith }
 
 pub no_worse_then : (a b c : Way) → NoWorse a b → NoWorse b c → NoWorse a c
-no_worse_then a b c one two = record {
-  ticks = let x = one.ticks in let y = two.ticks in omega (arith, x, y);
-  hops = λ e.
-      let x = one.ticks in
-      let y = two.ticks in
-      let p = one.hops (omega (arith, e, x, y)) in
-      let q = two.hops (omega (arith, e, x, y)) in
-      omega (arith, p, q);
-}
+no_worse_then a b c one two = grind arith
 
 pub same_way : (a b : Way) → a.ticks ≡ b.ticks → a.hops ≡ b.hops → a ≡ b
 same_way a b ticks hops =
@@ -46,37 +39,10 @@ same_way a b ticks hops =
     ap₂ make hops ticks
 
 pub both_no_worse : (a b : Way) → NoWorse a b → NoWorse b a → a ≡ b
-both_no_worse a b one two =
-    let x = one.ticks in
-    let y = two.ticks in
-    let e : a.ticks ≡ b.ticks = omega (arith, x, y) in
-    let p = one.hops e in
-    let q = two.hops (sym e) in
-    same_way a b e (omega (arith, p, q))
+both_no_worse a b one two = grind arith
 
 is_then : (a b : Way) → is_better b a ≡ true → NoWorse b a
-is_then a b e = elim (or_cases (nat_lt b.ticks a.ticks) ((b.ticks == a.ticks) && nat_lt b.hops a.hops) e) [
-  | inl less ↦
-      let fewer = ltb-true b.ticks a.ticks less in
-      record { ticks = omega (arith, fewer); hops = λ same. absurd (omega (arith, fewer, same)) }
-  | inr equal ↦
-      let parts = and_parts (b.ticks == a.ticks) (nat_lt b.hops a.hops) equal in
-      let same = eqb-true b.ticks a.ticks parts.0 in
-      let fewer = ltb-true b.hops a.hops parts.1 in
-      record { ticks = omega (arith, same); hops = λ e. omega (arith, fewer) }
-]
-
-isnt_then : (a b : Way) → is_better b a ≡ false → NoWorse a b
-isnt_then a b e =
-    let parts = or_parts (nat_lt b.ticks a.ticks) ((b.ticks == a.ticks) && nat_lt b.hops a.hops) e in
-    let most = ltb-false b.ticks a.ticks parts.0 in
-    record { ticks = omega (arith, most); hops = λ same. by same parts.1 }
-  where
-    by : a.ticks ≡ b.ticks → ((b.ticks == a.ticks) && nat_lt b.hops a.hops) ≡ false → a.hops ≤ b.hops
-    by same none =
-        let equal : (b.ticks == a.ticks) ≡ true = eq-eqb b.ticks a.ticks (sym same) in
-        let less : nat_lt b.hops a.hops ≡ false = rw equal at none in
-        ltb-false b.hops a.hops less
+is_then a b e = grind arith
 
 -- the best of one way and others is one of them, and no worse than each
 better_is : (a : Way) (o : Option Way) → (better_of a o ≡ a) ⊎ (o ≡ Some (better_of a o))
@@ -94,12 +60,7 @@ better_first a (Some b) = elim (cases_Bool (is_better b a)) [
 ]
 
 better_rest : (a : Way) (o : Option Way) (b : Way) → o ≡ Some b → NoWorse (better_of a o) b
-better_rest a None b is = nothing is
-better_rest a (Some c) b is =
-    it_is (λ (d : Way). NoWorse (better_of a (Some c)) d) b c is (elim (cases_Bool (is_better c a)) [
-      | inl e ↦ rw e (itself c)
-      | inr e ↦ rw e (isnt_then a c e)
-    ])
+better_rest a o b is = grind arith
 
 pub best_is : (ways : List (Option Way)) (v : Way) → best ways ≡ Some v → AnyIs (λ o. o ≡ Some v) ways
 best_is [] v e = nothing e
@@ -167,12 +128,7 @@ on_port (p ∷ ports) network e = elim (or_cases (p.network.0 == network.0) (is_
 ]
 
 pub port_on : (ports : List Port) (network : Network) (j : ℕ) → j < length ports → (port_at ports j).network ≡ network → is_on ports network ≡ true
-port_on [] network j less same = absurd (omega (arith, less))
-port_on (p ∷ ports) network zero less same = let e : (p.network.0 == network.0) ≡ true = eq-eqb p.network.0 network.0 (ap (λ (n : Network). n.0) same) in rw e refl
-port_on (p ∷ ports) network (suc j) less same = elim (cases_Bool (p.network.0 == network.0)) [
-  | inl e ↦ rw e refl
-  | inr e ↦ rw e (port_on ports network j (omega (arith, less)) same)
-]
+port_on ports network j less same = grind (arith, common_steps, eq-eqb)
 
 -- ---- ports that are up
 
@@ -433,11 +389,7 @@ module _ (net : Internet) (up : ℕ → List ℕ) (in_ports : (router : ℕ) →
 
     -- a way has no more hops than it may
     few_by : (hops router : ℕ) (v : Way) → within hops router ≡ Some v → OnOrOff router → v.hops ≤ hops
-    few_by hops router v e (inl on) =
-        let there = is_there hops router v e in
-        let (j, is_j, same, cost) = own_is (ports_of net router) (up router) network v (sym (own hops router there on) ∙ e) in
-        let none = ap (λ (w : Way). w.hops) cost in
-        omega (arith, none)
+    few_by hops router v e (inl on) = grind (arith, is_there, own_is, own)
     few_by zero router v e (inr off) =
         let there = is_there 0 router v e in
         nothing (sym (first router there ∙ none_of_own router off) ∙ e)

@@ -1,8 +1,8 @@
 -- Routes of real ways and least ways, where all ports are up: no route is better than the least way, and a route that is as good came
 -- from a neighbour whose own least way it is, gone on; that neighbour has its way from elsewhere.
-use Rattle.std.proofs.Common.{◌≡◌, ◌≢◌, refl, sym, ap, ◌∙◌, subst, ◌⊎◌, ℕ, suc, ◌+◌, ◌-◌, ◌*◌, ◌<◌, ◌≤◌, ◌==◌, ◌||◌, nat_lt, true, false, List, [], length, Some, inl, inr, arith}
+use Rattle.std.proofs.Common.{◌≡◌, ◌≢◌, refl, sym, ap, ◌∙◌, subst, ◌⊎◌, ℕ, suc, ◌+◌, ◌-◌, ◌*◌, ◌<◌, ◌≤◌, nat_lt, true, false, List, length, Some, inl, inr, arith}
 use Rattle.std.specs.List.{AllByRecursion}
-use Rattle.std.proofs.lemmas.Bool.{cases_eq, or_parts, lt-ltb}
+use Rattle.std.proofs.lemmas.Bool.{cases_eq, lt-ltb}
 use Rattle.ipx_wire.specs.declared.network.Network.{Network}
 use Rattle.ipx_wire.specs.declared.rip.RipEntry.{RipEntry}
 use Rattle.ipx_router.specs.Port.{Port, port_at, is_up, takes_no_route}
@@ -16,12 +16,11 @@ use Rattle.ipx_internet.proofs.trees.RunIsALog.{router_there}
 use Rattle.ipx_laws.specs.Least.{Way, is_on, by_port, way_of, AreCheap, FifteenSuffice, most_cost}
 use Rattle.ipx_laws.specs.Real.{IsReal, IsTaken, next, farther}
 use Rattle.ipx_laws.proofs.tables.FifteenHopsSuffice.{costs, nothing_hidden}
-use Rattle.ipx_laws.proofs.tables.LeastWays.{NoWorse, no_worse_then, same_way, goes_on, own_is, own_there, port_up, IsNeighbour, within, first, came, none_better, same_some, more, many_more, few, enough}
+use Rattle.ipx_laws.proofs.tables.LeastWays.{NoWorse, no_worse_then, goes_on, own_is, own_there, port_up, IsNeighbour, within, first, came, none_better, same_some, more, many_more, few, enough}
 
 -- a network to which a route is taken is none of the ports'
 pub off_where_wanted : (ports : List Port) (network : Network) → takes_no_route ports network ≡ false → is_on ports network ≡ false
-off_where_wanted ports network e =
-    (or_parts ((network.0 == 0) || (network.0 == 0xFFFFFFFF)) (is_on ports network) e).1
+off_where_wanted ports network e = grind arith
 
 -- ticks that aren't too many are added
 pub told_ticks : (cost : ℕ) (e : RipEntry) → e.ticks + cost < 65535 → (told_at cost e).ticks ≡ e.ticks + cost
@@ -39,12 +38,10 @@ module _ (net : Internet) (is : IsInternet net) (cheap : AreCheap net) (up : ℕ
   -- ---- ports
 
   pub there_where_up : (router port : ℕ) → is_up (up router) port ≡ true → port < length (ports_of net router)
-  there_where_up router port on =
-      one_up (λ k. k < length (ports_of net router)) (up router) port (in_ports router) on
+  there_where_up router port on = grind (arith, one_up)
 
   pub most : (from : Place) → IsPlace net from → cost_of from ≤ most_cost
-  most from there =
-      port-all (λ p. p.cost ≤ most_cost) (ports_of net from.router) from.port (all_or (AllByRecursion (λ p. p.cost ≤ most_cost)) net from.router [] cheap tt) there
+  most from there = grind (arith, port-all, all_or)
 
   -- ---- routes of real ways
 
@@ -64,26 +61,16 @@ module _ (net : Internet) (is : IsInternet net) (cheap : AreCheap net) (up : ℕ
 
   neighbour_of : (router : ℕ) (r : RouteOffer) (from : Place) (entry : RipEntry) → IsTaken net up router r from entry
       → IsNeighbour net up in_ports router r.port from
-  neighbour_of router r from entry taken = record {
-    other = λ same. taken.other (sym same);
-    place = there_where_up from.router from.port taken.there;
-    here = there_where_up router r.port taken.here;
-    network = taken.network;
-    on_here = taken.here;
-    on_there = taken.there;
-  }
+  neighbour_of router r from entry taken = grind (arith, there_where_up)
 
   off_of : (router : ℕ) (r : RouteOffer) (from : Place) (entry : RipEntry) → IsTaken net up router r from entry → r.network ≡ network
       → is_on (ports_of net router) network ≡ false
-  off_of router r from entry taken same =
-      off_where_wanted (ports_of net router) network (subst (λ (n : Network). takes_no_route (ports_of net router) n ≡ false) same taken.wanted)
+  off_of router r from entry taken same = grind arith
 
   -- a way that an entry tells of
   way_told : (router : ℕ) (r : RouteOffer) (from : Place) (entry : RipEntry) → (taken : IsTaken net up router r from (told_at (cost_of from) entry))
       → entry.ticks + cost_of from < 65535 → way_of r ≡ by_port (cost_of from) (record { hops = entry.hops; ticks = entry.ticks })
-  way_told router r from entry taken less =
-      same_way (way_of r) (by_port (cost_of from) (record { hops = entry.hops; ticks = entry.ticks }))
-      (ap (λ (x : RouteOffer). x.ticks) taken.offer ∙ told_ticks (cost_of from) entry less) (ap (λ (x : RouteOffer). x.hops) taken.offer)
+  way_told router r from entry taken less = grind arith
 
   pub real_way : {router : ℕ} {r : RouteOffer} → IsReal net up router r → r.network ≡ network → RealWay router r
   real_way {router} {r} (next from beside on apart taken) same =

@@ -1,5 +1,6 @@
 -- A packet of a host, once the tables are right: from router to router by their least ways, and out on its network.
-use Rattle.std.proofs.Common.{◌≡◌, ◌≢◌, refl, sym, ap, ap₂, ◌∙◌, subst, ℕ, zero, suc, ◌+◌, ◌<◌, ◌≤◌, ◌==◌, ◌&&◌, ◌||◌, Bool, true, false, List, [], ◌∷◌, ◌++◌, length, map, filter, flat_map, Option, None, Some, option_map, Result, Ok, Err, inl, inr, arith, append-nil, if◌then◌else◌}
+use Rattle.std.proofs.lemmas.Grind.{common_steps}
+use Rattle.std.proofs.Common.{◌≡◌, ◌≢◌, refl, sym, ap, ap₂, ◌∙◌, subst, ℕ, zero, suc, ◌+◌, ◌<◌, ◌≤◌, ◌==◌, ◌||◌, Bool, true, false, List, [], ◌∷◌, ◌++◌, length, map, filter, flat_map, Option, None, Some, option_map, Result, Ok, Err, inl, inr, arith, append-nil, if◌then◌else◌, rules}
 use Rattle.std.specs.List.{AllByRecursion}
 use Rattle.std.proofs.lemmas.Bool.{cases_Bool, cases_eq, or_cases, ne_eqb, eq-eqb, eqb-true, both_ways}
 use Rattle.ipx_wire.specs.Forward.{forwarded}
@@ -28,7 +29,7 @@ use Rattle.ipx_internet.specs.Internet.{Internet, Place, IsInternet, NodesDiffer
 use Rattle.ipx_internet.specs.Queue.{history_of}
 use Rattle.ipx_internet.specs.Run.{Run}
 use Rattle.ipx_internet.specs.Traced.{routers_after}
-use Rattle.ipx_internet.specs.Tree.{Router, Copy, router_now, net_of, router_at, sent_on, forwards, receivers, children, levels, joined, tree_to}
+use Rattle.ipx_internet.specs.Tree.{Router, Copy, router_now, net_of, router_at, forwards, receivers, children, levels, joined, tree_to}
 use Rattle.ipx_internet.proofs.lists.EachElement.{all_then, holds_of}
 use Rattle.ipx_internet.proofs.packets.SentOnOrReply.{Layouts}
 use Rattle.ipx_internet.proofs.places.EachPortOnce.{places_within, places_differ}
@@ -84,9 +85,7 @@ none_pass test (x ∷ xs) all = let e = all.0 in rw e (none_pass test xs all.1)
 
 -- what holds of all of a list holds of one of it
 at_one : {X : Type 0} (A : X → Type 0) (x : X) (xs : List X) → AnyIs (λ y. y ≡ x) xs → AllByRecursion A xs → A x
-at_one A x xs any all =
-    let (y, (same, holds)) = the_one (λ y. (y ≡ x) × A y) xs (any_and_all (λ y. y ≡ x) A xs any all) in
-    subst A same holds
+at_one A x xs any all = grind (arith, the_one, any_and_all)
 
 -- ---- routers as they are
 
@@ -191,10 +190,7 @@ module _ (net : Internet) (laws : Layouts) (is : IsInternet net) (differ : Nodes
           subst (λ (a : Address). is_local (port_at ports number) a.network ≡ false) (sym same) (rw (one, two) refl)
 
       far : is_far (port_at ports number) p.header ≡ true
-      far =
-          let alone = of_host.for_one in
-          let away_from = other_network in
-          rw (alone, away_from) refl
+      far = grind (arith, other_network)
 
       sent_by : Option Why → Result Parts PacketFault → List Sent
       sent_by o r = elim o [ Some reason ↦ [] | None ↦ elim r [ Ok x ↦ relayed ports ups routes number x | Err fault ↦ [] ] ]
@@ -221,23 +217,14 @@ module _ (net : Internet) (laws : Layouts) (is : IsInternet net) (differ : Nodes
             few_control (of_host.elsewhere q) routed_so short
 
         relays : relayed ports ups routes number p ≡ it ∷ []
-        relays =
-            let alone = of_host.for_one in
-            let away_from = other_network in
-            rw (alone, away_from) (ap leaving routed_so)
+        relays = grind (arith, other_network, routed_so)
 
         runs : running history ≡ true
-        runs =
-            runs_where net up most_routes q number ticks history on endures
+        runs = search (rules, runs_where, endures)
 
         pub sends_one : (c : Copy) → c.to ≡ record { router = q; port = number } → c.bytes ≡ bytes → forwards routers c ≡ it ∷ []
         unfolding sent_by
-        sends_one c at from =
-            let now = at_numbers (λ k. router_now (ports_of net k) most_routes (history_of run.histories k)) (length net) q (router_at [] 0) inside in
-            ap₂ (λ (place : Place) (bs : List ℕ). sent_on (router_at routers place.router) place.port bs) at from
-            ∙ ap (λ r. sent_on r number bytes) now
-            ∙ ap (λ b. sent_by (why ports ups routes b number bytes) (packet_of bytes)) runs
-            ∙ ap (λ o. sent_by o (packet_of bytes)) passes ∙ ap (sent_by None) read ∙ relays
+        sends_one c given from = grind (arith, at_numbers, sent_by, runs, passes, read, relays)
 
         pub written : IsBytes (packet_bytes (forwarded p))
         written =
@@ -318,8 +305,7 @@ module _ (net : Internet) (laws : Layouts) (is : IsInternet net) (differ : Nodes
 
   allowed_at : (size q j : ℕ) (network : Network) → Allowed size q network → is_up (up q) j ≡ true → (port_at (ports_of net q) j).network ≡ network
       → size ≤ (port_at (ports_of net q) j).longest
-  allowed_at size q j network all on =
-      holds_of (λ k. (port_at (ports_of net q) k).network ≡ network → size ≤ (port_at (ports_of net q) k).longest) j (up q) all on
+  allowed_at size q j network all on = grind (arith, holds_of)
 
   allowed_by : (size hops q port : ℕ) (v : Way) (from : Place) → Source net is cheap up in_ports to.network q v port from
       → within net up in_ports to.network 15 q ≡ Some v → IsShort net up size to.network (suc hops) q
@@ -418,15 +404,7 @@ module _ (net : Internet) (laws : Layouts) (is : IsInternet net) (differ : Nodes
 
 own_port : (ports : List Port) (j : ℕ) (to : Address) → j < length ports → (port_at ports j).network ≡ to.network
     → same_node (port_at ports j).node to.node ≡ true → is_own_port ports to ≡ true
-own_port [] j to less nets node = absurd (omega (arith, less))
-own_port (p ∷ ports) zero to less nets node =
-    let number : (p.network.0 == to.network.0) ≡ true = eq-eqb p.network.0 to.network.0 (ap (λ (n : Network). n.0) nets) in
-    let same : same_node p.node to.node ≡ true = node in
-    rw (number, same) refl
-own_port (p ∷ ports) (suc j) to less nets node = elim (cases_Bool ((p.network.0 == to.network.0) && same_node p.node to.node)) [
-  | inl e ↦ rw e refl
-  | inr e ↦ rw e (own_port ports j to (omega (arith, less)) nets node)
-]
+own_port ports j to less nets node = grind (arith, common_steps, eq-eqb)
 
 -- no port receives what is for one node, which is no port's
 nobody : (net : Internet) (to : Address) → ((router : ℕ) → is_own_port (ports_of net router) to ≡ false) → to.node ≢ broadcast → (from : Place)
@@ -453,8 +431,7 @@ Nobody net to = (from : Place) → network_of net from ≡ to.network → delive
 
 pub nobody_after : (net : Internet) (most_routes : ℕ) (histories : List History) (p : Parts) → IsOfHost net p → p.header.destination.node ≢ broadcast
     → Nobody (net_of (routers_after net most_routes histories)) p.header.destination
-nobody_after net most_routes histories p of_host one =
-    subst (λ (n : Internet). Nobody n p.header.destination) (sym (net_after net most_routes histories)) (nobody net p.header.destination of_host.elsewhere one)
+nobody_after net most_routes histories p of_host one = grind (arith, net_after, nobody)
 
 -- ---- its tree
 

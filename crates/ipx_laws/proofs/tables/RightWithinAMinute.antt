@@ -1,6 +1,6 @@
 -- Ticks, one after the other, once all routes are real: a period later, from `most_ticks_right` on, each router has the least way to
 -- every network that it wants, and its route stays so.
-use Rattle.std.proofs.Common.{◌≡◌, refl, sym, ap, ◌∙◌, subst, ◌⊎◌, ℕ, zero, suc, ◌+◌, ◌%◌, ◌<◌, ◌≤◌, ◌==◌, Bool, true, false, List, [], ◌∷◌, length, map, find, Option, None, Some, inl, inr, arith, is_eq}
+use Rattle.std.proofs.Common.{◌≡◌, refl, sym, ap, ◌∙◌, subst, ◌⊎◌, ℕ, zero, suc, ◌+◌, ◌%◌, ◌<◌, ◌≤◌, ◌==◌, Bool, true, false, List, [], ◌∷◌, length, map, find, Option, None, Some, inl, inr, arith, is_eq, rules}
 use Rattle.std.specs.List.{AllByRecursion}
 use Rattle.std.proofs.lemmas.Bool.{cases_Bool, cases_eq, cases_lt, eq-eqb, ne_eqb, both_ways}
 use Rattle.std.proofs.lemmas.Nat.{mod_below}
@@ -33,20 +33,11 @@ use Rattle.ipx_laws.proofs.ticks.TickAfterTick.{IsCalmTick, CalmTicks, IsKept, g
 
 -- a clock that goes round
 next_clock : (n : ℕ) → ((n + 1) % period ≡ n % period + 1) ⊎ (((n + 1) % period ≡ 0) × (n % period + 1 ≡ period))
-next_clock n = elim (cases_eq (n % period + 1) period) [
-  | inl last ↦ inr (omega (arith, last), last)
-  | inr other ↦
-      let below = mod_below n period (omega arith) in
-      inl (omega (arith, other, below))
-]
+next_clock n = grind arith
 
 -- two tests that say the same find the same
 pub find_same : {X : Type 0} (p q : X → Bool) → ((x : X) → p x ≡ q x) → (xs : List X) → find p xs ≡ find q xs
-find_same p q same [] = refl
-find_same p q same (x ∷ xs) = elim (cases_Bool (q x)) [
-  | inl e ↦ let f = same x ∙ e in rw (e, f) refl
-  | inr e ↦ let f = same x ∙ e in rw (e, f) (find_same p q same xs)
-]
+find_same p q same xs = grind arith
 
 pub find_none : {X : Type 0} (p : X → Bool) (xs : List X) → AllByRecursion (λ x. p x ≡ false) xs → find p xs ≡ None
 find_none p [] all = refl
@@ -228,12 +219,7 @@ module _ (given : Given) where
         waits x f S (inr (inr (inr (s, ending)))) = inr (inr (inr (s, inl ending)))
 
     pub kept : IsKept net laws is most_routes most_services up RightedOf
-    kept = record {
-      same = same_left;
-      second = second_rights given before long clock few_seconds at_start;
-      delivery = delivery_rights given before long clock few_seconds at_start;
-      comes = silent_in_front;
-    }
+    kept = search (rules, same_left, second_rights, few_seconds, delivery_rights, silent_in_front)
 
     -- ---- when it begins
 
@@ -304,8 +290,7 @@ module _ (given : Given) where
             weaker (inr (inr (inr (s, ending)))) = inr (inr (inr (inr s, ending)))
 
     pub ended : RightedOf (left_of net laws is most_routes most_services up []) (forgotten last)
-    ended =
-        steps_so net laws is most_routes most_services up RightedOf kept steps run tick.busy.happens tick.leaves tick.says begins_right
+    ended = grind (arith, steps_so, kept, begins_right)
 
     -- ---- when it is over
 
@@ -316,19 +301,11 @@ module _ (given : Given) where
 
     none_ends : (x : ℕ) (f : Place) (waiting : List Waiting) → waiting ≡ []
         → Ends given before x f (map (λ w. w.delivery) waiting) → ⊥
-    none_ends x f waiting none any =
-        let gone : Ends given before x f [] =
-        subst (λ (ws : List Waiting). Ends given before x f (map (λ w. w.delivery) ws)) none any in
-        gone
+    none_ends x f waiting none any = grind arith
 
     still_then : (S : Type 0) (x port : ℕ) (f : Place) (w : Wanting x) → Source_of x w.v port f
         → Waits_by (left_of net laws is most_routes most_services up []) last.histories (map (λ w. w.delivery) last.waiting) x f S → Still (suc before) last f
-    still_then S x port f w source (inl early) =
-        let c = clock_is f.router f.port source.neighbour.on_there in
-        inl (omega (arith, c, early))
-    still_then S x port f w source (inr (inl due)) = let one = due.1 in absurd (omega (arith, one))
-    still_then S x port f w source (inr (inr (inl bad))) = inr bad.1
-    still_then S x port f w source (inr (inr (inr ending))) = absurd (none_ends x f last.waiting tick.busy.quiet ending.1)
+    still_then S x port f w source given = grind (arith, clock_is, none_ends)
 
     pub tick_rests : AtRest (suc before) last
     tick_rests = record {
@@ -366,9 +343,7 @@ module _ (given : Given) where
 
   pub ticks_rest_right : (so_far : ℕ) → most_ticks_gone ≤ so_far → (run : Run) (ticks : List (List Step)) → AtRest so_far run
       → CalmTicks net most_routes most_services run ticks → AtRest (length ticks + so_far) (ticked net most_routes most_services run ticks)
-  ticks_rest_right so_far long run [] rest are =
-      let same : so_far ≡ 0 + so_far = omega arith in
-      subst (λ (n : ℕ). AtRest n run) same rest
+  ticks_rest_right so_far long run [] rest are = grind arith
   ticks_rest_right so_far long run (steps ∷ ticks) rest are =
       let next = run_of net most_routes most_services run steps in
       let same : length ticks + suc so_far ≡ length (steps ∷ ticks) + so_far = omega arith in

@@ -1,6 +1,6 @@
 -- Where every route is of a real way, there is room: no more routes are held than there are networks that the router has no port on; and
 -- which of two routes is worse.
-use Rattle.std.proofs.Common.{◌≡◌, refl, sym, ap, ◌∙◌, subst, ℕ, zero, suc, ◌<◌, ◌≤◌, ◌==◌, nat_lt, ◌&&◌, Bool, true, false, not, List, [], ◌∷◌, length, map, filter, find, flat_map, get_or, None, Some, inl, inr, arith, true≢false, Less, Equal, Greater, is_eq}
+use Rattle.std.proofs.Common.{◌≡◌, refl, sym, ap, ◌∙◌, subst, ℕ, zero, suc, ◌<◌, ◌≤◌, ◌==◌, nat_lt, ◌&&◌, Bool, true, false, not, List, [], ◌∷◌, length, map, filter, find, flat_map, get_or, None, Some, inl, inr, arith, true≢false, Less, Equal, Greater, is_eq, rules}
 use Rattle.std.specs.List.{AllByRecursion, list_any}
 use Rattle.std.specs.Ordering.{nat_cmp, is_gt}
 use Rattle.std.specs.Cmp.{nat_cmp_is}
@@ -39,13 +39,7 @@ greater_is x y greater = sym (nat_cmp_is x y Greater greater)
 
 -- two numbers are the same where neither comes first
 pub same_where_equal : (x y : ℕ) → is_eq (nat_cmp x y) ≡ true → x ≡ y
-same_where_equal x y e = elim (cases_eq x y) [
-  | inl same ↦ same
-  | inr off ↦ elim (cases_lt x y) [
-    | inl less ↦ absurd (true≢false (sym e ∙ ap is_eq (less_is x y less)))
-    | inr most ↦ absurd (true≢false (sym e ∙ ap is_eq (greater_is x y (omega (arith, most, off)))))
-  ]
-]
+same_where_equal x y e = grind arith
 
 pub equal_where_same : (x y : ℕ) → x ≡ y → is_eq (nat_cmp x y) ≡ true
 equal_where_same x y same = ap is_eq (equal_is x y same)
@@ -194,9 +188,7 @@ module _ (net : Internet) (up : ℕ → List ℕ) (there_where_up : (router port
 
     pub has_room : IsReal net up router o → find (λ h. is_eq (network_order h.offer.network o.network)) held ≡ None
         → (nat_lt (length held) most_routes && has_share (route_rules ports most_routes) o held) ≡ true
-    has_room real =
-        admits route_reading network_order network_total one most_routes (map (λ p. p.route_share) ports) others table each held single are_listed o
-        (listed o.network others (is_other router real))
+    has_room real = search (rules, admits, network_total, one, table, each, single, are_listed, listed, is_other)
 
     pub may : (h : Held RouteOffer) → find (λ h. is_eq (network_order h.offer.network o.network)) held ≡ Some h
         → may_replace (route_rules ports most_routes) o held h ≡ true

@@ -1,20 +1,19 @@
 -- What a router says of a network of which it has the least way: that way, gone on; and it says so in each periodic broadcast.
-use Rattle.std.proofs.Common.{◌≡◌, ◌≢◌, refl, sym, ap, ◌∙◌, subst, ◌⊎◌, ℕ, ◌+◌, ◌<◌, ◌≤◌, ◌==◌, nat_lt, Bool, true, false, not, List, [], ◌∷◌, ◌++◌, length, map, filter, flat_map, find, Option, Some, None, IfSome, inl, inr, arith, is_eq}
+use Rattle.std.proofs.Common.{◌≡◌, ◌≢◌, refl, sym, ap, ◌∙◌, subst, ◌⊎◌, ℕ, ◌+◌, ◌<◌, ◌≤◌, ◌==◌, nat_lt, Bool, true, not, List, [], ◌∷◌, ◌++◌, length, map, filter, flat_map, find, Option, Some, None, IfSome, inl, inr, arith, is_eq}
 use Rattle.std.specs.List.{AllByRecursion}
-use Rattle.std.proofs.lemmas.Bool.{cases_Bool, ltb-false}
+use Rattle.std.proofs.lemmas.Bool.{cases_Bool}
 use Rattle.ipx_wire.specs.declared.network.Network.{Network}
 use Rattle.ipx_wire.specs.declared.rip.Operation.TheVariants.{Response}
 use Rattle.ipx_wire.specs.declared.rip.RipEntry.{RipEntry}
 use Rattle.ipx_router.specs.Changes.{Change, change_at, changes, differs, put_keys}
-use Rattle.ipx_router.specs.News.{route_now, route_told, news, same_route}
+use Rattle.ipx_router.specs.News.{route_told, news, same_route}
 use Rattle.ipx_router.specs.Numbers.{entries_a_page}
 use Rattle.ipx_router.specs.Pages.{pages_from, pages}
 use Rattle.ipx_router.specs.Port.{Port, IsPort, broadcast, port_at, is_up, own_address, everyone}
 use Rattle.ipx_router.specs.Relays.{Sent}
 use Rattle.ipx_router.specs.Routes.{network_order}
-use Rattle.ipx_router.specs.Sends.{Holding, second_on, news_on, rip_broadcast, sap_broadcast, entries_sent}
-use Rattle.ipx_router.specs.Told.{network_before, by_network, by_name, is_reached_on, told_at, dead, direct_entry, direct, entry_of, is_route_told, learned, told, told_services}
-use Rattle.ipx_router.specs.News.{news_services}
+use Rattle.ipx_router.specs.Sends.{Holding, second_on, news_on, rip_broadcast, entries_sent}
+use Rattle.ipx_router.specs.Told.{network_before, told_at, direct_entry, direct, entry_of, is_route_told, learned, told}
 use Rattle.ipx_router.specs.declared.route_offer.RouteOffer.{RouteOffer}
 use Rattle.ipx_router.proofs.lists.EachElement.{all-find, all_sorted}
 use Rattle.ipx_router.proofs.sending.OwnPacketsAreValid.{Writable}
@@ -22,19 +21,11 @@ use Rattle.ipx_router.proofs.lists.ItemsOfPages.{IsPage, all_pages}
 use Rattle.ipx_router.proofs.port_values.PortOfEachNumber.{members}
 use Rattle.ipx_router.proofs.bytes.LawsOfLayouts.{Readings, Rereadings}
 use Rattle.ipx_internet.proofs.lists.EachElement.{all_of, all_then, all_passed, all-append, all-filter, all-map, all-flat_map}
-use Rattle.ipx_internet.proofs.packets.AdvertisedIsHeld.{unless}
 use Rattle.ipx_internet.proofs.packets.PagesReadAgain.{IsRipPage, everyone_is, rip_again}
 use Rattle.ipx_internet.proofs.places.OneReceiverOfANode.{same_number}
 use Rattle.ipx_laws.specs.Least.{Way, way_of}
 use Rattle.ipx_laws.proofs.lists.SomeElement.{found_with, AnyIs, any_and_all, any_in_front, any_behind, any-map, any-filter, any-flat_map, any-sorted}
-use Rattle.ipx_laws.proofs.tables.NoRouteIsBetter.{told_ticks}
 use Rattle.ipx_laws.proofs.tables.RoomForEachNetwork.{same_where_equal}
-
--- entries with the same fields
-same_entry : (a b : RipEntry) → a.network ≡ b.network → a.hops ≡ b.hops → a.ticks ≡ b.ticks → a ≡ b
-same_entry a b network hops ticks =
-    let make : Network → ℕ → ℕ → RipEntry = λ n h t. record { network = n; hops = h; ticks = t } in
-    ap (λ n. make n a.hops a.ticks) network ∙ ap (λ h. make b.network h a.ticks) hops ∙ ap (λ t. make b.network b.hops t) ticks
 
 -- ---- pages
 
@@ -73,16 +64,10 @@ module _ (ports : List Port) (network : Network) (u : Way) where
 
   module _ (few_ticks : (j : ℕ) → u.ticks + (port_at ports j).cost < 65535) where
     told_word : (j : ℕ) (e : RipEntry) → e.hops ≡ u.hops → e.ticks ≡ u.ticks → IsWord j (told_at (port_at ports j).cost e)
-    told_word j e hops ticks named =
-        let cost = (port_at ports j).cost in
-        let few = few_ticks j in
-        same_entry (told_at cost e) (word j) named (ap (λ n. n + 1) hops)
-        (told_ticks cost e (omega (arith, ticks, few)) ∙ ap (λ n. n + cost) ticks)
+    told_word j e hops ticks named = grind arith
 
     route_word : (j : ℕ) (r : RouteOffer) → HasWay r → IsWord j (told_at (port_at ports j).cost (entry_of r))
-    route_word j r has named =
-        let way = has named in
-        told_word j (entry_of r) (ap (λ (w : Way). w.hops) way) (ap (λ (w : Way). w.ticks) way) named
+    route_word j r has named = grind arith
 
     -- ---- all that is advertised
 
@@ -113,20 +98,9 @@ module _ (ports : List Port) (network : Network) (u : Way) where
     IsFine c = IfSome c.after HasWay × (c.after ≡ None → IfSome c.before (λ r. r.network ≢ network))
 
     module _ (near : u.hops ≤ 14) where
-      now : (j : ℕ) (r : RouteOffer) → HasWay r → IsWord j (route_now (port_at ports j) r)
-      now j r has = elim (cases_Bool (is_reached_on r.hops)) [
-        | inl e ↦ rw e (route_word j r has)
-        | inr e ↦ rw e (λ named.
-            let hops = ap (λ (w : Way). w.hops) (has named) in
-            let far = ltb-false r.hops 15 e in
-            absurd (omega (arith, hops, far, near)))
-      ]
-
       each : (j : ℕ) (old new : Option RouteOffer) → IfSome new HasWay → (new ≡ None → IfSome old (λ r. r.network ≢ network))
           → AllByRecursion (IsWord j) (route_told ports j (record { before = old; after = new }))
-      each j old (Some r) has gone = unless (IsWord j) (r.port == j) (route_now (port_at ports j) r) (λ other. now j r has)
-      each j (Some r) None has gone = unless (IsWord j) (r.port == j) (dead (entry_of r)) (λ other named. absurd (gone refl named))
-      each j None None has gone = tt
+      each j old new has gone = grind arith
 
       pub news_words : (before after : List RouteOffer) → AllByRecursion HasWay after → AllByRecursion (λ r. r.network ≡ network → there after ≡ None → ⊥) before
           → (j : ℕ) → AllByRecursion (IsWord j) (news ports before after j)
@@ -212,25 +186,14 @@ module _ (ports : List Port) (network : Network) (u : Way) where
       gone = news ports before.routes after.routes j
 
       pub news_tell : AnyIs IsOf gone → AnyIs (Tells P j) (flat_map (news_on ports before after) after.up)
-      news_tell any =
-          at_port (news_on ports before after) after.up on
-          (any_in_front (Tells P j) (rip_broadcast ports j gone) (sap_broadcast ports j (news_services before.services after.services j)) (rip_tells gone changed any))
+      news_tell any = grind (arith, at_port, any_in_front, rip_tells)
 
       module _ (all : AllByRecursion (Writable P) rest) where
         periodic_tells : AnyIs IsOf rest ⊎ AnyIs IsOf gone → AnyIs (Tells P j) (second_on ports before after true j)
-        periodic_tells any =
-            any_in_front (Tells P j) (rip_broadcast ports j (by_network (rest ++ gone)))
-            (sap_broadcast ports j (by_name (told_services after.services j ++ news_services before.services after.services j)))
-            (rip_tells (by_network (rest ++ gone))
-            (all_sorted (Writable P) network_before (rest ++ gone) (all-append (Writable P) rest gone all changed))
-            (any-sorted IsOf network_before (rest ++ gone) (elim any [
-              | inl here ↦ any_in_front IsOf rest gone here
-              | inr here ↦ any_behind IsOf rest gone here
-            ])))
+        periodic_tells any = grind (arith, any_in_front, rip_tells, all_sorted, Writable, all-append, any-sorted, any_behind)
 
         pub second_tells : AnyIs IsOf rest → AnyIs (Tells P j) (flat_map (second_on ports before after true) after.up)
         second_tells any = at_port (second_on ports before after true) after.up on (periodic_tells (inl any))
 
         pub change_tells : (periodic : Bool) → AnyIs IsOf gone → AnyIs (Tells P j) (flat_map (second_on ports before after periodic) after.up)
-        change_tells true any = at_port (second_on ports before after true) after.up on (periodic_tells (inr any))
-        change_tells false any = news_tell any
+        change_tells periodic any = grind (arith, at_port, periodic_tells, news_tell)

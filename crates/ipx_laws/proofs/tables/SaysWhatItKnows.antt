@@ -214,12 +214,7 @@ module _ (given : Given) where
 
     -- a router on the network knows, where all routes are real
     pub knows_on : (router : ℕ) (u : Way) (routes : List RouteOffer) → is_on (ports_of net router) network ≡ true → AllReal router routes → Knows router u routes
-    knows_on router u routes on real = record {
-      has = all_then (λ r. is_on (ports_of net router) r.network ≡ false) (HasWay (ports_of net router) network u)
-          (λ r off named. absurd (both_ways (is_on (ports_of net router) network) (subst (λ (n : Network). is_on
-          (ports_of net router) n ≡ false) named off) on)) routes real;
-      there = λ off none. both_ways (is_on (ports_of net router) network) off on;
-    }
+    knows_on router u routes on real = grind (arith, all_then, HasWay, both_ways)
 
     -- and another one, where it holds a route of its way
     pub knows_off : (router : ℕ) (w : Wants router) (history : History) (h : Held RouteOffer)

@@ -91,10 +91,7 @@ module _ (given : Given) (before : ℕ) (long : most_ticks_gone ≤ before) (clo
     after_it = with_event histories x Second
 
     listed : x < length histories
-    listed =
-        let each = righted.going.are.each in
-        let within_net = inside in
-        omega (arith, each, within_net)
+    listed = grind arith
 
     is_now : history_of after_it x ≡ now
     is_now = get_or-set_same histories x now [] listed

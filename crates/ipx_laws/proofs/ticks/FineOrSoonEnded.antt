@@ -1,5 +1,5 @@
 -- What a router has and hears while anything happens: what is fine, or so old that it soon ends.
-use Rattle.std.proofs.Common.{◌≡◌, ◌≢◌, refl, sym, subst, ◌⊎◌, ℕ, ◌*◌, ◌<◌, ◌≤◌, true, List, [], ◌∷◌, ◌++◌, map, Option, Some, None, IfSome, inl, inr, arith, true≢false}
+use Rattle.std.proofs.Common.{◌≡◌, ◌≢◌, refl, sym, subst, ◌⊎◌, ℕ, ◌*◌, ◌<◌, ◌≤◌, true, List, [], ◌∷◌, ◌++◌, map, Option, Some, None, IfSome, inl, arith, true≢false, rules}
 use Rattle.std.specs.List.{AllByRecursion}
 use Rattle.ipx_table.specs.Facts.{Fact}
 use Rattle.ipx_wire.specs.declared.address.Address.{Address}
@@ -54,9 +54,7 @@ module _ (IsFine : Network → Type 0) (IsServed : Service → Type 0) where
 
   -- one hop farther too
   pub farther_fine : (s : Service) → IsFineService s → IsFineService (farther s)
-  farther_fine s fine =
-      let less = fine.1 in
-      (fine.0, omega (arith, less), fine.2)
+  farther_fine s fine = grind arith
 
   -- ---- what is said, when so many ticks have begun: of what is reached, what is fine, or was told soon enough
 
@@ -115,13 +113,7 @@ module _ (IsFine : Network → Type 0) (IsServed : Service → Type 0) where
       pub services : ServicesAged had (service_facts ports history)
 
     pub abides_first : (history : History) → Abides 0 history
-    abides_first history = record {
-      routes =
-          at_first route_reading network_order network_total most_routes (map (λ p. p.route_share) ports) (λ r. r.hops) (λ r. refl) FineRoute (route_facts ports history);
-      services =
-          at_first service_reading service_order service_total most_services (map (λ p. p.service_share) ports) (λ s. s.service.hops) (λ s. refl) FineService
-          (service_facts ports history);
-    }
+    abides_first history = search (rules, at_first, network_total, service_total)
 
     -- ---- what is heard
 
@@ -134,8 +126,7 @@ module _ (IsFine : Network → Type 0) (IsServed : Service → Type 0) where
           IsOldOffer service_reading service_order service_total most_services (map (λ p. p.service_share) ports) (λ s. s.service.hops) (λ s. refl) FineService had
 
       sooner : {A : Type 0} (hops : ℕ) → A ⊎ (begun ≤ lifetime * hops) → A ⊎ (had ≤ lifetime * hops)
-      sooner hops (inl fine) = inl fine
-      sooner hops (inr soon) = inr (omega (arith, soon, late))
+      sooner hops given = grind arith
 
       route_old : (node : Node) (e : RipEntry) → RouteSaid begun e → RouteOld (route_offer number node e)
       route_old node e said near = sooner e.hops (said near)

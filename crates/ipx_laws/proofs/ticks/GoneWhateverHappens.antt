@@ -1,5 +1,5 @@
 -- Whatever else happens meanwhile, after the most ticks there is no route to a network that is gone, and no service that nobody announces.
-use Rattle.std.proofs.Common.{◌≡◌, ◌≢◌, refl, ap, subst, ℕ, suc, ◌+◌, ◌<◌, ◌≤◌, true, List, [], ◌∷◌, length, map, inl, inr, arith}
+use Rattle.std.proofs.Common.{◌≡◌, ◌≢◌, refl, subst, ℕ, ◌+◌, ◌<◌, ◌≤◌, true, List, [], ◌∷◌, length, map, inl, inr, arith}
 use Rattle.std.specs.List.{AllByRecursion}
 use Rattle.std.proofs.lemmas.Bool.{both_ways}
 use Rattle.ipx_table.specs.declared.held.Held.{Held}
@@ -38,8 +38,7 @@ use Rattle.ipx_laws.proofs.ticks.RoutesBecomeReal.{among_ups}
 pub each_then : (net : Internet) (most_routes most_services : ℕ) (P Q : Run → List Step → Type 0) → ((run : Run) (steps : List Step) → P run steps → Q run steps)
     → (run : Run) (ticks : List (List Step)) → EachTick net most_routes most_services P run ticks → EachTick net most_routes most_services Q run ticks
 each_then net most_routes most_services P Q step run [] each = tt
-each_then net most_routes most_services P Q step run (steps ∷ ticks) each =
-    (step run steps each.0, each_then net most_routes most_services P Q step (run_of net most_routes most_services run steps) ticks each.1)
+each_then net most_routes most_services P Q step run (steps ∷ ticks) each = grind (arith, each_then net most_routes most_services P Q step (run_of net most_routes most_services run steps) ticks each.1)
 
 -- every network is one that may be there, before and after every step
 abbrev pub EveryNetwork : Network → Type 0
@@ -79,9 +78,7 @@ module _ (net : Internet) (laws : Layouts) (is : IsInternet net) (most_routes mo
     no_route_said begun source Request entries without = inr (λ s. tt)
 
     routeless : (begun : ℕ) (m : Heard) → IsWithoutRoute network m → Said IsOther Any begun m
-    routeless begun (HeardRip source rip) without = no_route_said begun source rip.operation rip.entries without
-    routeless begun (HeardSap source (Query nearest kind)) without = inl without
-    routeless begun (HeardSap source (SapResponse nearest entries)) without = all_of (EntrySaid IsOther Any begun) (λ e near name same. inl (e.hops, omega arith, tt)) entries
+    routeless begun m without = grind (arith, no_route_said, all_of, EntrySaid)
 
     gone_stays : (now : List History) → IsGone net now network → Stays IsOther Any net laws is most_routes most_services now
     gone_stays now gone at number on same =
@@ -112,14 +109,12 @@ module _ (net : Internet) (laws : Layouts) (is : IsInternet net) (most_routes mo
 
     asks_elsewhere : (begun : ℕ) (source : Address) (operation : Operation) (entries : List RipEntry) → AsksElsewhere source operation
         → RipSaid EveryNetwork IsOtherKey begun source operation entries
-    asks_elsewhere begun source Response entries elsewhere = all_of (RouteSaid EveryNetwork IsOtherKey begun) (λ e near. inl tt) entries
-    asks_elsewhere begun source Request entries elsewhere = inl elsewhere
+    asks_elsewhere begun source operation entries elsewhere = grind (arith, all_of, RouteSaid)
 
     serviceless : (begun : ℕ) (m : Heard) → IsWithoutService key m → Said EveryNetwork IsOtherKey begun m
     serviceless begun (HeardRip source rip) without = asks_elsewhere begun source rip.operation rip.entries without
     serviceless begun (HeardSap source (Query nearest kind)) without = inr (λ n. tt)
-    serviceless begun (HeardSap source (SapResponse nearest entries)) without =
-        all_then _ (EntrySaid EveryNetwork IsOtherKey begun) (λ e other near name same. inl (e.hops, omega arith, other near name same)) entries without
+    serviceless begun (HeardSap source (SapResponse nearest entries)) without = grind (arith, all_then, EntrySaid)
 
     pub no_such_service : AllByRecursion (AllByRecursion (SaysOnly (IsWithoutService key))) ticks
         → AllByRecursion (λ s. (s.service.kind, s.service.name) ≢ key) (offers (services_held ports most_services past))
@@ -139,6 +134,4 @@ none_left (s ∷ services) none = absurd ((none (s.service.kind, s.service.name)
 
 pub no_records : {O : Type 0} (records : List (Held O)) → offers records ≡ [] → records ≡ []
 no_records [] e = refl
-no_records (h ∷ records) e =
-    let more : suc (length (offers records)) ≡ 0 = ap length e in
-    absurd (omega (arith, more))
+no_records (h ∷ records) e = grind arith

@@ -60,9 +60,7 @@ module _ (IsFine : Network → Type 0) (IsServed : Service → Type 0) (begun : 
     read_as_services all (Err fault) e = nothing e
     read_as_services all (Ok (Query nearest kind)) e =
         absurd (it_is IsAnswering (HeardSap p.header.source (Query nearest kind)) m (sym e) (answering p answers m heard))
-    read_as_services all (Ok (SapResponse nearest entries)) e =
-        it_is Message m (HeardSap p.header.source (SapResponse nearest entries)) e
-        (all_of (EntrySaid IsFine IsServed begun) (λ x near name is. inl (x.hops, omega arith, all (service_of x name))) entries)
+    read_as_services all (Ok (SapResponse nearest entries)) e = grind (arith, it_is, all_of, EntrySaid)
 
     read_as_routes : AllFine IsFine IsServed → (r : Result RipParts RipFault)
         → elim r [ Ok rip ↦ Some (HeardRip p.header.source rip) | Err fault ↦ None ] ≡ Some m → Message m
@@ -143,18 +141,14 @@ module _ (IsFine : Network → Type 0) (IsServed : Service → Type 0) (begun : 
         (sap_pages laws.readings laws.again ports number is_port Named to to_is nearest services tellable)
 
     pub rip_broadcast_tells : (entries : List RipEntry) → AllByRecursion (Writable Entry) entries → AllByRecursion Utters (rip_broadcast ports number entries)
-    rip_broadcast_tells entries written =
-        entries_tell (everyone port) (everyone_is port is_port) (inl (λ (e : rip_socket ≡ sap_socket). omega (arith, e))) entries written
+    rip_broadcast_tells entries written = grind (arith, entries_tell, everyone_is)
 
     pub sap_broadcast_tells : (services : List Service) → AllByRecursion (Tellable Named) services → AllByRecursion Utters (sap_broadcast ports number services)
-    sap_broadcast_tells services tellable =
-        services_tell (every_server port) (every_server_is port is_port) false (inl (λ (e : sap_socket ≡ rip_socket). omega (arith, e))) services tellable
+    sap_broadcast_tells services tellable = grind (arith, services_tell, every_server_is)
 
     pub broadcasts_tell : (entries : List RipEntry) (services : List Service) → AllByRecursion (Writable Entry) entries → AllByRecursion (Tellable Named) services
         → AllByRecursion Utters (broadcasts ports number entries services)
-    broadcasts_tell entries services written tellable =
-        all-append Utters (rip_broadcast ports number entries) (sap_broadcast ports number services) (rip_broadcast_tells entries written)
-        (sap_broadcast_tells services tellable)
+    broadcasts_tell entries services written tellable = grind (arith, all-append, rip_broadcast_tells, sap_broadcast_tells)
 
     -- ---- requests and queries
 

@@ -1,19 +1,18 @@
 -- What a router has and says while time passes and packets come: routes are of real ways, or so old that they soon end, and what it says of
 -- them too.
-use Rattle.std.proofs.Common.{◌≡◌, ◌≢◌, refl, sym, ◌∙◌, subst, ◌⊎◌, ℕ, suc, ◌+◌, ◌*◌, ◌<◌, ◌≤◌, ◌==◌, true, false, List, [], ◌∷◌, ◌++◌, map, Option, Some, None, Ok, inl, inr, arith, append-nil, true≢false}
+use Rattle.std.proofs.Common.{◌≡◌, ◌≢◌, refl, sym, subst, ◌⊎◌, ℕ, suc, ◌+◌, ◌*◌, ◌<◌, ◌≤◌, ◌==◌, true, false, List, [], ◌∷◌, ◌++◌, map, Option, Some, None, Ok, inl, inr, arith, append-nil, rules}
 use Rattle.std.specs.List.{AllByRecursion}
 use Rattle.std.proofs.lemmas.Bool.{cases_Bool, eqb-false}
 use Rattle.ipx_table.specs.Facts.{Fact}
 use Rattle.ipx_wire.specs.Packet.{Parts, packet_of}
-use Rattle.ipx_wire.specs.declared.rip.Operation.TheVariants.{Response}
 use Rattle.ipx_wire.specs.declared.rip.RipEntry.{RipEntry}
 use Rattle.ipx_table.specs.Alive.{lifetime}
 use Rattle.ipx_router.specs.Facts.{route_offer, routes_offered, routes_heard, heard_after, route_facts, route_facts_of, routes_held, offers}
-use Rattle.ipx_router.specs.Heard.{Heard, HeardRip, heard_in}
+use Rattle.ipx_router.specs.Heard.{Heard, heard_in}
 use Rattle.ipx_router.specs.History.{History, Second, Packet, running, ports_up}
 use Rattle.ipx_router.specs.News.{news}
 use Rattle.ipx_router.specs.Numbers.{unreachable}
-use Rattle.ipx_router.specs.Port.{Port, port_at, is_up, takes_no_route, own_address}
+use Rattle.ipx_router.specs.Port.{Port, port_at, is_up, takes_no_route}
 use Rattle.ipx_router.specs.Routes.{route_reading, network_order}
 use Rattle.ipx_router.specs.Told.{told, told_at, direct_entry, entry_of, dead}
 use Rattle.ipx_router.specs.declared.route_offer.RouteOffer.{RouteOffer}
@@ -79,21 +78,14 @@ module _ (net : Internet) (up : ℕ → List ℕ) where
       pub ups : ports_up ports history ≡ up router
 
     pub at_begin : (history : History) → ports_up ports history ≡ up router → Endures 0 history
-    at_begin history same = record {
-      routes =
-          at_first route_reading network_order network_total most_routes (map (λ p. p.route_share) ports) (λ r. r.hops) (λ r. refl) (IsReal net up router)
-          (route_facts ports history);
-      ups = same;
-    }
+    at_begin history same = search (rules, at_first, network_total)
 
     -- ---- a second
 
     module _ (had : ℕ) (history : History) (endures : Endures had history) where
       -- nothing is held by a port that isn't up
       no_port : (ups : List ℕ) (port : ℕ) → ups ≡ [] → is_up ups port ≡ true → ⊥
-      no_port ups port none on =
-          let none_on : is_up [] port ≡ true = subst (λ (us : List ℕ). is_up us port ≡ true) none on in
-          true≢false (sym none_on)
+      no_port ups port none on = grind arith
 
       second_routes : RoutesAged (suc had) (route_facts ports (history ++ Second ∷ []))
       second_routes =
@@ -113,17 +105,11 @@ module _ (net : Internet) (up : ℕ → List ℕ) where
           ])
 
       pub second_endures : Endures (suc had) (history ++ Second ∷ [])
-      second_endures = record {
-        routes = second_routes;
-        ups = ports_stay ports history Second refl refl (λ port. refl) (λ port. refl) ∙ endures.ups;
-      }
+      second_endures = grind (arith, second_routes, ports_stay)
 
     -- a router with a port up runs
     pub runs_where : (port had : ℕ) (history : History) → is_up (up router) port ≡ true → Endures had history → running history ≡ true
-    runs_where port had history here endures = elim (cases_Bool (running history)) [
-      | inl runs ↦ runs
-      | inr stopped ↦ absurd (no_port had history endures (up router) port (sym endures.ups ∙ none_up ports history stopped) here)
-    ]
+    runs_where port had history here endures = grind (arith, no_port, none_up)
 
     -- ---- a packet
 
@@ -154,15 +140,7 @@ module _ (net : Internet) (up : ℕ → List ℕ) where
 
       page_old : is_up (up router) number ≡ true → (p : Parts) (m : Heard) → packet_of bytes ≡ Ok p → heard_in p ≡ Some m → message_of bytes ≡ Some m
           → Comes (RouteSaid begun) (record { router = router; port = number }) bytes → OldHeard m
-      page_old on p m read e message (inr silent) = silent_old m (silent m message)
-      page_old on p m read e message (inl (from, reaches, own)) =
-          let port = port_of net from in
-          elim (own_heard (RouteSaid begun from) port bytes own p m read e) [
-            | inl page ↦
-                it_is OldHeard m (HeardRip (own_address port) (record { operation = Response; entries = own.page.page })) page
-                (routes_old from reaches on own.page.page own.page.each)
-            | inr silent ↦ silent_old m silent
-          ]
+      page_old on p m read e message given = grind (arith, silent_old, own_heard, it_is, routes_old)
 
       module _ (history : History) (endures : Endures had history) where
         abbrev heard_now : Option Heard
@@ -176,13 +154,7 @@ module _ (net : Internet) (up : ℕ → List ℕ) where
             page_old on came.packet m came.read (near_in (port_at ports number) came.packet m came.near) (heard_message ports history number bytes m e) says
 
         pub packet_endures : Endures had (history ++ Packet number bytes ∷ [])
-        packet_endures = record {
-          routes =
-              subst (λ (fs : List (Fact RouteOffer)). RoutesAged had fs) (sym (facts_from-more (route_facts_of ports) [] history (Packet number bytes)))
-              (after_offers route_reading network_order network_total most_routes (map (λ p. p.route_share) ports) (λ r. r.hops) (λ r. refl) (IsReal net up router)
-              had (routes_heard ports number heard_now) (route_facts ports history) (old_heard heard_now refl) endures.routes);
-          ups = ports_stay ports history (Packet number bytes) refl refl (λ port. refl) (λ port. refl) ∙ endures.ups;
-        }
+        packet_endures = search (rules, facts_from-more, after_offers, network_total, old_heard, ports_stay)
 
     -- ---- what it says
 

@@ -1,5 +1,5 @@
 -- After the ticks by which what is gone is gone, each route is of a real way, so that none is to a network that is gone.
-use Rattle.std.proofs.Common.{◌≡◌, ◌≢◌, refl, sym, ap, ◌∙◌, subst, ℕ, ◌≤◌, ◌<◌, ◌==◌, true, false, List, [], ◌∷◌, length, map, inl, inr}
+use Rattle.std.proofs.Common.{◌≡◌, ◌≢◌, refl, sym, ap, ◌∙◌, subst, ℕ, ◌≤◌, ◌<◌, ◌==◌, true, false, List, [], ◌∷◌, length, map, inl, inr, arith, rules}
 use Rattle.std.specs.List.{AllByRecursion}
 use Rattle.std.proofs.lemmas.Bool.{both_ways, eq-eqb, eqb-true, or_cases, or_left, or_right}
 use Rattle.ipx_wire.specs.declared.network.Network.{Network}
@@ -52,14 +52,9 @@ nowhere net histories network gone (farther from s apart taken near real) same =
 
 -- nor over a port that is down
 module _ (net : Internet) (up : ℕ → List ℕ) (place : Place) (down : is_up (up place.router) place.port ≡ false) where
-  off : (p : Place) → is_up (up p.router) p.port ≡ true → p ≢ place
-  off p on same = both_ways (is_up (up place.router) place.port) down (subst (λ (k : Place). is_up (up k.router) k.port ≡ true) same on)
-
   not_over : (router : ℕ) (r : RouteOffer) (real : IsReal net up router r) → AllByRecursion (λ p. p ≢ place) (led_over net up router r real)
-  not_over router r (next from beside on apart taken) =
-      (off (record { router = router; port = r.port }) taken.here, (off from taken.there, (off (record { router = from.router; port = beside }) on, tt)))
-  not_over router r (farther from s apart taken near real) =
-      (off (record { router = router; port = r.port }) taken.here, (off from taken.there, not_over from.router s real))
+  not_over router r (next from beside on apart taken) = grind arith
+  not_over router r (farther from s apart taken near real) = grind (arith, not_over from.router s real)
 
 -- a run in which so many ticks passed since the ports were as they were after these histories
 module _ (net : Internet) (laws : Layouts) (is : IsInternet net) (most_routes most_services : ℕ) (histories : List History) (count : ℕ) (last : Run)
@@ -85,11 +80,7 @@ module _ (net : Internet) (laws : Layouts) (is : IsInternet net) (most_routes mo
     pub none_over : (place : Place) → is_up (ups net histories place.router) place.port ≡ false
         → AllByRecursion (λ r. (real : IsReal net (ups net histories) router r) × AllByRecursion (λ p. p ≢ place) (led_over net (ups net histories) router r real))
         (offers (routes_held ports most_routes past))
-    none_over place down =
-        all_then (IsReal net (ups net histories) router) _ (λ r real. (real, not_over net (ups net histories) place down router r real))
-        (offers (routes_held ports most_routes past)) all_real
+    none_over place down = grind (arith, all_then, not_over, all_real)
 
     pub no_network : (network : Network) → IsGone net histories network → AllByRecursion (λ r. r.network ≢ network) (offers (routes_held ports most_routes past))
-    no_network network gone =
-        all_then (IsReal net (ups net histories) router) (λ r. r.network ≢ network) (λ r real. nowhere net histories network gone real)
-        (offers (routes_held ports most_routes past)) all_real
+    no_network network gone = search (rules, all_then, nowhere, all_real)

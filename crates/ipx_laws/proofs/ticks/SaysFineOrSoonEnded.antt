@@ -46,8 +46,7 @@ use Rattle.ipx_laws.proofs.ticks.OwnPagesSayFine.{Entry, Named, Say, entries_tel
 
 -- a list where a test holds, or where it doesn't
 where_so : {X : Type 0} (P : X → Type 0) (c : Bool) (xs : List X) → (c ≡ true → AllByRecursion P xs) → AllByRecursion P (if c then xs else [])
-where_so P true xs all = all refl
-where_so P false xs all = tt
+where_so P c xs all = grind arith
 
 or_not : {X : Type 0} (P : X → Type 0) (c : Bool) (xs : List X) → AllByRecursion P xs → AllByRecursion P (if c then [] else xs)
 or_not P true xs all = tt

@@ -1,10 +1,9 @@
 -- Whatever else happens meanwhile, after the most ticks there is no service but those that hosts announced in them.
-use Rattle.std.proofs.Common.{◌≡◌, refl, sym, ap, ◌∙◌, subst, ℕ, suc, ◌+◌, ◌<◌, ◌≤◌, List, [], ◌∷◌, ◌++◌, length, map, Option, Some, IfSome, inl, inr, arith}
+use Rattle.std.proofs.Common.{◌≡◌, refl, sym, ap, ◌∙◌, subst, ℕ, suc, ◌+◌, ◌<◌, ◌≤◌, List, [], ◌∷◌, ◌++◌, length, map, Option, Some, IfSome, inl, inr, arith, rules}
 use Rattle.std.specs.List.{AllByRecursion}
 use Rattle.std.proofs.lemmas.List.{append_assoc}
 use Rattle.ipx_wire.specs.declared.address.Address.{Address}
 use Rattle.ipx_wire.specs.declared.rip.Operation.{Operation}
-use Rattle.ipx_wire.specs.declared.rip.Operation.TheVariants.{Request, Response}
 use Rattle.ipx_wire.specs.declared.rip.RipEntry.{RipEntry}
 use Rattle.ipx_wire.specs.declared.sap.Sap.TheVariants.{Query, Response as SapResponse}
 use Rattle.ipx_wire.specs.declared.sap_entries.SapEntry.{SapEntry}
@@ -46,8 +45,7 @@ module _ (net : Internet) (laws : Layouts) (is : IsInternet net) (most_routes mo
 
   asks : (begun : ℕ) (source : Address) (operation : Operation) (entries : List RipEntry) → AsksElsewhere source operation
       → RipSaid EveryNetwork Served begun source operation entries
-  asks begun source Response entries elsewhere = all_of (RouteSaid EveryNetwork Served begun) (λ e near. inl tt) entries
-  asks begun source Request entries elsewhere = inl elsewhere
+  asks begun source operation entries elsewhere = grind (arith, all_of, RouteSaid, EveryNetwork)
 
   harmless : (begun : ℕ) (m : Heard) → SaysServed m → Said EveryNetwork Served begun m
   harmless begun (HeardRip source rip) says = asks begun source rip.operation rip.entries says
@@ -112,8 +110,7 @@ module _ (net : Internet) (laws : Layouts) (is : IsInternet net) (most_routes mo
 
     one_more : (begun : ℕ) (earlier : List Step) (step : Step) (later : List Step) → Steps begun (steps_by before (earlier ++ step ∷ [])) later
         → Steps begun (stepped net most_routes most_services (steps_by before earlier) step) later
-    one_more begun earlier step later tell =
-        subst (λ (run : Run). Steps begun run later) (run_more most_routes most_services net (ticked_by before) earlier (step ∷ [])) tell
+    one_more begun earlier step later tell = grind (arith, run_more)
 
     moved : (earlier : List Step) (step : Step) (later : List Step) → tick ≡ earlier ++ step ∷ later → tick ≡ (earlier ++ step ∷ []) ++ later
     moved earlier step later of_tick = of_tick ∙ sym (append_assoc earlier (step ∷ []) later)
@@ -126,8 +123,7 @@ module _ (net : Internet) (laws : Layouts) (is : IsInternet net) (most_routes mo
           event_tells begun earlier router event later of_tick apart.0,
           one_more begun earlier step later (steps_tell begun (earlier ++ step ∷ []) later (moved earlier step later of_tick) apart.1),
         )
-    steps_tell begun earlier (Settles ∷ later) of_tick apart =
-        (tt, one_more begun earlier Settles later (steps_tell begun (earlier ++ Settles ∷ []) later (moved earlier Settles later of_tick) apart.1))
+    steps_tell begun earlier (Settles ∷ later) of_tick apart = search (rules, steps_tell begun (earlier ++ Settles ∷ []) later (moved earlier Settles later of_tick) apart.1, one_more, moved)
 
   ticks_tell : (so_far : ℕ) (before rest : List (List Step)) → ticks ≡ before ++ rest → AllByRecursion (AllByRecursion (SaysOnly AsksApart)) rest
       → TicksTell EveryNetwork Served net laws is most_routes most_services so_far (ticked_by before) rest
