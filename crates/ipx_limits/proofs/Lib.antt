@@ -1,5 +1,9 @@
-pub mod TwoLevels
+pub mod SharedQueues
+pub mod Several
+pub mod Clients
 pub mod Limited
+pub mod OneClient
+pub mod OfFrames
 pub mod Settings
 pub mod ToStrangers
 pub mod examples

@@ -1,6 +1,7 @@
--- a packet that two receivers have to hear
-pub mod TwoLevels
-pub mod PairEvents
+-- what all receivers that hear a packet count
+pub mod Several
+-- which queue a speaker has
+pub mod Queues
 -- the limits of a network
 pub mod Numbers
 pub mod Limits
@@ -12,3 +13,4 @@ pub mod Receiving
 pub mod Strangers
 -- what follows
 pub mod Metered
+pub mod ClientEvents

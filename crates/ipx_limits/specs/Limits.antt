@@ -8,7 +8,8 @@ use Rattle.ipx_limits.specs.declared.limits.Limits.{Limits}
 use Rattle.ipx_limits.specs.declared.network.Link.{Link}
 use Rattle.ipx_limits.specs.declared.network.Link.TheVariants.{Tunnel, Frames}
 use Rattle.ipx_limits.specs.declared.network.NetworkSetting.{NetworkSetting}
-use Rattle.ipx_limits.specs.Numbers.{second, most_rate, shares, room_packets, reserve_packets, reserve_parts, longest_pieces, longest_at_once, most_frames, household_parts, household_least, pings_at_once, all_pings_a_second, all_pings_at_once, questions_at_once, link_questions_a_second, link_questions_at_once, advertisements_a_second, least_advertisements_at_once, link_advertisements_a_second, link_advertisements_at_once, answers_a_second, answers_at_once, handed_part, handed_at_once, answers_handed_at_once, most_routes, most_tabled, most_of_household}
+use Rattle.ipx_limits.specs.declared.reader.Reading.{Reading}
+use Rattle.ipx_limits.specs.Numbers.{second, most_rate, shares, shares_at_once, room_packets, shares_kept, reserve_packets, reserve_parts, longest_pieces, longest_at_once, most_frames, household_parts, household_least, household_halves, pings_at_once, all_pings_a_second, all_pings_at_once, questions_at_once, link_questions_a_second, link_questions_at_once, advertisements_a_second, least_advertisements_at_once, link_advertisements_a_second, link_advertisements_at_once, link_tells_at_once, answers_a_second, answers_at_once, pages_a_second, handed_part, handed_at_once, answers_handed_at_once, most_routes, most_tabled, most_of_household}
 
 -- nanoseconds for each of so many in a second
 abbrev pub each_of : ℕ → ℕ
@@ -34,28 +35,33 @@ received_a_second set = rate_of set + shares * share_of set
 abbrev pub packet_of : NetworkSetting → ℕ
 packet_of set = each_of (received_a_second set)
 
--- nanoseconds of a piece of a packet: the longest fill what there is at once
-abbrev pub piece_for : ℕ → ℕ
-piece_for packet = packet * (room_packets + reserve_packets) / (longest_at_once * longest_pieces)
+-- a receiver that may have so much at once; each queue has a part of the reserve, and no less than one packet
+abbrev pub setting_for : ℕ → ℕ → ℕ → Setting
+setting_for one reserve room = record { one = one; own = max one (reserve / reserve_parts); reserve = reserve; room = room }
 
-abbrev pub piece_of : NetworkSetting → ℕ
-piece_of set = piece_for (packet_of set)
+-- packets for which there is room, and for how many more of those who say little
+abbrev pub room_for : NetworkSetting → ℕ
+room_for set = max (shares_at_once * share_of set) room_packets
 
--- nanoseconds of the longest packet, in all its frames
+abbrev pub reserve_for : NetworkSetting → ℕ
+reserve_for set = max (shares_kept * share_of set) reserve_packets
+
+-- frames in which a packet goes out at most
 abbrev pub frames_on : Link → ℕ
 frames_on Tunnel = 1
 frames_on Frames = most_frames
 
-abbrev pub longest_for : Link → ℕ → ℕ → ℕ
-longest_for link packet piece = frames_on link * max packet (piece * longest_pieces)
-
-abbrev pub received_for : Link → ℕ → ℕ → Setting
-received_for link packet piece = record {
-  one = longest_for link packet piece;
-  own = max (longest_for link packet piece) (packet * reserve_packets / reserve_parts);
-  reserve = packet * reserve_packets;
-  room = packet * room_packets;
+-- a packet takes so long, however long it is; of the longest, all pieces take as long
+abbrev pub reading_for : ℕ → ℕ → ℕ → ℕ → Reading
+reading_for frames packet reserve room = record {
+  packet = packet;
+  piece = packet / longest_pieces;
+  packets = setting_for (frames * packet) (packet * reserve) (packet * room);
+  pieces = setting_for (frames * packet) 0 (packet * longest_at_once);
 }
+
+abbrev pub reading_on : NetworkSetting → Reading
+reading_on set = reading_for (frames_on set.link) (packet_of set) (reserve_for set) (room_for set)
 
 -- ---- what the router hears
 
@@ -67,13 +73,13 @@ questions_on Frames = limit_of link_questions_a_second link_questions_at_once
 abbrev pub packets_for : ℕ → ℕ → ℕ
 packets_for count in_one = (count + (in_one - 1)) / in_one
 
--- packets that tell as much as a network has shares of the tables
-abbrev pub packets_of_shares : NetworkSetting → ℕ
-packets_of_shares set = packets_for (min set.routes most_routes) most_entries + packets_for (min set.services most_tabled) most_services
+-- packets that tell so many routes and services, or as many as the tables hold
+abbrev pub packets_of : ℕ → ℕ → ℕ
+packets_of routes services = packets_for (min routes most_routes) most_entries + packets_for (min services most_tabled) most_services
 
 -- all that the tables take of a network, twice; where that is little, some more
 abbrev pub told_at_once : NetworkSetting → ℕ
-told_at_once set = max (2 * packets_of_shares set) least_advertisements_at_once
+told_at_once set = max (2 * packets_of set.routes set.services) least_advertisements_at_once
 
 abbrev pub advertisements_on : Link → NetworkSetting → Limit
 advertisements_on Tunnel set = limit_of advertisements_a_second (told_at_once set)
@@ -87,9 +93,7 @@ handed_each set = handed_part * second / rate_of set
 
 abbrev pub limits_at : NetworkSetting → Limits
 limits_at set = record {
-  received = received_for set.link (packet_of set) (piece_of set);
-  packet = packet_of set;
-  piece = piece_of set;
+  received = reading_on set;
   handed = record { each = handed_each set; burst = handed_each set * handed_at_once };
   handed_answers = handed_each set * answers_handed_at_once;
   pings = limit_of 1 pings_at_once;
@@ -97,6 +101,7 @@ limits_at set = record {
   questions = questions_on set.link;
   advertisements = advertisements_on set.link set;
   answers = limit_of answers_a_second answers_at_once;
+  pages = limit_of pages_a_second (packets_of most_routes most_tabled);
 }
 
 -- a network with the rate 0 has none
@@ -105,24 +110,32 @@ limits_of set = if set.rate == 0 then None else Some (limits_at set)
 
 -- ---- what all clients of an address receive
 
--- packets that somebody alone may say at once, or they to each other
-abbrev pub alone_of : ℕ → ℕ
-alone_of rate = 2 * (max (rate / household_parts) household_least / 2)
+-- half of the packets that somebody alone may say at once, or they to each other
+abbrev pub half_of : ℕ → ℕ
+half_of rate = max (rate / household_parts) household_least / 2
 
 abbrev pub household_at : ℕ → HouseholdLimits
 household_at rate = record {
-  received = record {
-    one = each_of rate;
-    own = max (each_of rate) (each_of rate * alone_of rate / (2 * reserve_parts));
-    reserve = 0;
-    room = 2 * (each_of rate * alone_of rate);
-  };
+  received = setting_for (each_of rate) (each_of rate * half_of rate) (each_of rate * (household_halves * half_of rate));
   packet = each_of rate;
-  among = each_of rate * alone_of rate;
+  among = each_of rate * (2 * half_of rate);
 }
 
 abbrev pub household_of : ℕ → Option HouseholdLimits
 household_of rate = if rate == 0 then None else Some (household_at (min rate most_rate))
+
+-- ---- what all links with frames tell the router: each of them so many at once in any case, and all together so many
+
+abbrev pub told_each : ℕ
+told_each = each_of link_advertisements_a_second
+
+abbrev pub told_on_links : Setting
+told_on_links = record {
+  one = told_each * link_tells_at_once;
+  own = told_each * link_tells_at_once;
+  reserve = told_each * link_advertisements_at_once / 2;
+  room = told_each * link_advertisements_at_once * 2;
+}
 
 -- ---- the limit of an address with so many clients
 

@@ -15,11 +15,17 @@ most_rate = 1000000
 abbrev pub shares : ℕ
 shares = 2
 
--- packets for which there is room at once, of which somebody alone has half
+-- shares for which there is room at once, and packets at least; somebody alone has half of that
+abbrev pub shares_at_once : ℕ
+shares_at_once = 4
+
 abbrev pub room_packets : ℕ
 room_packets = 200
 
--- and more, for those who say little
+-- and more, for those who say little: shares, and packets at least
+abbrev pub shares_kept : ℕ
+shares_kept = 1
+
 abbrev pub reserve_packets : ℕ
 reserve_packets = 50
 
@@ -45,7 +51,7 @@ middle_pieces = 37
 abbrev pub longest_pieces : ℕ
 longest_pieces = 89
 
--- so many of the longest fill the room and the reserve
+-- so many of the longest fill the memory that is kept; somebody alone has half of it
 abbrev pub longest_at_once : ℕ
 longest_at_once = 64
 
@@ -55,13 +61,16 @@ most_frames = 4
 
 -- ---- what all clients of an address receive
 
--- somebody alone may say one part in so many of what they receive in a second at once, and no less than so many packets; all together
--- twice as much
+-- somebody alone may say one part in so many of what they receive in a second at once, and no less than so many packets
 abbrev pub household_parts : ℕ
 household_parts = 8
 
 abbrev pub household_least : ℕ
 household_least = 500
+
+-- of that there is room for so many halves, and one half more is the reserve
+abbrev pub household_halves : ℕ
+household_halves = 4
 
 -- ---- pings, questions, what routers tell, and answers: a second, and at once
 
@@ -95,11 +104,19 @@ link_advertisements_a_second = 100
 abbrev pub link_advertisements_at_once : ℕ
 link_advertisements_at_once = 400
 
+-- of all links together each may tell so many at once in any case: what a neighbour tells once a minute
+abbrev pub link_tells_at_once : ℕ
+link_tells_at_once = 200
+
 abbrev pub answers_a_second : ℕ
 answers_a_second = 2
 
 abbrev pub answers_at_once : ℕ
 answers_at_once = 8
+
+-- packets of the router's answers to what a client asks: a second; at once there may be as many as its tables fill
+abbrev pub pages_a_second : ℕ
+pages_a_second = 20
 
 -- clients of one address that may each ask and be answered
 abbrev pub most_of_household : ℕ

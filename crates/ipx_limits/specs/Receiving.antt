@@ -1,16 +1,19 @@
 -- What a client receives, and a link with frames: who speaks to it has a queue there.
-use Rattle.std.specs.Prelude.{◌≡◌, ℕ, ◌-◌, ◌*◌, ◌^◌, min, max, Bool, nat_lt, if◌then◌else◌}
+use Rattle.std.specs.Prelude.{◌≡◌, ℕ, ◌<◌, ◌-◌, ◌*◌, ◌^◌, min, Bool, ◌&&◌, nat_lt, if◌then◌else◌, length}
 use Rattle.ipx_fair.specs.States.{State}
-use Rattle.ipx_fair.specs.Hearing.{hears_from, Said}
+use Rattle.ipx_fair.specs.Hearing.{hears_from}
+use Rattle.ipx_fair.specs.Tallies.{receiver_of}
 use Rattle.ipx_limits.specs.declared.decision.Decision.{Decision}
 use Rattle.ipx_limits.specs.declared.decision.Decision.TheVariants.{Passes, TooMuchForClient, TooMuchForAddress, TooMuchForLink}
 use Rattle.ipx_limits.specs.declared.limits.HouseholdLimits.{HouseholdLimits}
 use Rattle.ipx_limits.specs.declared.limits.Limits.{Limits}
-use Rattle.ipx_limits.specs.declared.two_levels.Heard.{Heard}
-use Rattle.ipx_limits.specs.declared.two_levels.Heard.TheVariants.{ByBoth, NotByFirst, NotBySecond}
+use Rattle.ipx_limits.specs.declared.reader.Reader.{Reader}
+use Rattle.ipx_limits.specs.declared.reader.Reading.{Reading}
 use Rattle.ipx_limits.specs.Numbers.{short, middle, short_pieces, middle_pieces, longest_pieces}
-use Rattle.ipx_limits.specs.TwoLevels.{Pair, Counted, BothSaid}
+use Rattle.ipx_limits.specs.Several.{Counted}
 use Rattle.ipx_limits.specs.Deciding.{passes}
+
+-- ---- what a packet weighs
 
 -- pieces of the memory that a system keeps for a packet of so many bytes
 abbrev pub pieces : ℕ → ℕ
@@ -20,55 +23,85 @@ pieces bytes = if nat_lt middle bytes then longest_pieces else if nat_lt short b
 abbrev pub in_word : ℕ → ℕ
 in_word number = min number (2 ^ 64 - 1)
 
--- nanoseconds that a packet of so many bytes weighs in so many frames: the time of a packet, or of its pieces if that is longer, for each
-abbrev pub weight : Limits → ℕ → ℕ → ℕ
-weight limits bytes frames = in_word (frames * max limits.packet (in_word (limits.piece * pieces bytes)))
+-- nanoseconds of a packet in so many frames, however long it is
+abbrev pub packet_weight : Reading → ℕ → ℕ
+packet_weight reading frames = in_word (frames * reading.packet)
+
+-- nanoseconds of its pieces
+abbrev pub piece_weight : Reading → ℕ → ℕ → ℕ
+piece_weight reading bytes frames = in_word (frames * in_word (reading.piece * pieces bytes))
+
+-- ---- who reads packets has two receivers, one for packets and one for their pieces
+
+pub record Reads : Type 0 where
+  pub packets : State
+  pub pieces : State
+
+abbrev pub reads_of : Reader → Reads
+reads_of reader = record { packets = receiver_of reader.packets; pieces = receiver_of reader.pieces }
+
+-- both have that queue
+pub record HasQueue (queue : ℕ) (reads : Reads) : Type 0 where
+  pub of_packets : queue < length reads.packets.queues
+  pub of_pieces : queue < length reads.pieces.queues
+
+-- both hear a packet
+abbrev pub both_hear : Reading → ℕ → ℕ → ℕ → Reads → Bool
+both_hear reading queue bytes frames reads =
+    hears_from reads.packets queue (packet_weight reading frames) && hears_from reads.pieces queue (piece_weight reading bytes frames)
+
+-- both count a packet that goes on
+pub record BothCounted (reading : Reading) (queue bytes frames : ℕ) (goes : Bool) (old new : Reads) : Type 0 where
+  pub packets : Counted goes queue (packet_weight reading frames) old.packets new.packets
+  pub pieces : Counted goes queue (piece_weight reading bytes frames) old.pieces new.pieces
 
 -- ---- a client
 
--- whose address has no limit, or which receives from its own: by its own limit alone
+-- whose address has no limit
 abbrev pub for_client : Bool → Decision
-for_client heard = if heard then Passes else TooMuchForClient
+for_client client = if client then Passes else TooMuchForClient
 
-pub record Received (limits : Limits) (queue bytes : ℕ) (decision : Decision) (old new : State) : Type 0 where
-  pub decided : decision ≡ for_client (hears_from old queue (weight limits bytes 1))
-  pub said : Said queue (weight limits bytes 1) (passes decision) old new
+pub record Received (limits : Limits) (queue bytes : ℕ) (decision : Decision) (old new : Reads) : Type 0 where
+  pub there : HasQueue queue old
+  pub decided : decision ≡ for_client (both_hear limits.received queue bytes 1 old)
+  pub of_client : BothCounted limits.received queue bytes 1 (passes decision) old new
 
--- whose address has a limit: both have to hear it
-abbrev pub for_both : Heard → Decision
-for_both ByBoth = Passes
-for_both NotByFirst = TooMuchForClient
-for_both NotBySecond = TooMuchForAddress
+-- whose address has a limit: the client is asked first
+abbrev pub for_both : Bool → Bool → Decision
+for_both client address = if client then (if address then Passes else TooMuchForAddress) else TooMuchForClient
 
--- of others it has a queue at each
-pub record ReceivedByBoth (limits : Limits) (household : HouseholdLimits) (queue bytes : ℕ) (decision : Decision) (old new : Pair) : Type 0 where
-  pub heard : Heard
-  pub decided : decision ≡ for_both heard
-  pub said : BothSaid queue (weight limits bytes 1) queue household.packet heard old new
+-- a speaker has a queue at the client, and one at the client's address. (what clients of one address say to each other has a limit there
+-- with one queue)
+pub record ReceivedAtAddress (limits : Limits) (household : HouseholdLimits) (queue other bytes : ℕ) (decision : Decision)
+    (old new : Reads) (address address_then : State) : Type 0 where
+  pub there : HasQueue queue old
+  pub at_address : other < length address.queues
+  pub decided : decision ≡ for_both (both_hear limits.received queue bytes 1 old) (hears_from address other household.packet)
+  pub of_client : BothCounted limits.received queue bytes 1 (passes decision) old new
+  pub of_address : Counted (passes decision) other household.packet address address_then
 
--- what clients of one address say to each other has a limit with one queue
-pub record ReceivedOfOwn (limits : Limits) (household : HouseholdLimits) (queue bytes : ℕ) (decision : Decision) (old new : Pair) : Type 0 where
-  pub heard : Heard
-  pub decided : decision ≡ for_both heard
-  pub said : BothSaid queue (weight limits bytes 1) 0 household.packet heard old new
+-- ---- what the router says is dropped by the limit of an address alone; the client counts it if it has room
 
--- what the router says is dropped by the limit of the address alone; the client counts it if it has room
+pub record HeardOfRouter (limits : Limits) (queue bytes : ℕ) (goes : Bool) (old new : Reads) : Type 0 where
+  pub there : HasQueue queue old
+  pub of_client : BothCounted limits.received queue bytes 1 (goes && both_hear limits.received queue bytes 1 old) old new
+
 abbrev pub for_address : Bool → Decision
 for_address heard = if heard then Passes else TooMuchForAddress
 
-abbrev pub CountedIfHeard : Bool → ℕ → ℕ → State → State → Type 0
-CountedIfHeard passes queue weight old new = Counted (if passes then hears_from old queue weight else passes) queue weight old new
-
-pub record ReceivedOfRouter (limits : Limits) (household : HouseholdLimits) (queue bytes : ℕ) (decision : Decision) (old new : Pair) : Type 0 where
-  pub decided : decision ≡ for_address (hears_from old.second queue household.packet)
-  pub of_address : Counted (passes decision) queue household.packet old.second new.second
-  pub of_client : CountedIfHeard (passes decision) queue (weight limits bytes 1) old.first new.first
+pub record ReceivedOfRouter (limits : Limits) (household : HouseholdLimits) (queue bytes : ℕ) (decision : Decision) (old new : Reads)
+    (address address_then : State) : Type 0 where
+  pub at_address : queue < length address.queues
+  pub decided : decision ≡ for_address (hears_from address queue household.packet)
+  pub of_address : Counted (passes decision) queue household.packet address address_then
+  pub of_client : HeardOfRouter limits queue bytes (passes decision) old new
 
 -- ---- a link with frames: a packet goes out in all its frames or in none
 
 abbrev pub for_link : Bool → Decision
 for_link heard = if heard then Passes else TooMuchForLink
 
-pub record Carried (limits : Limits) (queue bytes frames : ℕ) (decision : Decision) (old new : State) : Type 0 where
-  pub decided : decision ≡ for_link (hears_from old queue (weight limits bytes frames))
-  pub said : Said queue (weight limits bytes frames) (passes decision) old new
+pub record Carried (limits : Limits) (queue bytes frames : ℕ) (decision : Decision) (old new : Reads) : Type 0 where
+  pub there : HasQueue queue old
+  pub decided : decision ≡ for_link (both_hear limits.received queue bytes frames old)
+  pub of_link : BothCounted limits.received queue bytes frames (passes decision) old new

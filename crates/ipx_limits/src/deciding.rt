@@ -1,12 +1,14 @@
 //! What becomes of packets by limits that are metered.
 ghost use Rattle.std.specs.Prelude.{◌≡◌, ◌&&◌, true};
-ghost use Rattle.ipx_limits.specs.Deciding.{has_room, used_then, passes, is_ping, is_question, is_told, may_ask, may_tell, may_hand, hands, Pinged, Answered, Handed, FramesHanded};
+ghost use Rattle.ipx_fair.specs.Tallies.{receiver_of};
+ghost use Rattle.ipx_limits.specs.Deciding.{has_room, used_then, passes, is_ping, is_question, is_told, account, may_ask, may_tell, may_hand, hands, Pinged, PingedInFrame, Answered, Paged, Handed, FramesHanded};
 
 use crate::decision::Decision;
 use crate::kind::Kind;
-use crate::limits::{Limit, Limits};
-use crate::uses::{Account, Address, Client};
-use ipx_fair::Meter;
+use crate::limits::{Limit, Limits, told_each};
+use crate::reader::count;
+use crate::uses::{Address, Client};
+use ipx_fair::{Meter, Receiver256};
 
 impl Limit {
     /// Whether it has room for one more.
@@ -46,6 +48,19 @@ impl Limits {
         }
     }
 
+    /// The same of a packet that came in a frame.
+    pub fn frames_say(&self, kind: Kind, all: &mut Meter) -> Decision
+        ensures { PingedInFrame self.now kind result all.old all.new }
+    {
+        let lets = kind != Kind::Ping || self.all_pings.has_room(all);
+        self.all_pings.count(lets && kind == Kind::Ping, all);
+        if lets {
+            Decision::Passes
+        } else {
+            Decision::TooManyPings
+        }
+    }
+
     /// Whether the gateway answers a client that registers or pings, whose address has so many.
     pub fn answers(&self, clients: u32, client: &mut Client, address: &mut Address) -> Decision
         ensures { Answered self.now clients result client.old client.new address.old address.new }
@@ -61,48 +76,57 @@ impl Limits {
         }
     }
 
-    /// What becomes of a packet that a client, whose address has so many, hands to the router.
+    /// Whether a client, whose address has so many, gets a packet by which the router answers what it asked, or somebody in its name.
+    pub fn router_answers(
+        &self,
+        clients: u32,
+        client: &mut Client,
+        address: &mut Address,
+    ) -> Decision
+        ensures { Paged self.now clients result client.old client.new address.old address.new }
+    {
+        let shared = self.pages.of_clients(clients);
+        let lets = self.pages.has_room(&client.paged) && shared.has_room(&address.paged);
+        self.pages.count(lets, &mut client.paged);
+        shared.count(lets, &mut address.paged);
+        if lets {
+            Decision::Passes
+        } else {
+            Decision::TooManyAnswers
+        }
+    }
+
+    /// What becomes of a packet that a client, whose address has so many, hands to the router. Of what the router hears, and is told, the
+    /// address uses so much.
     pub fn hands(
         &self,
         clients: u32,
         kind: Kind,
         client: &mut Client,
         address: &mut Address,
-        account: &mut Account,
+        handed: &mut Meter,
+        advertised: &mut Meter,
     ) -> Decision
-        ensures { Handed self.now clients kind result client.old client.new address.old address.new account.old account.new }
+        ensures { Handed self.now clients kind result client.old client.new address.old address.new (account handed.old advertised.old) (account handed.new advertised.new) }
     {
         let shared = self.questions.of_clients(clients);
-        let decision = self.may_pass(clients, kind, client, address, account);
+        let decision = if !self.may_ask(clients, kind, client, address) {
+            Decision::TooManyQuestions
+        } else if !self.may_tell(kind, advertised) {
+            Decision::TooManyAdvertisements
+        } else if !self.may_hand(kind, handed) {
+            Decision::TooMuchForRouter
+        } else {
+            Decision::Passes
+        };
         let lets = decision == Decision::Passes;
         self.questions
             .count(lets && kind == Kind::Question, &mut client.asked);
         shared.count(lets && kind == Kind::Question, &mut address.asked);
         self.advertisements
-            .count(lets && kind == Kind::Told, &mut account.advertised);
-        self.handed.count(lets, &mut account.handed);
+            .count(lets && kind == Kind::Told, advertised);
+        self.handed.count(lets, handed);
         decision
-    }
-
-    fn may_pass(
-        &self,
-        clients: u32,
-        kind: Kind,
-        client: &Client,
-        address: &Address,
-        account: &Account,
-    ) -> Decision
-        ensures { result ≡ hands self.now clients kind client.now address.now account.now }
-    {
-        if !self.may_ask(clients, kind, client, address) {
-            Decision::TooManyQuestions
-        } else if !self.may_tell(kind, account) {
-            Decision::TooManyAdvertisements
-        } else if !self.may_hand(kind, account) {
-            Decision::TooMuchForRouter
-        } else {
-            Decision::Passes
-        }
     }
 
     fn may_ask(&self, clients: u32, kind: Kind, client: &Client, address: &Address) -> bool
@@ -117,40 +141,49 @@ impl Limits {
         }
     }
 
-    fn may_tell(&self, kind: Kind, account: &Account) -> bool
-        ensures { result ≡ may_tell self.now kind account.now }
+    fn may_tell(&self, kind: Kind, advertised: &Meter) -> bool
+        ensures { result ≡ may_tell self.now kind advertised.now }
     {
         match kind {
-            Kind::Told => self.advertisements.has_room(&account.advertised),
+            Kind::Told => self.advertisements.has_room(advertised),
             _ => true,
         }
     }
 
-    fn may_hand(&self, kind: Kind, account: &Account) -> bool
-        ensures { result ≡ may_hand self.now kind account.now }
+    fn may_hand(&self, kind: Kind, handed: &Meter) -> bool
+        ensures { result ≡ may_hand self.now kind handed.now }
     {
         match kind {
             Kind::Answer => {
-                account
-                    .handed
-                    .has_room(self.handed_answers, self.handed.each)
-                    && self.handed.has_room(&account.handed)
+                handed.has_room(self.handed_answers, self.handed.each)
+                    && self.handed.has_room(handed)
             }
-            _ => self.handed.has_room(&account.handed),
+            _ => self.handed.has_room(handed),
         }
     }
 
-    /// What becomes of a packet that a network of frames hands to the router.
-    pub fn frames_hand(&self, kind: Kind, asked: &mut Meter, advertised: &mut Meter) -> Decision
-        ensures { FramesHanded self.now kind result asked.old asked.new advertised.old advertised.new }
+    /// What becomes of a packet that a network of frames hands to the router. What it tells counts for all such networks, too: each has a
+    /// queue there.
+    pub fn frames_hand(
+        &self,
+        link: u8,
+        kind: Kind,
+        asked: &mut Meter,
+        advertised: &mut Meter,
+        links: &mut Receiver256,
+    ) -> Decision
+        ensures { FramesHanded self.now link kind result asked.old asked.new advertised.old advertised.new (receiver_of links.old) (receiver_of links.new) }
     {
+        let each = told_each();
+        let is_told_to = self.advertisements.has_room(advertised);
+        let lets_tell = links.hears(link, each) && is_told_to;
         match kind {
             Kind::Question if !self.questions.has_room(asked) => Decision::TooManyQuestions,
-            Kind::Told if !self.advertisements.has_room(advertised) =>
-                Decision::TooManyAdvertisements,
+            Kind::Told if !lets_tell => Decision::TooManyAdvertisements,
             _ => {
                 self.questions.count(kind == Kind::Question, asked);
                 self.advertisements.count(kind == Kind::Told, advertised);
+                count(kind == Kind::Told, links, link, each);
                 Decision::Passes
             }
         }

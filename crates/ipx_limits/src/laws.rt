@@ -1,74 +1,111 @@
 //! What follows from the definitions alone, for every state and every list of events, so for every stretch of time.
 ghost use Rattle.std.specs.Prelude.{◌≡◌, ℕ, ◌+◌, ◌-◌, ◌*◌, ◌^◌, ◌<◌, ◌≤◌, true, List, length};
 ghost use Rattle.ipx_fair.specs.Hearing.{queue_of};
+ghost use Rattle.ipx_fair.specs.States.{State};
 ghost use Rattle.ipx_fair.specs.Events.{Runs as RunsOfOne};
 ghost use Rattle.ipx_fair.specs.Keeping.{IsKept};
-ghost use Rattle.ipx_fair.specs.Laws.{Anything, AtMost, HasMore, elapsed, given, given_to, KeepsTo};
+ghost use Rattle.ipx_fair.specs.Laws.{Anything, AtMost, HasMore, elapsed, given, given_to, KeepsTo, LosesNothing};
 ghost use Rattle.ipx_fair.specs.Numbers.{can_be};
 ghost use Rattle.ipx_fair.specs.declared.meter.Meter.{Meter};
+ghost use Rattle.ipx_limits.specs.declared.limits.HouseholdLimits.{HouseholdLimits};
 ghost use Rattle.ipx_limits.specs.declared.limits.Limit.{Limit};
 ghost use Rattle.ipx_limits.specs.declared.limits.Limits.{Limits};
 ghost use Rattle.ipx_limits.specs.declared.network.NetworkSetting.{NetworkSetting};
+ghost use Rattle.ipx_limits.specs.declared.queues.Queues.{Queues};
 ghost use Rattle.ipx_limits.specs.declared.uses.Address.{Address};
-ghost use Rattle.ipx_limits.specs.Limits.{of_clients, limits_at, frames_on};
+ghost use Rattle.ipx_limits.specs.declared.uses.Client.{Client};
+ghost use Rattle.ipx_limits.specs.Queues.{users_of, Taken, speakers};
+ghost use Rattle.ipx_limits.specs.Several.{Event, Runs, of_it, said};
+ghost use Rattle.ipx_limits.specs.Limits.{of_clients, limits_at, household_at, frames_on, told_each, told_on_links};
 ghost use Rattle.ipx_limits.specs.Deciding.{is_ping, is_question, is_told};
-ghost use Rattle.ipx_limits.specs.Receiving.{weight};
-ghost use Rattle.ipx_limits.specs.Metered.{Use, Runs as UsesRun, elapsed as time_of_uses, counted, Event as Decided, any, time_of, passed, Handing, HandingRuns, FramesHanding, FramesRuns, PingingRuns, AnsweringRuns};
+ghost use Rattle.ipx_limits.specs.Receiving.{packet_weight, piece_weight};
+ghost use Rattle.ipx_limits.specs.ClientEvents.{Home, Few, Event as AtHome, Runs as RunsAtHome, to_packets, to_pieces, to_address, ReceivesAll};
+ghost use Rattle.ipx_limits.specs.Metered.{Use, Runs as UsesRun, elapsed as time_of_uses, counted, Event as Decided, any, time_of, passed, Handing, HandingRuns, FramesHanding, FramesRuns, LinksRun, PingingRuns, AnsweringRuns, PagingRuns, OfClient, ClientRuns, uses_of, pings_of, questions_of, answers_to, pages_to};
 ghost use Rattle.ipx_limits.specs.declared.decision.Decision.{Decision};
 ghost use Rattle.ipx_limits.specs.declared.decision.Decision.TheVariants.{Passes};
 ghost use Rattle.ipx_limits.specs.declared.strangers.StrangersLimits.{StrangersLimits};
 ghost use Rattle.ipx_limits.specs.Numbers.{most_rate};
 ghost use Rattle.ipx_limits.specs.Strangers.{registration, strangers_at, Sent, Event as ToStrangers, AllRuns, OneRuns, sent, time_of as time_to_strangers};
-ghost use Rattle.ipx_limits.specs.TwoLevels.{Pair};
-ghost use Rattle.ipx_limits.specs.PairEvents.{Event, Runs, of_first, of_second, said_to_first, said_to_second, LosesNothing};
 
-/// What happens to each of two receivers is what happens to a receiver, so all that `ipx_fair` promises holds of each.
-pub fn two_are_receivers()
-    ensures first { (old new : Pair) (events : List Event) → Runs Anything Anything old events new → RunsOfOne Anything old.first (of_first events) new.first }
-    ensures second { (old new : Pair) (events : List Event) → Runs Anything Anything old events new → RunsOfOne Anything old.second (of_second events) new.second }
+/// What happens to one of several receivers that all have to hear a packet is what happens to a receiver, so all that `ipx_fair` promises
+/// holds of it.
+pub fn each_is_a_receiver()
+    ensures { (old new : State) (events : List Event) → Runs Anything old events new → RunsOfOne Anything old (of_it events) new }
 {}
 
-/// A speaker who says no more than his part of each of two receivers loses nothing: one part in n of the first and one in m of the second,
-/// whatever the others say, as long as no more queues wait there at any time; or, where there are no more speakers, in any case.
-pub fn part_of_both_is_heard()
-    ensures packet { (n m speaker other : ℕ) (old new : Pair) (events : List Event) → 0 < n → 0 < m → IsKept old.first → IsKept old.second
-        → Runs (AtMost n) (AtMost m) old events new
-        → KeepsTo n old.first.setting.one speaker (n * queue_of old.first.queues speaker) (said_to_first events)
-        → KeepsTo m old.second.setting.one other (m * queue_of old.second.queues other) (said_to_second events)
-        → LosesNothing speaker other events }
-    ensures always { (n m speaker other : ℕ) (old new : Pair) (events : List Event) → 0 < n → 0 < m → IsKept old.first → IsKept old.second
-        → Runs Anything Anything old events new → length old.first.queues ≤ n → length old.second.queues ≤ m
-        → KeepsTo n old.first.setting.one speaker (n * queue_of old.first.queues speaker) (said_to_first events)
-        → KeepsTo m old.second.setting.one other (m * queue_of old.second.queues other) (said_to_second events)
-        → LosesNothing speaker other events }
+/// A speaker who says no more than one part in n of what one of several receivers reads always finds room there: whatever the other
+/// receivers hear, and whatever the other speakers say, as long as no more than n queues wait at any time; or, where it has no more queues,
+/// in any case. At once he may say `one`; or `own`, where the reserve is that large. So where he keeps to his part of each of them, he loses
+/// nothing.
+pub fn part_of_each_is_heard()
+    ensures packet { (n speaker : ℕ) (old new : State) (events : List Event) → 0 < n → IsKept old → Runs (AtMost n) old events new
+        → KeepsTo n old.setting.one speaker (n * queue_of old.queues speaker) (said events) → LosesNothing speaker (said events) }
+    ensures always { (n speaker : ℕ) (old new : State) (events : List Event) → 0 < n → IsKept old → Runs Anything old events new
+        → length old.queues ≤ n
+        → KeepsTo n old.setting.one speaker (n * queue_of old.queues speaker) (said events) → LosesNothing speaker (said events) }
+    ensures more { (n speaker : ℕ) (old new : State) (events : List Event) → 0 < n → IsKept old → Runs (AtMost n) old events new
+        → (n + 1) * old.setting.own ≤ old.setting.reserve
+        → KeepsTo n old.setting.own speaker (n * queue_of old.queues speaker) (said events) → LosesNothing speaker (said events) }
 {}
 
-/// Neither of two receivers is given more than the time that passed for it, and what its queues may have at once.
-pub fn both_are_bound()
-    ensures first { (old new : Pair) (events : List Event) → IsKept old.first → Runs Anything Anything old events new
-        → given (of_first events) ≤ elapsed (of_first events) + old.first.setting.room + old.first.setting.reserve
-        + old.first.setting.one * length old.first.queues + length old.first.queues }
-    ensures second { (old new : Pair) (events : List Event) → IsKept old.second → Runs Anything Anything old events new
-        → given (of_second events) ≤ elapsed (of_second events) + old.second.setting.room + old.second.setting.reserve
-        + old.second.setting.one * length old.second.queues + length old.second.queues }
+/// None of several receivers is given more than the time that passed for it, and what its queues may have at once.
+pub fn each_is_bound()
+    ensures { (old new : State) (events : List Event) → IsKept old → Runs Anything old events new
+        → given (of_it events) ≤ elapsed (of_it events) + old.setting.room + old.setting.reserve
+        + old.setting.one * length old.queues + length old.queues }
 {}
 
-/// Whose queue at one of two receivers waits all the time is given one part in n of that one's time, where no more than n wait there.
+/// Whose queue at one of several receivers waits all the time is given one part in n of its time, where no more than n wait there.
 pub fn part_of_each_is_fair()
-    ensures first { (n speaker : ℕ) (old new : Pair) (events : List Event) → IsKept old.first → Runs (HasMore n speaker) Anything old events new
-        → elapsed (of_first events) + n * queue_of new.first.queues speaker
-        ≤ n * (given_to speaker (of_first events) + queue_of old.first.queues speaker) + n }
-    ensures second { (n speaker : ℕ) (old new : Pair) (events : List Event) → IsKept old.second → Runs Anything (HasMore n speaker) old events new
-        → elapsed (of_second events) + n * queue_of new.second.queues speaker
-        ≤ n * (given_to speaker (of_second events) + queue_of old.second.queues speaker) + n }
+    ensures { (n speaker : ℕ) (old new : State) (events : List Event) → IsKept old → Runs (HasMore n speaker) old events new
+        → elapsed (of_it events) + n * queue_of new.queues speaker
+        ≤ n * (given_to speaker (of_it events) + queue_of old.queues speaker) + n }
 {}
 
-/// The limits of any setting are those of receivers that can be had, and who has nothing waiting there is heard with the longest packet, in
-/// as many frames as a link may have.
+/// Who says no more to a client than his part loses nothing by the limits of the client and of its address: one part in n of the packets
+/// that the client reads, one in m of their pieces, and, with all that he says to clients of the address, one in l of what these receive,
+/// whatever the others say, as long as no more queues wait there. At once he may say one of the longest packets; or, to seven or fewer who
+/// wait, `own`. A link with frames is a client whose address counts nothing. (what clients of one address say to each other has one limit for
+/// all of them, which may refuse it)
+pub fn client_receives_all()
+    ensures one { (limits : Limits) (household : HouseholdLimits) (n m l speaker : ℕ) (old new : Home) (events : List AtHome)
+        → 0 < n → 0 < m → 0 < l → IsKept old.client.packets → IsKept old.client.pieces → IsKept old.address
+        → RunsAtHome limits household (Few n m l) old events new
+        → KeepsTo n old.client.packets.setting.one speaker (n * queue_of old.client.packets.queues speaker) (said (to_packets limits events))
+        → KeepsTo m old.client.pieces.setting.one speaker (m * queue_of old.client.pieces.queues speaker) (said (to_pieces limits events))
+        → KeepsTo l old.address.setting.one speaker (l * queue_of old.address.queues speaker) (said (to_address household events))
+        → ReceivesAll speaker events }
+    ensures own { (limits : Limits) (household : HouseholdLimits) (n m l speaker : ℕ) (old new : Home) (events : List AtHome)
+        → 0 < n → 0 < m → 0 < l → IsKept old.client.packets → IsKept old.client.pieces → IsKept old.address
+        → RunsAtHome limits household (Few n m l) old events new
+        → (n + 1) * old.client.packets.setting.own ≤ old.client.packets.setting.reserve
+        → (l + 1) * old.address.setting.own ≤ old.address.setting.reserve
+        → KeepsTo n old.client.packets.setting.own speaker (n * queue_of old.client.packets.queues speaker) (said (to_packets limits events))
+        → KeepsTo m old.client.pieces.setting.one speaker (m * queue_of old.client.pieces.queues speaker) (said (to_pieces limits events))
+        → KeepsTo l old.address.setting.own speaker (l * queue_of old.address.queues speaker) (said (to_address household events))
+        → ReceivesAll speaker events }
+{}
+
+/// The limits of any setting are those of receivers that can be had. A packet weighs no more than `one`, the longest too, in as many frames as
+/// a link may have: so whose queue is empty is heard. And where no more than seven queues wait, each may say `own` at once.
 pub fn limits_can_be()
-    ensures received { (set : NetworkSetting) → can_be (limits_at set).received 256 ≡ true }
+    ensures packets { (set : NetworkSetting) → can_be (limits_at set).received.packets 256 ≡ true }
+    ensures pieces { (set : NetworkSetting) → can_be (limits_at set).received.pieces 256 ≡ true }
+    ensures address { (rate : ℕ) → 0 < rate → rate ≤ most_rate → can_be (household_at rate).received 256 ≡ true }
+    ensures links { can_be told_on_links 256 ≡ true }
+    ensures one_at_address { (rate : ℕ) → (household_at rate).packet ≤ (household_at rate).received.one }
+    ensures one_of_links { told_each ≤ told_on_links.one }
+    ensures seven { (set : NetworkSetting) → (7 + 1) * (limits_at set).received.packets.own ≤ (limits_at set).received.packets.reserve }
+    ensures seven_at_address { (rate : ℕ) → (7 + 1) * (household_at rate).received.own ≤ (household_at rate).received.reserve }
     ensures longest { (set : NetworkSetting) (bytes frames : ℕ) → frames ≤ frames_on set.link
-        → weight (limits_at set) bytes frames ≤ (limits_at set).received.one }
+        → (packet_weight (limits_at set).received frames ≤ (limits_at set).received.packets.one)
+        × (piece_weight (limits_at set).received bytes frames ≤ (limits_at set).received.pieces.one) }
+{}
+
+/// As long as fewer speak than there are queues, who begins to speak gets one that nobody has.
+pub fn few_have_queues_of_their_own()
+    ensures { (first last number : ℕ) (old new : Queues) → Taken first last number old new → last < 256
+        → speakers old first last < last + 1 - first → users_of old number ≡ 0 }
 {}
 
 /// A limit lets no more pass in any time than its rate, and what comes at once: `each` nanoseconds for each that counted are no more than
@@ -80,8 +117,8 @@ pub fn limit_holds()
         → new.used ≤ limit.burst }
 {}
 
-/// The router hears no more of an address in any time than its limit lets pass, in packets, in questions, and in what routers tell: however
-/// many clients it has, whichever of them speaks, and whatever they say.
+/// The router hears no more of an address in any time than its limit lets pass, in packets, in questions, and in what routers tell:
+/// whichever of its clients speaks, and whatever they say, as long as it has no more clients than so many at any time.
 pub fn router_is_spared()
     ensures packets { (limits : Limits) (clients : ℕ) (old new : Handing) (events : List Decided) → HandingRuns limits clients old events new
         → old.account.handed.used ≤ limits.handed.burst
@@ -94,6 +131,22 @@ pub fn router_is_spared()
         → passed is_told events * limits.advertisements.each ≤ time_of events + limits.advertisements.burst }
 {}
 
+/// Nor does one client ping, ask, or get of the gateway's answers and of the router's, more than its own limits let pass, whatever others do,
+/// and whatever is said in its name.
+pub fn client_keeps_within()
+    ensures pings { (limits : Limits) (old new : Client) (events : List OfClient) → ClientRuns limits old events new → old.pinged.used ≤ limits.pings.burst
+        → counted (uses_of pings_of events) * limits.pings.each ≤ time_of_uses (uses_of pings_of events) + limits.pings.burst }
+    ensures questions { (limits : Limits) (old new : Client) (events : List OfClient) → ClientRuns limits old events new
+        → old.asked.used ≤ limits.questions.burst
+        → counted (uses_of questions_of events) * limits.questions.each ≤ time_of_uses (uses_of questions_of events) + limits.questions.burst }
+    ensures answers { (limits : Limits) (old new : Client) (events : List OfClient) → ClientRuns limits old events new
+        → old.answered.used ≤ limits.answers.burst
+        → counted (uses_of answers_to events) * limits.answers.each ≤ time_of_uses (uses_of answers_to events) + limits.answers.burst }
+    ensures pages { (limits : Limits) (old new : Client) (events : List OfClient) → ClientRuns limits old events new
+        → old.paged.used ≤ limits.pages.burst
+        → counted (uses_of pages_to events) * limits.pages.each ≤ time_of_uses (uses_of pages_to events) + limits.pages.burst }
+{}
+
 /// The same of a network of frames: questions, and what routers tell.
 pub fn router_is_spared_by_frames()
     ensures questions { (limits : Limits) (old new : FramesHanding) (events : List Decided) → FramesRuns limits old events new
@@ -104,7 +157,14 @@ pub fn router_is_spared_by_frames()
         → passed is_told events * limits.advertisements.each ≤ time_of events + limits.advertisements.burst }
 {}
 
-/// All clients of a network together ping all others no more in any time than their limit lets pass.
+/// All networks of frames together tell the router no more in any time than that, and what they may tell at once.
+pub fn router_is_spared_by_all_frames()
+    ensures { (old new : State) (events : List Decided) → LinksRun old events new → IsKept old
+        → passed is_told events * told_each ≤ time_of events + old.setting.room + old.setting.reserve
+        + old.setting.one * length old.queues + length old.queues }
+{}
+
+/// All clients of a network together, and whoever is behind its frames, ping all others no more in any time than their limit lets pass.
 pub fn pings_are_few()
     ensures { (limits : Limits) (old new : Meter) (events : List Decided) → PingingRuns limits old events new → old.used ≤ limits.all_pings.burst
         → passed is_ping events * limits.all_pings.each ≤ time_of events + limits.all_pings.burst }
@@ -115,6 +175,14 @@ pub fn answers_are_few()
     ensures { (limits : Limits) (clients : ℕ) (old new : Address) (events : List Decided) → AnsweringRuns limits clients old events new
         → old.answered.used ≤ limits.answers.burst
         → passed any events * (of_clients clients limits.answers).each ≤ time_of events + limits.answers.burst }
+{}
+
+/// The router answers clients of an address no more in any time than its limit lets pass, in packets, whatever they ask, or others in their
+/// name.
+pub fn pages_are_few()
+    ensures { (limits : Limits) (clients : ℕ) (old new : Address) (events : List Decided) → PagingRuns limits clients old events new
+        → old.paged.used ≤ limits.pages.burst
+        → passed any events * (of_clients clients limits.pages).each ≤ time_of events + limits.pages.burst }
 {}
 
 /// Places without a client are sent no more in any time than the limit lets go, in datagrams: all of them together, whichever they are, and

@@ -1,9 +1,10 @@
 //! The limits of a network.
 ghost use Rattle.std.specs.Prelude.{◌≡◌, ◌*◌, ◌<◌, ◌≤◌, ◌^◌};
 ghost use Rattle.ipx_limits.specs.Numbers.{second, most_rate};
-ghost use Rattle.ipx_limits.specs.Limits.{each_of, limit_of, rate_of, packet_of, piece_for, received_for, questions_on, told_at_once, advertisements_on, handed_each, limits_of, alone_of, household_of, of_clients};
+ghost use Rattle.ipx_limits.specs.Limits.{each_of, limit_of, rate_of, packet_of, setting_for, room_for, reserve_for, reading_on, questions_on, packets_of, told_at_once, advertisements_on, handed_each, limits_of, half_of, household_of, told_each, told_on_links, of_clients};
 
 use crate::network::{Link, NetworkSetting};
+use crate::reader::{LONGEST_PIECES, Reading};
 use ipx_fair::Setting;
 
 /// Nanoseconds of a second.
@@ -15,27 +16,28 @@ pub(crate) const MOST_RATE: u32 = 1_000_000;
 /// Shares that a client receives a second beyond its rate.
 const SHARES: u64 = 2;
 
-/// Packets for which a client has room at once; more, for those who say little; and each of them has one part in so many of that.
+/// Shares for which a client has room at once, and packets at least; and more, for those who say little. Each of these has one part in so
+/// many of that.
+const SHARES_AT_ONCE: u64 = 4;
+
 const ROOM: u64 = 200;
 
 const RESERVE: u64 = 50;
 
 const RESERVE_PARTS: u64 = 8;
 
-/// Pieces of the longest packet, how many of the longest there may be at once, and how many frames one goes out in at most.
-const LONGEST_PIECES: u64 = 89;
-
+/// How many of the longest packets there may be at once, and how many frames one goes out in at most.
 const LONGEST_AT_ONCE: u64 = 64;
 
 const MOST_FRAMES: u64 = 4;
 
-/// What somebody alone may say at once to all clients of an address: one part in so many of a second, and at least so many packets. In any
-/// case he may say one part in so many of that.
+/// What somebody alone may say at once to all clients of an address: one part in so many of a second, and at least so many packets. There is
+/// room for so many halves of that.
 const HOUSEHOLD_PARTS: u64 = 8;
 
 const HOUSEHOLD_LEAST: u64 = 500;
 
-const OWN_PARTS: u64 = 16;
+const HOUSEHOLD_HALVES: u64 = 4;
 
 /// Clients of one address that may each ask and be answered.
 const MOST_OF_HOUSEHOLD: u32 = 4;
@@ -61,9 +63,13 @@ const LINK_ADVERTISEMENTS: u32 = 100;
 
 const LINK_ADVERTISEMENTS_AT_ONCE: u32 = 400;
 
+const LINK_TELLS_AT_ONCE: u64 = 200;
+
 const ANSWERS: u32 = 2;
 
 const ANSWERS_AT_ONCE: u32 = 8;
+
+const PAGES: u32 = 20;
 
 /// What the router hears of an address: one part in so many of the rate; packets at once, and those of them that may be answers to pings.
 const HANDED_PART: u64 = 2;
@@ -154,11 +160,7 @@ pub(crate) fn each_of(count: u64) -> u64
 #[derive(Clone, Copy, Debug, Default, PartialEq, Eq)]
 pub struct Limits {
     /// What a client receives of all who speak to it, or a link with frames of clients.
-    pub received: Setting,
-    /// What a packet takes of that, however short.
-    pub packet: u64,
-    /// What a piece of it takes: a long packet has many.
-    pub piece: u64,
+    pub received: Reading,
     /// What the router hears of an address.
     pub handed: Limit,
     /// How much of that may be used so that answers to pings are heard.
@@ -173,6 +175,8 @@ pub struct Limits {
     pub advertisements: Limit,
     /// Answers of the gateway to a client.
     pub answers: Limit,
+    /// Packets of the router's answers to what a client asks.
+    pub pages: Limit,
 }
 
 impl Limits {
@@ -183,13 +187,9 @@ impl Limits {
         if setting.rate == 0 {
             return None;
         }
-        let packet = packet_of(setting);
-        let piece = piece_of(packet);
         let each = handed_each(setting);
         Some(Limits {
-            received: received_of(setting.link, packet, piece),
-            packet,
-            piece,
+            received: reading_on(setting),
             handed: Limit {
                 each,
                 burst: each * HANDED_AT_ONCE,
@@ -200,11 +200,34 @@ impl Limits {
             questions: questions_on(setting.link),
             advertisements: advertisements_on(setting),
             answers: Limit::of(ANSWERS, ANSWERS_AT_ONCE),
+            pages: Limit::of(PAGES, packets_of(MOST_ROUTES, MOST_SERVICES)),
         })
     }
 }
 
-/// Nanoseconds of a packet, however short.
+/// What a client receives, or a link with frames.
+fn reading_on(setting: NetworkSetting) -> Reading
+    requires { 0 < setting.rate }
+    ensures { result ≡ reading_on setting }
+{
+    let packet = packet_of(setting);
+    let one = packet
+        * match setting.link {
+            Link::Tunnel => 1,
+            Link::Frames => MOST_FRAMES,
+        };
+    let share = u64::from(setting.share.min(MOST_RATE));
+    let room = (SHARES_AT_ONCE * share).max(ROOM);
+    let reserve = share.max(RESERVE);
+    Reading {
+        packet,
+        piece: packet / LONGEST_PIECES,
+        packets: setting_for(one, times(packet, reserve), times(packet, room)),
+        pieces: setting_for(one, 0, packet * LONGEST_AT_ONCE),
+    }
+}
+
+/// Nanoseconds of a packet, however long it is.
 fn packet_of(setting: NetworkSetting) -> u64
     requires { 0 < setting.rate }
     ensures value { result ≡ packet_of setting }
@@ -215,31 +238,15 @@ fn packet_of(setting: NetworkSetting) -> u64
     each_of(rate + SHARES * share)
 }
 
-/// Nanoseconds of a piece.
-fn piece_of(packet: u64) -> u64
-    requires { packet ≤ second }
-    ensures value { result ≡ piece_for packet }
-    ensures most { result ≤ packet }
+/// A receiver that may have so much at once.
+fn setting_for(one: u64, reserve: u64, room: u64) -> Setting
+    ensures { result ≡ setting_for one reserve room }
 {
-    packet * (ROOM + RESERVE) / (LONGEST_AT_ONCE * LONGEST_PIECES)
-}
-
-/// What a client receives, or a link with frames.
-fn received_of(link: Link, packet: u64, piece: u64) -> Setting
-    requires packet { packet ≤ second }
-    requires piece { piece ≤ packet }
-    ensures { result ≡ received_for link packet piece }
-{
-    let frames = match link {
-        Link::Tunnel => 1,
-        Link::Frames => MOST_FRAMES,
-    };
-    let longest = frames * packet.max(piece * LONGEST_PIECES);
     Setting {
-        one: longest,
-        own: longest.max(packet * RESERVE / RESERVE_PARTS),
-        reserve: packet * RESERVE,
-        room: packet * ROOM,
+        one,
+        own: one.max(reserve / RESERVE_PARTS),
+        reserve,
+        room,
     }
 }
 
@@ -275,9 +282,17 @@ fn told_at_once(setting: NetworkSetting) -> u32
     ensures value { result ≡ told_at_once setting }
     ensures most { result ≤ 2 ^ 13 }
 {
-    let routes = u32::from(setting.routes.min(MOST_ROUTES)).div_ceil(ROUTES_IN_PACKET);
-    let services = u32::from(setting.services.min(MOST_SERVICES)).div_ceil(SERVICES_IN_PACKET);
-    (2 * (routes + services)).max(LEAST_ADVERTISEMENTS_AT_ONCE)
+    (2 * packets_of(setting.routes, setting.services)).max(LEAST_ADVERTISEMENTS_AT_ONCE)
+}
+
+/// Packets that tell so many routes and services, or as many as the tables hold.
+fn packets_of(routes: u16, services: u16) -> u32
+    ensures value { result ≡ packets_of routes services }
+    ensures most { result ≤ 2 ^ 10 }
+{
+    let routes = u32::from(routes.min(MOST_ROUTES)).div_ceil(ROUTES_IN_PACKET);
+    let services = u32::from(services.min(MOST_SERVICES)).div_ceil(SERVICES_IN_PACKET);
+    routes + services
 }
 
 /// What all clients of an address receive of others, on networks that say so much.
@@ -304,35 +319,56 @@ impl HouseholdLimits {
         }
         let rate = u64::from(rate.min(MOST_RATE));
         let packet = each_of(rate);
-        let among = times(packet, alone_of(rate));
+        let half = half_of(rate);
         Some(HouseholdLimits {
-            received: Setting {
-                one: packet,
-                own: packet.max(among / OWN_PARTS),
-                reserve: 0,
-                room: 2 * among,
-            },
+            received: setting_for(
+                packet,
+                times(packet, half),
+                times(packet, HOUSEHOLD_HALVES * half),
+            ),
             packet,
-            among,
+            among: times(packet, 2 * half),
         })
     }
 }
 
-/// Packets that somebody alone may say at once.
-fn alone_of(rate: u64) -> u64
+/// Half of the packets that somebody alone may say at once.
+fn half_of(rate: u64) -> u64
     requires { rate ≤ most_rate }
-    ensures value { result ≡ alone_of rate }
-    ensures most { result ≤ 2 ^ 20 }
+    ensures value { result ≡ half_of rate }
+    ensures most { result ≤ 2 ^ 16 }
 {
-    2 * ((rate / HOUSEHOLD_PARTS).max(HOUSEHOLD_LEAST) / 2)
+    (rate / HOUSEHOLD_PARTS).max(HOUSEHOLD_LEAST) / 2
+}
+
+/// What all networks of frames tell the router together: a receiver with a queue for each.
+pub fn told_on_links() -> Setting
+    ensures { result ≡ told_on_links }
+{
+    let each = told_each();
+    let all = each * u64::from(LINK_ADVERTISEMENTS_AT_ONCE);
+    Setting {
+        one: each * LINK_TELLS_AT_ONCE,
+        own: each * LINK_TELLS_AT_ONCE,
+        reserve: all / 2,
+        room: all * 2,
+    }
+}
+
+/// Nanoseconds for each of it.
+pub(crate) fn told_each() -> u64
+    ensures value { result ≡ told_each }
+    ensures most { result ≤ second }
+{
+    each_of(u64::from(LINK_ADVERTISEMENTS))
 }
 
 /// So many of so many nanoseconds.
 pub(crate) fn times(each: u64, count: u64) -> u64
     requires each { each ≤ 8 * second }
-    requires count { count ≤ 2 ^ 20 }
+    requires count { count ≤ 2 ^ 22 }
     ensures value { result ≡ each * count }
-    ensures most { result ≤ 8 * second * 2 ^ 20 }
+    ensures most { result ≤ 8 * second * 2 ^ 22 }
 {
     each * count
 }

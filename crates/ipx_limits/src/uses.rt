@@ -16,6 +16,8 @@ pub struct Client {
     pub asked: Meter,
     /// Answers of the gateway to it.
     pub answered: Meter,
+    /// Answers of the router to it.
+    pub paged: Meter,
 }
 
 /// What all clients of an address use of limits.
@@ -28,48 +30,30 @@ pub struct Address {
     pub asked: Meter,
     /// Answers of the gateway to them.
     pub answered: Meter,
-}
-
-/// What all clients of an address use of limits on networks with one rate.
-///
-/// See the example of [`Limits`](crate::Limits).
-#[repr(C)]
-#[derive(Clone, Copy, Debug, Default, PartialEq, Eq)]
-pub struct Account {
-    /// What the router hears of them.
-    pub handed: Meter,
-    /// Of that, what routers tell.
-    pub advertised: Meter,
+    /// Answers of the router to them.
+    pub paged: Meter,
 }
 
 impl Client {
     /// So many nanoseconds pass.
     pub fn pass(&mut self, nanoseconds: u64)
-        ensures { self.new ≡ record { pinged = later nanoseconds self.old.pinged; asked = later nanoseconds self.old.asked; answered = later nanoseconds self.old.answered } }
+        ensures { self.new ≡ record { pinged = later nanoseconds self.old.pinged; asked = later nanoseconds self.old.asked; answered = later nanoseconds self.old.answered; paged = later nanoseconds self.old.paged } }
     {
         fade(&mut self.pinged, nanoseconds);
         fade(&mut self.asked, nanoseconds);
         fade(&mut self.answered, nanoseconds);
+        fade(&mut self.paged, nanoseconds);
     }
 }
 
 impl Address {
     /// So many nanoseconds pass.
     pub fn pass(&mut self, nanoseconds: u64)
-        ensures { self.new ≡ record { asked = later nanoseconds self.old.asked; answered = later nanoseconds self.old.answered } }
+        ensures { self.new ≡ record { asked = later nanoseconds self.old.asked; answered = later nanoseconds self.old.answered; paged = later nanoseconds self.old.paged } }
     {
         fade(&mut self.asked, nanoseconds);
         fade(&mut self.answered, nanoseconds);
-    }
-}
-
-impl Account {
-    /// So many nanoseconds pass.
-    pub fn pass(&mut self, nanoseconds: u64)
-        ensures { self.new ≡ record { handed = later nanoseconds self.old.handed; advertised = later nanoseconds self.old.advertised } }
-    {
-        fade(&mut self.handed, nanoseconds);
-        fade(&mut self.advertised, nanoseconds);
+        fade(&mut self.paged, nanoseconds);
     }
 }
 

@@ -7,8 +7,8 @@ use Rattle.ipx_limits.specs.declared.limits.Limits.{Limits}
 use Rattle.ipx_limits.specs.declared.network.Link.TheVariants.{Tunnel, Frames}
 use Rattle.ipx_limits.specs.declared.network.NetworkSetting.{NetworkSetting}
 use Rattle.ipx_limits.specs.Numbers.{second}
-use Rattle.ipx_limits.specs.Limits.{limits_at, limits_of, household_at, household_of, told_at_once, of_clients}
-use Rattle.ipx_limits.specs.Receiving.{weight}
+use Rattle.ipx_limits.specs.Limits.{limits_at, limits_of, household_at, household_of, told_at_once, told_each, told_on_links, of_clients}
+use Rattle.ipx_limits.specs.Receiving.{packet_weight, piece_weight}
 
 abbrev pub usual : NetworkSetting
 usual = record { link = Tunnel; rate = 800; share = 50; routes = 300; services = 100 }
@@ -28,49 +28,52 @@ at_once limit = limit.burst / limit.each
 
 -- ---- what a client receives
 
-pub in_a_second : second / weight limits 110 1 ≡ 900
+pub in_a_second : second / packet_weight limits.received 1 ≡ 900
 in_a_second = refl
 
-pub of_more_than_110_bytes : second / weight limits 111 1 ≡ 554
-of_more_than_110_bytes = refl
+-- and as many of the longest, or more of those that take fewer pieces
+pub longest_in_a_second : second / piece_weight limits.received 601 1 ≡ 900
+longest_in_a_second = refl
 
-pub of_more_than_600_bytes : second / weight limits 601 1 ≡ 230
-of_more_than_600_bytes = refl
+pub longer_in_a_second : second / piece_weight limits.received 111 1 ≡ 2164
+longer_in_a_second = refl
 
-abbrev all : ℕ
-all = limits.received.room + limits.received.reserve
-
-pub all_at_once : all / weight limits 110 1 ≡ 250
+pub all_at_once : (limits.received.packets.room + limits.received.packets.reserve) / packet_weight limits.received 1 ≡ 250
 all_at_once = refl
 
-pub longer_at_once : all / weight limits 111 1 ≡ 153
+pub longer_at_once : limits.received.pieces.room / piece_weight limits.received 111 1 ≡ 153
 longer_at_once = refl
 
-pub longest_at_once : all / weight limits 601 1 ≡ 64
+pub longest_at_once : limits.received.pieces.room / piece_weight limits.received 601 1 ≡ 64
 longest_at_once = refl
 
 -- somebody alone has half of the room, since his packets are in his queue and in all queues
-pub alone : limits.received.room / (2 * weight limits 110 1) ≡ 100
+pub alone : limits.received.packets.room / (2 * packet_weight limits.received 1) ≡ 100
 alone = refl
 
-pub longer_alone : limits.received.room / (2 * weight limits 111 1) ≡ 61
+pub longer_alone : limits.received.pieces.room / (2 * piece_weight limits.received 111 1) ≡ 76
 longer_alone = refl
 
-pub longest_alone : limits.received.room / (2 * weight limits 601 1) ≡ 25
+pub longest_alone : limits.received.pieces.room / (2 * piece_weight limits.received 601 1) ≡ 32
 longest_alone = refl
 
--- in any case he may say one of the longest, or three short ones
-pub in_any_case : limits.received.one / weight limits 110 1 ≡ 3
+-- while the reserve lasts each may say six, and in any case one, in as many frames as the link has
+pub of_reserve : limits.received.packets.own / packet_weight limits.received 1 ≡ 6
+of_reserve = refl
+
+pub in_any_case : limits.received.packets.one ≡ packet_weight limits.received 1
 in_any_case = refl
 
-pub one_of_the_longest : limits.received.one ≡ weight limits 601 1
-one_of_the_longest = refl
-
-pub with_frames : (limits_at of_frames).received.one ≡ weight limits 601 4
+pub with_frames : (limits_at of_frames).received.packets.one ≡ packet_weight limits.received 4
 with_frames = refl
 
-pub can_be_had : can_be limits.received 256 ≡ true
+pub can_be_had : can_be limits.received.packets 256 ≡ true
 can_be_had = refl
+
+-- larger shares have more at once: four shares, and one more
+pub of_larger_shares : (limits_at (record { link = Tunnel; rate = 800; share = 100; routes = 0; services = 0 })).received.packets
+    ≡ record { one = 1000000; own = 12500000; reserve = 100000000; room = 400000000 }
+of_larger_shares = refl
 
 -- ---- what clients of an address receive
 
@@ -80,7 +83,7 @@ household = household_at 12800
 pub household_in_a_second : second / household.packet ≡ 12800
 household_in_a_second = refl
 
-pub household_at_once : household.received.room / household.packet ≡ 3200
+pub household_at_once : (household.received.room + household.received.reserve) / household.packet ≡ 4000
 household_at_once = refl
 
 pub household_alone : household.received.room / (2 * household.packet) ≡ 1600
@@ -108,6 +111,13 @@ answered = refl
 
 pub answered_at_once : at_once limits.answers ≡ 8
 answered_at_once = refl
+
+-- the router's answers: at once 41 packets of routes and 147 of services
+pub paged : a_second limits.pages ≡ 20
+paged = refl
+
+pub paged_at_once : at_once limits.pages ≡ 41 + 147
+paged_at_once = refl
 
 -- ---- what the router hears
 
@@ -160,6 +170,17 @@ handed_at_once = refl
 
 pub answers_handed_at_once : limits.handed_answers / limits.handed.each ≡ 32
 answers_handed_at_once = refl
+
+-- ---- what all networks of frames tell together
+
+pub told_by_all : second / told_each ≡ 100
+told_by_all = refl
+
+pub told_by_all_at_once : (told_on_links.room + told_on_links.reserve) / told_each ≡ 1000
+told_by_all_at_once = refl
+
+pub told_by_each_in_any_case : told_on_links.one / told_each ≡ 200
+told_by_each_in_any_case = refl
 
 -- ---- no limits
 

@@ -1,5 +1,6 @@
 use Rattle.ipx_limits.specs.Deciding.{is_question, is_told}
-use Rattle.ipx_limits.proofs.Limited.{at_most_of, frames_asked_runs, frames_told_runs}
+use Rattle.ipx_limits.proofs.Limited.{at_most_of}
+use Rattle.ipx_limits.proofs.OfFrames.{frames_asked_runs, frames_told_runs}
 use Rattle.ipx_limits.proofs.laws.router_is_spared_by_frames.Goals as goal
 
 pub returns-clause-questions : goal.returns-clause-questions
