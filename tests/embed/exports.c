@@ -1,12 +1,12 @@
 /* Calls every export of the headers, and is made of these alone. Each argument and each field has a value of its own, and what each call
  * answers is read back: the first wrong answer is named, and the program ends with 1. dev/exports sees that it fails where two exports,
  * two arguments or two fields are exchanged. What is wanted was given here, or follows from the documents: docs/PACKETS.md,
- * docs/ROUTER.md, docs/TUNNEL.md, docs/SEGMENT.md, docs/RELOAD.md and docs/FAIR.md. */
+ * docs/ROUTER.md, docs/TUNNEL.md, docs/SEGMENT.md, docs/RELOAD.md, docs/FAIR.md and docs/LIMITS.md. */
 #include <stdio.h>
 #include <stdlib.h>
 #include <string.h>
 
-#include "ipxr_fair.h"
+#include "ipxr_limits.h"
 #include "ipxr_plan.h"
 #include "ipxr_segment.h"
 #include "ipxr_tunnel.h"
@@ -589,6 +589,359 @@ static void a_meter(void)
     WROTE(20, other.used);
 }
 
+/* ---- Limits that are made ---- */
+
+static void is_limit(uint64_t each, uint64_t burst, ipxr_limit limit)
+{
+    WROTE((long long)each, limit.each);
+    WROTE((long long)burst, limit.burst);
+}
+
+static void is_setting(uint64_t one, uint64_t own, uint64_t reserve, uint64_t room, ipxr_fair_setting setting)
+{
+    WROTE((long long)one, setting.one);
+    WROTE((long long)own, setting.own);
+    WROTE((long long)reserve, setting.reserve);
+    WROTE((long long)room, setting.room);
+}
+
+enum { MICRO = 1000, MILLI = 1000 * MICRO, PIECES = 89 };
+static const uint64_t A_SECOND = (uint64_t)1000 * MILLI;
+
+/* A client receives 1,000 packets a second: 900, and two shares of 50. The tables take 20 packets of routes, and 100 of services. */
+static void limits_of_a_tunnel(void)
+{
+    ipxr_limits limits = {.handed_answers = 1};
+    ANSWERS(0, ipxr_limits_make(&limits, IPXR_LIMITS_TUNNEL, 0, 50, 1000, 700));
+    WROTE(1, limits.handed_answers);
+    ANSWERS(1, ipxr_limits_make(&limits, IPXR_LIMITS_TUNNEL, 900, 50, 1000, 700));
+    WROTE(MILLI, limits.received.packet);
+    WROTE(MILLI / PIECES, limits.received.piece);
+    is_setting(MILLI, 50 * MILLI / 8, 50 * MILLI, 200 * MILLI, limits.received.packets);
+    is_setting(MILLI, MILLI, 0, 64 * MILLI, limits.received.pieces);
+    is_limit(2 * A_SECOND / 900, 2 * A_SECOND / 900 * 64, limits.handed);
+    WROTE((long long)(2 * A_SECOND / 900 * 32), limits.handed_answers);
+    is_limit(A_SECOND, 2 * A_SECOND, limits.pings);
+    is_limit(A_SECOND / 4, 8 * A_SECOND / 4, limits.all_pings);
+    is_limit(A_SECOND, 4 * A_SECOND, limits.questions);
+    is_limit(A_SECOND / 4, 240 * A_SECOND / 4, limits.advertisements);
+    is_limit(A_SECOND / 2, 8 * A_SECOND / 2, limits.answers);
+    is_limit(A_SECOND / 20, 188 * (A_SECOND / 20), limits.pages);
+}
+
+/* A packet may go out in four frames. */
+static void limits_of_a_link(void)
+{
+    ipxr_limits limits;
+    ANSWERS(1, ipxr_limits_make(&limits, IPXR_LIMITS_FRAMES, 900, 50, 1000, 700));
+    is_setting(4 * MILLI, 50 * MILLI / 8, 50 * MILLI, 200 * MILLI, limits.received.packets);
+    is_setting(4 * MILLI, 4 * MILLI, 0, 64 * MILLI, limits.received.pieces);
+    is_limit(A_SECOND / 20, 80 * A_SECOND / 20, limits.questions);
+    is_limit(A_SECOND / 100, 400 * A_SECOND / 100, limits.advertisements);
+}
+
+static void other_limits(void)
+{
+    ipxr_household_limits household = {.packet = 1};
+    ipxr_strangers_limits strangers = {.one = {.each = 1}};
+    ipxr_fair links = {.left = 0};
+    ANSWERS(0, ipxr_household_make(&household, 0));
+    WROTE(1, household.packet);
+    ANSWERS(1, ipxr_household_make(&household, 1000));
+    is_setting(MILLI, 250 * MILLI / 8, 250 * MILLI, 1000 * MILLI, household.received);
+    WROTE(MILLI, household.packet);
+    WROTE(500 * MILLI, household.among);
+    ANSWERS(0, ipxr_strangers_make(&strangers, 0));
+    WROTE(1, strangers.one.each);
+    ANSWERS(1, ipxr_strangers_make(&strangers, 100));
+    is_limit(A_SECOND / 100, 2 * A_SECOND, strangers.all);
+    is_limit(8 * A_SECOND / 100, 8 * A_SECOND, strangers.one);
+    shares(&links);
+    CALLS(ipxr_told_make(&links));
+    WROTE(0, links.total);
+    is_setting(2 * A_SECOND, 2 * A_SECOND, 2 * A_SECOND, 8 * A_SECOND, links.setting);
+}
+
+/* ---- What limits let pass ---- */
+
+static const ipxr_limits LIMITS_OF = {
+    .received = {.packet = 10, .piece = 2},
+    .handed = {.each = 5, .burst = 60},
+    .handed_answers = 15,
+    .pings = {.each = 7, .burst = 20},
+    .all_pings = {.each = 11, .burst = 32},
+    .questions = {.each = 20, .burst = 50},
+    .advertisements = {.each = 30, .burst = 100},
+    .answers = {.each = 12, .burst = 40},
+    .pages = {.each = 16, .burst = 50},
+};
+static const ipxr_household_limits HOUSE = {.packet = 40, .among = 100};
+static const ipxr_strangers_limits STRANGERS = {.all = {.each = 3, .burst = 15}, .one = {.each = 5, .burst = 22}};
+
+/* Packets of more than 600 bytes have so many pieces, and a queue of a number of its own. */
+enum { BYTES = 700, QUEUE = 9, CLIENTS = 2 };
+
+/* A reader with room for so much at once, of packets and of pieces. */
+static void room_for(ipxr_reader *reader, uint64_t packets, uint64_t pieces)
+{
+    const ipxr_fair_setting of_packets = {.one = packets, .own = packets}, of_pieces = {.one = pieces, .own = pieces};
+    ANSWERS(1, ipxr_fair_make(&reader->packets, &of_packets));
+    ANSWERS(1, ipxr_fair_make(&reader->pieces, &of_pieces));
+}
+
+static void is_read(uint64_t packets, uint64_t pieces, const ipxr_reader *reader)
+{
+    WROTE((long long)packets, reader->packets.ends[QUEUE]);
+    WROTE((long long)pieces, reader->pieces.ends[QUEUE]);
+}
+
+static void kinds(void)
+{
+    const ipxr_address all = {.network = 0xC1, .node = EVERYONE, .socket = TUNNEL_SOCKET};
+    const ipxr_address one = {.network = 0xC1, .node = {0xC5}, .socket = TUNNEL_SOCKET};
+    int32_t length = ipxr_write_packet(&FROM, &all, 0, 0, DATA, 2, buffer, sizeof buffer);
+    ANSWERS(IPXR_KIND_PING, ipxr_kind_of(buffer, (size_t)length));
+    ANSWERS(IPXR_KIND_OTHER, ipxr_kind_of(buffer, HEADER + 1));
+    length = ipxr_write_packet(&FROM, &one, 0, 0, DATA, 2, buffer, sizeof buffer);
+    ANSWERS(IPXR_KIND_ANSWER, ipxr_kind_of(buffer, (size_t)length));
+    length = ipxr_write_rip(&NEIGHBOUR, &ALL_RIP, IPXR_RIP_RESPONSE, ROUTES, 4, buffer, sizeof buffer);
+    ANSWERS(IPXR_KIND_TOLD, ipxr_kind_of(buffer, (size_t)length));
+    length = ipxr_write_query(&NEIGHBOUR, &ALL_SAP, 1, 4, buffer, sizeof buffer);
+    ANSWERS(IPXR_KIND_QUESTION, ipxr_kind_of(buffer, (size_t)length));
+}
+
+static void pings(void)
+{
+    ipxr_client_use client = {.pinged = {0}};
+    ipxr_meter all = {0};
+    ANSWERS(IPXR_PASSES, ipxr_limits_says(&LIMITS_OF, IPXR_KIND_PING, &client, &all));
+    ANSWERS(IPXR_PASSES, ipxr_limits_says(&LIMITS_OF, IPXR_KIND_PING, &client, &all));
+    ANSWERS(IPXR_TOO_MANY_PINGS, ipxr_limits_says(&LIMITS_OF, IPXR_KIND_PING, &client, &all));
+    ANSWERS(IPXR_PASSES, ipxr_limits_says(&LIMITS_OF, IPXR_KIND_ANSWER, &client, &all));
+    WROTE(14, client.pinged.used);
+    WROTE(22, all.used);
+    all.used = 21;
+    ANSWERS(IPXR_PASSES, ipxr_limits_frames_say(&LIMITS_OF, IPXR_KIND_PING, &all));
+    ANSWERS(IPXR_TOO_MANY_PINGS, ipxr_limits_frames_say(&LIMITS_OF, IPXR_KIND_PING, &all));
+    ANSWERS(IPXR_PASSES, ipxr_limits_frames_say(&LIMITS_OF, IPXR_KIND_OTHER, &all));
+    WROTE(32, all.used);
+}
+
+/* An address with several clients has as much for each. */
+static void answers(void)
+{
+    ipxr_client_use client = {.answered = {4}};
+    ipxr_address_use address = {.answered = {28}};
+    ANSWERS(IPXR_PASSES, ipxr_limits_answers(&LIMITS_OF, CLIENTS, &client, &address));
+    WROTE(16, client.answered.used);
+    WROTE(34, address.answered.used);
+    ANSWERS(IPXR_PASSES, ipxr_limits_answers(&LIMITS_OF, CLIENTS, &client, &address));
+    ANSWERS(IPXR_TOO_MANY_ANSWERS, ipxr_limits_answers(&LIMITS_OF, CLIENTS, &client, &address));
+    ANSWERS(IPXR_TOO_MANY_ANSWERS, ipxr_limits_answers(&LIMITS_OF, 1, &client, &address));
+    WROTE(28, client.answered.used);
+    WROTE(40, address.answered.used);
+    address.answered.used = 0;
+    client.answered.used = 29;
+    ANSWERS(IPXR_TOO_MANY_ANSWERS, ipxr_limits_answers(&LIMITS_OF, CLIENTS, &client, &address));
+}
+
+/* The same of the router's answers. */
+static void pages(void)
+{
+    ipxr_client_use client = {.paged = {3}};
+    ipxr_address_use address = {.paged = {30}};
+    ANSWERS(IPXR_PASSES, ipxr_limits_router_answers(&LIMITS_OF, CLIENTS, &client, &address));
+    WROTE(19, client.paged.used);
+    WROTE(38, address.paged.used);
+    ANSWERS(IPXR_PASSES, ipxr_limits_router_answers(&LIMITS_OF, CLIENTS, &client, &address));
+    ANSWERS(IPXR_TOO_MANY_ANSWERS, ipxr_limits_router_answers(&LIMITS_OF, CLIENTS, &client, &address));
+    WROTE(35, client.paged.used);
+    WROTE(46, address.paged.used);
+    address.paged.used = 0;
+    ANSWERS(IPXR_TOO_MANY_ANSWERS, ipxr_limits_router_answers(&LIMITS_OF, CLIENTS, &client, &address));
+    WROTE(0, client.answered.used);
+    WROTE(0, address.answered.used);
+}
+
+static void hands(void)
+{
+    ipxr_client_use client = {.asked = {0}};
+    ipxr_address_use address = {.asked = {0}};
+    ipxr_meter handed = {0}, advertised = {1};
+    ANSWERS(IPXR_PASSES, ipxr_limits_hands(&LIMITS_OF, CLIENTS, IPXR_KIND_QUESTION, &client, &address, &handed, &advertised));
+    WROTE(20, client.asked.used);
+    WROTE(10, address.asked.used);
+    ANSWERS(IPXR_PASSES, ipxr_limits_hands(&LIMITS_OF, CLIENTS, IPXR_KIND_TOLD, &client, &address, &handed, &advertised));
+    ANSWERS(IPXR_PASSES, ipxr_limits_hands(&LIMITS_OF, CLIENTS, IPXR_KIND_ANSWER, &client, &address, &handed, &advertised));
+    WROTE(15, handed.used);
+    WROTE(31, advertised.used);
+    ANSWERS(IPXR_TOO_MUCH_FOR_ROUTER, ipxr_limits_hands(&LIMITS_OF, CLIENTS, IPXR_KIND_ANSWER, &client, &address, &handed, &advertised));
+    address.asked.used = 41;
+    ANSWERS(IPXR_TOO_MANY_QUESTIONS, ipxr_limits_hands(&LIMITS_OF, CLIENTS, IPXR_KIND_QUESTION, &client, &address, &handed, &advertised));
+    advertised.used = 71;
+    ANSWERS(IPXR_TOO_MANY_ADVERTISEMENTS, ipxr_limits_hands(&LIMITS_OF, CLIENTS, IPXR_KIND_TOLD, &client, &address, &handed, &advertised));
+    handed.used = 56;
+    ANSWERS(IPXR_TOO_MUCH_FOR_ROUTER, ipxr_limits_hands(&LIMITS_OF, CLIENTS, IPXR_KIND_OTHER, &client, &address, &handed, &advertised));
+    WROTE(20, client.asked.used);
+    WROTE(41, address.asked.used);
+    WROTE(56, handed.used);
+    WROTE(71, advertised.used);
+}
+
+static void frames_hand(void)
+{
+    ipxr_meter asked = {1}, advertised = {3};
+    ipxr_fair links = {.left = 0};
+    ANSWERS(IPXR_TOO_MANY_ADVERTISEMENTS, ipxr_limits_frames_hand(&LIMITS_OF, QUEUE, IPXR_KIND_TOLD, &asked, &advertised, &links));
+    CALLS(ipxr_told_make(&links));
+    ANSWERS(IPXR_PASSES, ipxr_limits_frames_hand(&LIMITS_OF, QUEUE, IPXR_KIND_TOLD, &asked, &advertised, &links));
+    WROTE(10 * MILLI, links.ends[QUEUE]);
+    ANSWERS(IPXR_PASSES, ipxr_limits_frames_hand(&LIMITS_OF, QUEUE, IPXR_KIND_QUESTION, &asked, &advertised, &links));
+    ANSWERS(IPXR_PASSES, ipxr_limits_frames_hand(&LIMITS_OF, QUEUE, IPXR_KIND_QUESTION, &asked, &advertised, &links));
+    ANSWERS(IPXR_TOO_MANY_QUESTIONS, ipxr_limits_frames_hand(&LIMITS_OF, QUEUE, IPXR_KIND_QUESTION, &asked, &advertised, &links));
+    WROTE(41, asked.used);
+    WROTE(33, advertised.used);
+    ANSWERS(IPXR_PASSES, ipxr_limits_frames_hand(&LIMITS_OF, QUEUE, IPXR_KIND_TOLD, &asked, &advertised, &links));
+    ANSWERS(IPXR_PASSES, ipxr_limits_frames_hand(&LIMITS_OF, QUEUE, IPXR_KIND_TOLD, &asked, &advertised, &links));
+    ANSWERS(IPXR_TOO_MANY_ADVERTISEMENTS, ipxr_limits_frames_hand(&LIMITS_OF, QUEUE, IPXR_KIND_TOLD, &asked, &advertised, &links));
+    ANSWERS(IPXR_PASSES, ipxr_limits_frames_hand(&LIMITS_OF, QUEUE, IPXR_KIND_OTHER, &asked, &advertised, &links));
+    WROTE(30 * MILLI, links.total);
+}
+
+/* A client that has room for two packets, then for the pieces of one; and a link with frames. */
+static void receives(void)
+{
+    ipxr_reader reader;
+    memset(&reader, 0, sizeof reader);
+    ANSWERS(IPXR_TOO_MUCH_FOR_CLIENT, ipxr_limits_receives(&LIMITS_OF, &reader, QUEUE, BYTES));
+    room_for(&reader, 20, 1000);
+    ANSWERS(IPXR_PASSES, ipxr_limits_receives(&LIMITS_OF, &reader, QUEUE, BYTES));
+    is_read(10, 178, &reader);
+    CALLS(ipxr_limits_hears_router(&LIMITS_OF, &reader, QUEUE, BYTES));
+    is_read(20, 356, &reader);
+    CALLS(ipxr_limits_hears_router(&LIMITS_OF, &reader, QUEUE, BYTES));
+    ANSWERS(IPXR_TOO_MUCH_FOR_CLIENT, ipxr_limits_receives(&LIMITS_OF, &reader, QUEUE, BYTES));
+    is_read(20, 356, &reader);
+    room_for(&reader, 1000, 177);
+    ANSWERS(IPXR_TOO_MUCH_FOR_CLIENT, ipxr_limits_receives(&LIMITS_OF, &reader, QUEUE, BYTES));
+    ANSWERS(IPXR_PASSES, ipxr_limits_receives(&LIMITS_OF, &reader, QUEUE, 600));
+    is_read(10, 74, &reader);
+    room_for(&reader, 1000, 1000);
+    ANSWERS(IPXR_PASSES, ipxr_limits_carries(&LIMITS_OF, &reader, QUEUE, BYTES, 3));
+    is_read(30, 534, &reader);
+    ANSWERS(IPXR_TOO_MUCH_FOR_LINK, ipxr_limits_carries(&LIMITS_OF, &reader, QUEUE, BYTES, 3));
+    is_read(30, 534, &reader);
+}
+
+/* A client, all of its address, and what these say to each other. */
+static void household_receives(void)
+{
+    const ipxr_fair_setting three = {.one = 120, .own = 120};
+    ipxr_reader client;
+    ipxr_fair address = {.left = 0};
+    ipxr_meter among = {8};
+    memset(&client, 0, sizeof client);
+    room_for(&client, 20, 1000);
+    ANSWERS(1, ipxr_fair_make(&address, &three));
+    ANSWERS(IPXR_PASSES, ipxr_household_receives(&HOUSE, &LIMITS_OF, &client, &address, QUEUE, BYTES));
+    is_read(10, 178, &client);
+    WROTE(40, address.ends[QUEUE]);
+    ANSWERS(IPXR_PASSES, ipxr_household_receives_of_own(&HOUSE, &LIMITS_OF, &client, &among, QUEUE, BYTES));
+    is_read(20, 356, &client);
+    WROTE(48, among.used);
+    ANSWERS(IPXR_TOO_MUCH_FOR_CLIENT, ipxr_household_receives(&HOUSE, &LIMITS_OF, &client, &address, QUEUE, BYTES));
+    ANSWERS(IPXR_TOO_MUCH_FOR_CLIENT, ipxr_household_receives_of_own(&HOUSE, &LIMITS_OF, &client, &among, QUEUE, BYTES));
+    ANSWERS(IPXR_PASSES, ipxr_household_receives_of_router(&HOUSE, &LIMITS_OF, &client, &address, QUEUE, BYTES));
+    WROTE(80, address.ends[QUEUE]);
+    is_read(20, 356, &client);
+    room_for(&client, 1000, 1000);
+    ANSWERS(IPXR_PASSES, ipxr_household_receives_of_router(&HOUSE, &LIMITS_OF, &client, &address, QUEUE, BYTES));
+    is_read(10, 178, &client);
+    ANSWERS(IPXR_TOO_MUCH_FOR_ADDRESS, ipxr_household_receives_of_router(&HOUSE, &LIMITS_OF, &client, &address, QUEUE, BYTES));
+    ANSWERS(IPXR_TOO_MUCH_FOR_ADDRESS, ipxr_household_receives(&HOUSE, &LIMITS_OF, &client, &address, QUEUE, BYTES));
+    ANSWERS(IPXR_PASSES, ipxr_household_receives_of_own(&HOUSE, &LIMITS_OF, &client, &among, QUEUE, BYTES));
+    ANSWERS(IPXR_TOO_MUCH_FOR_ADDRESS, ipxr_household_receives_of_own(&HOUSE, &LIMITS_OF, &client, &among, QUEUE, BYTES));
+    WROTE(88, among.used);
+    WROTE(120, address.ends[QUEUE]);
+}
+
+/* Of two queues that nobody has the one behind the last, and then the one that the fewest have. */
+static void queues(void)
+{
+    ipxr_queues given = {.last = 0};
+    ANSWERS(21, ipxr_queues_take(&given, 21, 23));
+    ANSWERS(22, ipxr_queues_take(&given, 21, 23));
+    ANSWERS(23, ipxr_queues_take(&given, 21, 23));
+    ANSWERS(21, ipxr_queues_take(&given, 21, 23));
+    CALLS(ipxr_queues_give_back(&given, 22));
+    WROTE(2, given.users[21]);
+    WROTE(0, given.users[22]);
+    WROTE(1, given.users[23]);
+    WROTE(21, given.last);
+    ANSWERS(22, ipxr_queues_take(&given, 21, 23));
+    ANSWERS(23, ipxr_queues_take(&given, 21, 23));
+    WROTE(23, given.last);
+}
+
+static void strangers(void)
+{
+    ipxr_meter address = {1}, all = {2};
+    ANSWERS(IPXR_PASSES, ipxr_strangers_send(&STRANGERS, 2, &address, &all));
+    WROTE(11, address.used);
+    WROTE(8, all.used);
+    address.used = 18;
+    ANSWERS(IPXR_TOO_MUCH_FOR_STRANGERS, ipxr_strangers_send(&STRANGERS, 1, &address, &all));
+    address.used = 0;
+    ANSWERS(IPXR_TOO_MUCH_FOR_STRANGERS, ipxr_strangers_send(&STRANGERS, 3, &address, &all));
+    WROTE(0, address.used);
+    WROTE(8, all.used);
+}
+
+/* Each clock is looked at once, and time passes for all that it is the clock of. */
+static void looks(void)
+{
+    uint64_t clocks[3] = {1000, 2000, 3000};
+    ipxr_client_use client = {{50}, {60}, {70}, {80}};
+    ipxr_address_use address = {{90}, {100}, {110}};
+    ipxr_reader reader;
+    memset(&reader, 0, sizeof reader);
+    room_for(&reader, 1000, 1000);
+    ANSWERS(IPXR_PASSES, ipxr_limits_receives(&LIMITS_OF, &reader, QUEUE, BYTES));
+    CALLS(ipxr_reader_look(&reader, &clocks[0], 1004));
+    WROTE(6, reader.packets.total);
+    WROTE(174, reader.pieces.total);
+    WROTE(1004, clocks[0]);
+    CALLS(ipxr_client_look(&client, &clocks[1], 2015));
+    WROTE(35, client.pinged.used);
+    WROTE(45, client.asked.used);
+    WROTE(55, client.answered.used);
+    WROTE(65, client.paged.used);
+    WROTE(2015, clocks[1]);
+    CALLS(ipxr_address_look(&address, &clocks[2], 3025));
+    WROTE(65, address.asked.used);
+    WROTE(75, address.answered.used);
+    WROTE(85, address.paged.used);
+    WROTE(3025, clocks[2]);
+}
+
+static void limits(void)
+{
+    limits_of_a_tunnel();
+    limits_of_a_link();
+    other_limits();
+    kinds();
+    pings();
+    answers();
+    pages();
+    hands();
+    frames_hand();
+    receives();
+    household_receives();
+    queues();
+    strangers();
+    looks();
+}
+
 /* ---- Plans ---- */
 
 /* A tunnel, and a card. */
@@ -690,6 +1043,7 @@ int main(void)
     a_receiver();
     two_receivers();
     a_meter();
+    limits();
     a_plan();
     return 0;
 }

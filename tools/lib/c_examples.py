@@ -7,7 +7,7 @@ from telling import ends, prints, succeeds, tell
 
 KEPT = "examples/embed"
 EXAMPLES = ("two_networks", "answers", "fields", "services", "tunnel", "tunnel_fields", "segment", "segment_fields", "joined",
-            "fair")
+            "fair", "limits")
 COUNTED = ("refusals", "blocks", "tunnel_blocks", "segment_blocks")
 
 

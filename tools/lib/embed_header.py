@@ -10,9 +10,9 @@ from systems import HEADERS
 from telling import has, left_out, prints, quietly, succeeds, tell
 
 STRICT = ["-Wall", "-Wextra", "-Wpedantic", "-Wconversion", "-Werror"]
-ROUTER, TUNNEL, SEGMENT, PLAN, FAIR = HEADERS
-# Numbers with words: all of the router's, and those of the others that a call answers. The kinds of frames, what a datagram said and what a
-# link is have no words.
+ROUTER, TUNNEL, SEGMENT, PLAN, FAIR, LIMITS = HEADERS
+# Numbers with words: all of the router's, and those of the others that a call answers. The kinds of frames, what a datagram said, what a
+# link is, and what limits say of a packet have no words.
 ANSWERS = {
     ROUTER: re.compile(r"(?m)^(?!.*_FRAME)#define (IPXR_[A-Z_]+) +\(?-?[0-9]+\)? +/\*"),
     TUNNEL: re.compile(r"(?m)^#define (IPXR_[A-Z_]+) +\(-[0-9]+\) +/\*"),
@@ -38,22 +38,29 @@ ALTERED = (
     (FAIR, "uint8_t speaker, uint64_t weight", "uint8_t speaker, uint32_t weight"),
     (FAIR, "uint64_t ends[256]", "uint64_t ends[255]"),
     (FAIR, "uint64_t waits;     /*", "uint64_t total;     /*"),
+    (LIMITS, "uint16_t routes, uint16_t services", "uint16_t routes, uint32_t services"),
+    (LIMITS, "uint8_t queue, size_t bytes, uint32_t frames", "uint8_t queue, size_t bytes"),
+    (LIMITS, "ipxr_limit pings;          /*", "ipxr_meter pings;          /*"),
+    (LIMITS, "ipxr_fair pieces;", "ipxr_meter pieces;"),
+    (LIMITS, "uint32_t users[256]", "uint32_t users[255]"),
 )
 STANDARDS = {
     "c": (("gcc", "clang"), ("c89", "c99", "c11", "c17", "c2x")),
     "c++": (("g++", "clang++"), ("c++98", "c++11", "c++14", "c++17", "c++20", "c++2b")),
 }
-PROGRAMS = ("every_standard", "every_standard_tunnel", "every_standard_segment", "every_standard_plan", "every_standard_fair")
+PROGRAMS = ("every_standard", "every_standard_tunnel", "every_standard_segment", "every_standard_plan", "every_standard_fair",
+            "every_standard_limits")
 # What those programs show, where they run.
 SHOWN = ("an empty handle, a text and a router of one port", "an empty handle of a tunnel, and a tunnel",
-         "an empty handle of a segment, and a segment", "a plan", "a receiver of zeros, a receiver and a meter")
+         "an empty handle of a segment, and a segment", "a plan", "a receiver of zeros, a receiver and a meter",
+         "limits, and what they let pass")
 
 BEGIN = """\
 #include <stdio.h>
 #include "ipxr_tunnel.h"
 #include "ipxr_segment.h"
 #include "ipxr_plan.h"
-#include "ipxr_fair.h"
+#include "ipxr_limits.h"
 typedef void call(void);
 call *const calls[] = {
 """

@@ -3,7 +3,7 @@ from typing import NamedTuple
 
 PROGRAM = "crates/ipxr/out/ipxr"
 # The headers of the library for C.
-HEADERS = ("ipxr.h", "ipxr_tunnel.h", "ipxr_segment.h", "ipxr_plan.h", "ipxr_fair.h")
+HEADERS = ("ipxr.h", "ipxr_tunnel.h", "ipxr_segment.h", "ipxr_plan.h", "ipxr_fair.h", "ipxr_limits.h")
 
 
 class System(NamedTuple):

@@ -1,14 +1,10 @@
 -- Whether a packet is copied, asked socket by socket; and that it has a header then.
-use Rattle.std.proofs.Common.{◌≡◌, ◌∙◌, refl, sym, ap₂, ℕ, ◌≤◌, ◌==◌, Bool, true, false, ◌&&◌, ◌||◌, not, if◌then◌else◌, nat_lt, inl, inr, List, [], ◌∷◌, length, map, Result, Ok, Err}
+use Rattle.std.proofs.Common.{◌≡◌, refl, ℕ, ◌≤◌, ◌==◌, Bool, true, false, ◌&&◌, ◌||◌, not, if◌then◌else◌, List, [], ◌∷◌, length, map, Result, Ok, Err, arith}
 use Rattle.std.specs.List.{list_any}
-use Rattle.std.proofs.Math.Bool.{and-or_distrib_right}
-use Rattle.std.proofs.lemmas.Bool.{cases_lt, lt-ltb, false≢true}
-use Rattle.ipx_wire.specs.Header.{length_field}
 use Rattle.ipx_wire.specs.Packet.{Parts, packet_of}
 use Rattle.ipx_wire.specs.Numbers.{propagated_type}
 use Rattle.ipx_wire.specs.declared.network.Network.{Network}
 use Rattle.ipx_wire.specs.declared.packet.PacketFault.{PacketFault}
-use Rattle.ipx_wire.specs.declared.packet.PacketFault.TheVariants.{Short, LengthSmall, LengthBeyond}
 use Rattle.ipx_wire.specs.declared.socket.Socket.{Socket}
 use Rattle.ipx_tunnel.specs.Places.{is_here, same_node, broadcast}
 use Rattle.ipx_tunnel.specs.Extend.{is_extended_in, is_extended}
@@ -16,17 +12,11 @@ use Rattle.ipx_c.specs.Extends.{socket_of}
 
 -- ---- socket by socket
 
-or_none : (a : Bool) → (a || false) ≡ a
-or_none true = refl
-or_none false = refl
-
 -- the sockets stand among four other tests
 spread : (a b c e : Bool) (n : ℕ) (sockets : List ℕ)
     → list_any (λ s. a && b && c && ((s == n) || false) && e) sockets ≡ (a && b && c && list_any (λ (s : Socket). s.0 == n) (map socket_of sockets) && e)
 spread true true true e n [] = refl
-spread true true true e n (s ∷ sockets) =
-    ap₂ (λ x y. x && e || y) (or_none (s == n)) (spread true true true e n sockets)
-    ∙ sym (and-or_distrib_right (s == n) (list_any (λ (s : Socket). s.0 == n) (map socket_of sockets)) e)
+spread true true true e n (s ∷ sockets) = grind (arith, spread true true true e n sockets)
 spread true true false e n [] = refl
 spread true true false e n (s ∷ sockets) = spread true true false e n sockets
 spread true false c e n [] = refl
@@ -49,26 +39,14 @@ named_by_one network sockets bytes = by_one network sockets (packet_of bytes)
 
 -- ---- a header
 
-read_by : (network : Network) (sockets : List Socket) (short small beyond : Bool) (p : Parts)
-    → is_extended_in network sockets (if short then Err Short else if small then Err LengthSmall else if beyond then Err LengthBeyond else Ok p) ≡ true
-    → short ≡ false
-read_by network sockets true small beyond p is = absurd (false≢true is)
-read_by network sockets false small beyond p is = refl
-
-not_short : (n : ℕ) → nat_lt n 30 ≡ false → 30 ≤ n
-not_short n is = elim (cases_lt n 30) [ inl short ↦ absurd (false≢true (sym is ∙ lt-ltb n 30 short)) | inr long ↦ long ]
-
 pub has_header : (network : Network) (sockets : List Socket) (bytes : List ℕ) → is_extended network sockets bytes ≡ true → 30 ≤ length bytes
 unfolding packet_of
-has_header network sockets bytes is =
-    not_short (length bytes) (read_by network sockets (nat_lt (length bytes) 30) (nat_lt (length_field bytes) 30) (nat_lt (length bytes) (length_field bytes)) _ is)
+has_header network sockets bytes is = grind arith
 
 -- ---- what C has then
 
 pub picked : (is : Bool) (copy bytes new : List ℕ) → is ≡ true → new ≡ copy → new ≡ (if is then copy else bytes)
-picked true copy bytes new so same = same
-picked false copy bytes new so same = absurd (false≢true so)
+picked is copy bytes new so same = grind arith
 
 pub kept : (is : Bool) (copy bytes : List ℕ) → is ≡ false → bytes ≡ (if is then copy else bytes)
-kept true copy bytes so = absurd (false≢true (sym so))
-kept false copy bytes so = refl
+kept is copy bytes so = grind arith

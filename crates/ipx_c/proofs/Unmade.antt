@@ -1,9 +1,8 @@
 -- Why ports make no router, where each of them is one.
-use Rattle.std.proofs.Common.{List, length, map, ap, arith}
+use Rattle.std.proofs.Common.{List, map, arith}
 use Rattle.std.proofs.lemmas.List.{length-map}
 use Rattle.ipx_router.specs.RouterOf.{IsNoRouter}
 use Rattle.ipx_router.specs.declared.ports_fault.PortsFault.{PortsFault}
-use Rattle.ipx_router.specs.declared.ports_fault.PortsFault.TheVariants.{NoPort, TooMany, SameNetwork}
 use Rattle.ipx_c.specs.Makes.{ArePorts, IsUnmade}
 use Rattle.ipx_c.specs.Sizes.{most_ports}
 use Rattle.ipx_c.specs.Values.{port_of}
@@ -12,6 +11,4 @@ use Rattle.ipx_c.specs.declared.values.PortValues.{PortValues}
 
 pub unmade : (values : List PortValues) (fault : PortsFault) → ArePorts values
     → IsNoRouter most_ports (map port_of values) fault → IsUnmade values (Ports fault)
-unmade values NoPort are why = omega (arith, length-map values port_of, ap length why)
-unmade values TooMany are why = omega (arith, length-map values port_of, why)
-unmade values SameNetwork are why = (are, why.2)
+unmade values fault are why = grind (arith, length-map)

@@ -29,6 +29,8 @@ pub mod SegmentReads
 -- the plan of a reload: structs, and the call
 pub mod PlanValues
 pub mod Plans
+-- a gateway's limits: numbers
+pub mod LimitValues
 -- broadcasts that are copied to another network
 pub mod Extends
 -- nothing that a public contract says

@@ -1,5 +1,5 @@
 //! The router for C, and for whatever can call C: a static library, whose headers are `ipxr.h`, `ipxr_tunnel.h`, `ipxr_segment.h`,
-//! `ipxr_plan.h` and `ipxr_fair.h` in `include/`.
+//! `ipxr_plan.h`, `ipxr_fair.h` and `ipxr_limits.h` in `include/`.
 //!
 //! - C holds a router by a `RouterHandle`: a flag and a pointer. All bytes 0 are a handle without a router.
 //! - `Handle` and `Cell` serve any machine, and are proved once. What crosses to C may have no type parameter, so each kind of machine
@@ -16,7 +16,7 @@
 //!   its last event (`SegmentMakes`, `SegmentEvents`, `SegmentReads`).
 //! - The plan of a reload is made of values and written to values (`Plans`), by `ipx_plan`.
 //! - Fair queueing and meters are no machines: C keeps them in memory of its own, where all bytes 0 are one, and lends them. Each call's
-//!   clause is that of `ipx_fair`.
+//!   clause is that of `ipx_fair`. So are a gateway's limits, by `ipx_limits`, whose kinds and reasons have numbers (`LimitValues`).
 //! - Frames of Ethernet are read and written as `ipx_capture` does, by the numbers of their kinds (`Kinds`).
 //! - Packets are written by the writers of `ipx_wire`, of values that C gives (`Writes`).
 //! - `cell` is the only place with a raw pointer; its proofs, and those alone, are walks by hand.
@@ -34,6 +34,8 @@ mod fault;
 mod frames;
 mod handle;
 mod item;
+mod limit_values;
+pub mod limits;
 mod machine;
 mod making;
 mod plan_values;

@@ -8,7 +8,7 @@
 #include <stdlib.h>
 #include <string.h>
 
-#include "ipxr_fair.h"
+#include "ipxr_limits.h"
 #include "ipxr_segment.h"
 #include "ipxr_tunnel.h"
 #include "packets.h"
@@ -26,6 +26,10 @@ static ipxr router;
 static ipxr_tunnel tunnel;
 static ipxr_segment segment;
 static ipxr_fair fair;
+static ipxr_limits limits;
+static ipxr_household_limits household;
+static ipxr_strangers_limits strangers;
+static ipxr_reader reader;
 static ipxr_sender sender;
 static unsigned char *stack;
 static uint8_t packet[LONGEST];
@@ -182,6 +186,54 @@ static void say_all(void)
 
 /* So long that all queues but one run empty, one after the other. */
 static void serve_all(void) { ipxr_fair_pass(&fair, fair.total - 1); }
+
+/* ---- Limits ---- */
+
+static void make_limits(void)
+{
+    bool are_made = ipxr_limits_make(&limits, IPXR_LIMITS_FRAMES, 800, 50, IPXR_NO_LIMIT, IPXR_NO_LIMIT) &&
+                    ipxr_household_make(&household, 12800) && ipxr_strangers_make(&strangers, 100) &&
+                    ipxr_fair_make(&reader.packets, &limits.received.packets) && ipxr_fair_make(&reader.pieces, &limits.received.pieces);
+    ipxr_told_make(&fair);
+    answer = are_made ? 0 : -1;
+}
+
+/* What a client and its address say: each goes on, as often as here. */
+static void say_within_limits(void)
+{
+    ipxr_client_use client = {{0}, {0}, {0}, {0}};
+    ipxr_address_use address = {{0}, {0}, {0}};
+    ipxr_meter all = {0}, handed = {0}, advertised = {0};
+    uint8_t kind = ipxr_kind_of(packet, length);
+    answer = -(ipxr_limits_says(&limits, IPXR_KIND_PING, &client, &all) | ipxr_limits_frames_say(&limits, IPXR_KIND_PING, &all) |
+               ipxr_limits_answers(&limits, 1, &client, &address) | ipxr_limits_router_answers(&limits, 1, &client, &address) |
+               ipxr_limits_hands(&limits, 1, kind, &client, &address, &handed, &advertised) |
+               ipxr_limits_frames_hand(&limits, 0, IPXR_KIND_TOLD, &handed, &advertised, &fair) |
+               ipxr_strangers_send(&strangers, 1, &handed, &advertised));
+}
+
+/* Everybody says so much that each queue has some of it. */
+static void receive_all(void)
+{
+    ipxr_meter among = {0};
+    for (unsigned k = 0; k < IPXR_SPEAKERS; k++) {
+        ipxr_limits_receives(&limits, &reader, (uint8_t)k, LONGEST);
+        ipxr_limits_hears_router(&limits, &reader, (uint8_t)k, k);
+        ipxr_limits_carries(&limits, &reader, (uint8_t)k, k, 4);
+        ipxr_household_receives(&household, &limits, &reader, &fair, (uint8_t)k, LONGEST);
+        ipxr_household_receives_of_own(&household, &limits, &reader, &among, (uint8_t)k, LONGEST);
+        ipxr_household_receives_of_router(&household, &limits, &reader, &fair, (uint8_t)k, LONGEST);
+    }
+}
+
+/* So long that all has been read. */
+static void read_all(void)
+{
+    uint64_t clock = 0;
+    ipxr_reader_look(&reader, &clock, IPXR_MOST_TIME);
+    if (reader.packets.total != 0 || reader.pieces.total != 0)
+        answer = -1;
+}
 
 /* Whatever reads the router, and the packets that it sends. */
 static void read(void)
@@ -414,6 +466,14 @@ static void play_receiver(void)
     measure("all that they said is served", serve_all, MOST);
 }
 
+static void play_limits(void)
+{
+    measure("limits are made", make_limits, MOST);
+    measure("somebody speaks within limits", say_within_limits, MOST);
+    measure("a reader hears what it has room for", receive_all, MOST);
+    measure("all of it is read", read_all, MOST);
+}
+
 int main(int count, char **words)
 {
     in_figures = count > 1 && strcmp(words[1], "figures") == 0;
@@ -431,6 +491,7 @@ int main(int count, char **words)
     play_tunnel();
     play_segment();
     play_receiver();
+    play_limits();
     free(stack);
     printf("faults: %d\n", faults);
     return 0;
