@@ -199,7 +199,7 @@ static void change_tunnel(gateway *it, size_t number)
     if (was != IPXR_NO_ONE && next.fates[was].ends_tunnel)
         tunnel_end(on);
     throttle_set(&on->throttle, on->set); /* (what may be advertised at once follows the shares) */
-    receiver_set(&on->queues, &on->throttle.received); /* (by the same limits what waits stays) */
+    receiver_set(&on->queues, &on->throttle.limits.received); /* (by the same limits what waits stays) */
     if (next.has_tunnel[number])
         tunnel_again(it, on, &next.tunnels[number]);
 }

@@ -4,12 +4,12 @@
 #include <stdlib.h>
 #include <string.h>
 
-static bool is_of(const account *it, const limit *of)
+static bool is_of(const account *it, const ipxr_limit *of)
 {
-    return it->of.between == of->between && it->of.burst == of->burst;
+    return it->of.each == of->each && it->of.burst == of->burst;
 }
 
-static account *new_account(const limit *of)
+static account *new_account(const ipxr_limit *of)
 {
     account *it = malloc(sizeof *it);
     if (it != NULL)
@@ -17,16 +17,16 @@ static account *new_account(const limit *of)
     return it;
 }
 
-meter *account_of(account *first, const limit *of)
+ipxr_meter *account_of(account *first, const ipxr_limit *of)
 {
     account *it = first;
-    if (it->of.between == 0)
+    if (it->of.each == 0)
         it->of = *of;
     while (!is_of(it, of) && it->next != NULL)
         it = it->next;
     if (!is_of(it, of) && (it->next = new_account(of)) != NULL)
         it = it->next;
-    return &it->used;
+    return meter_now(&it->used);
 }
 
 void account_forget(account *first)

@@ -3,16 +3,17 @@
 #ifndef ACCOUNT_H
 #define ACCOUNT_H
 
+#include "ipxr_limits.h"
 #include "limits/meter.h"
 
 typedef struct account {
-    limit of; /* nothing, as long as nobody used it */
+    ipxr_limit of; /* nothing, as long as nobody used it */
     meter used;
     struct account *next; /* of another limit */
 } account;
 
-/* What is used of a limit. Where there is no memory limits that differ share one. */
-meter *account_of(account *first, const limit *of);
+/* What is used of a limit now. Where there is no memory limits that differ share one. */
+ipxr_meter *account_of(account *first, const ipxr_limit *of);
 
 /* Nothing is used of any from now on. */
 void account_forget(account *first);

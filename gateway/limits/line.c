@@ -1,7 +1,7 @@
 #include "limits/line.h"
 
 #include "ipx.h"
-#include "limits/numbers.h"
+#include "ipxr_limits.h"
 
 /* Bytes in front of a packet: the headers of UDP and IP, and as many as Ethernet has with its checksum. */
 enum { HEADERS = 8 + 20 + 18 };
@@ -30,20 +30,24 @@ enum { BIT = 1000000, BITS = 8, USED = 9, OF = 10 };
  * as they are few. */
 enum { SHORT = 200, QUIET = 10, MOST_PARTS = 4096, PART_OF_OWN = 10 };
 
+/* Of the line one part in so many is for what is said as little. (with all of it what waits would grow, little by little, until what is
+ * within a part finds no room for good) */
+enum { PART_OF_LITTLE = 2 };
+
 static struct {
     uint32_t kilobits;
     line_meter used;
     line_meter to_strangers;    /* of their part */
     size_t addresses;           /* that have clients there */
     size_t speakers;            /* addresses that spoke to these lately, with clients there or elsewhere, */
-    numbers numbers;            /* and their numbers */
+    ipxr_queues numbers;        /* and their numbers */
     size_t number;              /* of who says the packet whose copies are sent, */
     line_meter *said;           /* and what he uses of his part, or NULL; */
     uint64_t most_said;         /* of it at once; */
     uint64_t cost;              /* nanoseconds that the line takes for a copy, */
     uint64_t cost_of_short;     /* for one of a short packet, */
     uint64_t longest;           /* and for one of the longest */
-} the = {.numbers = {.count = MOST_APART, .first = 1}};
+} the;
 
 static uint64_t cost_of(size_t bytes)
 {
@@ -86,7 +90,7 @@ static void hold(line_meter *used, uint64_t most)
 /* One more address speaks, or one fewer. */
 static void begin_to_speak(line_use *it)
 {
-    it->number = numbers_take(&the.numbers);
+    it->number = ipxr_queues_take(&the.numbers, 1, MOST_APART - 1);
     the.speakers++;
 }
 
@@ -94,7 +98,7 @@ void line_end(line_use *it)
 {
     if (it->number == 0)
         return;
-    numbers_give_back(&the.numbers, it->number);
+    ipxr_queues_give_back(&the.numbers, it->number);
     the.speakers--;
     it->number = 0;
 }
@@ -163,7 +167,7 @@ static uint64_t larger(uint64_t a, uint64_t b)
 static uint64_t most_said(void)
 {
     uint64_t to_each = receivers() * the.cost_of_short;
-    return larger(MOST_SAID, speakers() * (to_each < MOST_SAID ? to_each : MOST_SAID));
+    return PART_OF_LITTLE * larger(MOST_SAID, speakers() * (to_each < MOST_SAID ? to_each : MOST_SAID));
 }
 
 /* And to an address: as much as a second's, or a short packet where that is more. */
@@ -199,7 +203,7 @@ void line_begin(line_use *from, size_t length)
     the.most_said = most_said();
     if (is_address) {
         from->quiet = 0;
-        hold(the.said, the.most_said + speakers() * the.longest);
+        hold(the.said, the.most_said + speakers() * PART_OF_LITTLE * the.longest);
     }
     the.cost = cost_of(length + HEADERS);
 }
@@ -225,7 +229,7 @@ void line_send(line_use *to)
     bool is_his = has_his_part(to), is_received = has_part(to) || is_his;
     use(the.cost);
     if (is_his && says_little(the.most_said))
-        move(the.said, the.cost * speakers());
+        move(the.said, the.cost * speakers() * PART_OF_LITTLE);
     if (is_his)
         move(&to->of[the.number], the.cost * pairs(to));
     if (is_received)

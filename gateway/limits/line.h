@@ -24,7 +24,7 @@ typedef uint64_t line_meter;
 typedef struct line_use {
     bool is_address;       /* it is none of a network of another kind */
     size_t clients;        /* that it has there */
-    size_t number;         /* by which it is known while it speaks, or 0; */
+    uint8_t number;        /* by which it is known while it speaks, or 0; */
     unsigned quiet;        /* and seconds since it did */
     line_meter said;       /* of its part, by what it says to all together */
     line_meter received;   /* of its part, by what it gets */

@@ -3,12 +3,10 @@
 #include <stdlib.h>
 #include <string.h>
 
-#include "limits/numbers.h"
-
 /* Seconds for which whoever spoke has a queue. */
 enum { QUIET = 10 };
 
-static numbers queues = {.count = MOST_NUMBERS, .first = OF_ADDRESSES};
+static ipxr_queues queues;
 
 /* All that are known; and the one that those share for whom there was no memory. */
 static speaker *speakers, spare;
@@ -45,21 +43,21 @@ speaker *speaker_join(const uint8_t host[4])
 
 void speaker_be_network(speaker *it, size_t number)
 {
-    it->queue = OF_NETWORKS + number % (OF_ADDRESSES - OF_NETWORKS);
+    it->queue = (uint8_t)(OF_NETWORKS + number % (OF_ADDRESSES - OF_NETWORKS));
 }
 
-size_t speaker_speaks(speaker *it)
+uint8_t speaker_speaks(speaker *it)
 {
     it->quiet = 0;
     if (it->queue == 0)
-        it->queue = numbers_take(&queues);
+        it->queue = ipxr_queues_take(&queues, OF_ADDRESSES, IPXR_SPEAKERS - 1);
     return it->queue;
 }
 
 static void be_quiet(speaker *it)
 {
     if (it->queue != 0)
-        numbers_give_back(&queues, it->queue);
+        ipxr_queues_give_back(&queues, it->queue);
     it->queue = 0;
 }
 
@@ -102,7 +100,7 @@ static void forget(speaker *it)
     forget_household(&it->first);
     account_forget(&it->handed);
     account_forget(&it->advertised);
-    it->asked = it->answered = (meter){.clock = 0};
+    memset(&it->used, 0, sizeof it->used);
 }
 
 void speaker_leave(speaker *it)

@@ -9,17 +9,17 @@
 #include "limits/account.h"
 #include "limits/line.h"
 #include "limits/meter.h"
+#include "limits/receiver.h"
 
 /* The numbers of the queues by which clients receive: what the router says itself, answers to pings, and what comes from networks of
- * another kind; all behind these are of addresses that speak. Where more speak than there are numbers, some have the same one. */
+ * another kind; all behind these are of addresses that speak. Where more speak than there are numbers, the library has some share one. */
 enum { OF_ROUTER, OF_PINGS, OF_NETWORKS, OF_ADDRESSES = 16 };
 
 /* What all clients of an address receive on networks with one limit for that. */
 typedef struct household {
     uint64_t between; /* nanoseconds that a packet takes there; 0 where nobody has received any */
-    ipxr_fair received; /* of each other who speaks to them, */
-    uint64_t clock;     /* when that was looked at last; */
-    meter among;      /* and of each other */
+    fair received; /* of each other who speaks to them, */
+    meter among;   /* and of each other */
     struct household *next;
 } household;
 
@@ -27,11 +27,11 @@ typedef struct household {
 typedef struct speaker {
     uint8_t host[4];
     size_t clients;
-    size_t queue;     /* the number of its queue, or 0 where an address doesn't speak; */
+    uint8_t queue;    /* the number of its queue, or 0 where an address doesn't speak; */
     unsigned quiet;   /* and seconds since it did */
     household first;  /* what all its clients receive; of other limits in a list behind it */
-    meter asked;      /* of the router */
-    meter answered;   /* by the gateway */
+    ipxr_address_use used; /* of the limits that are the same on all networks, */
+    uint64_t used_clock;   /* when that was looked at last */
     account handed;     /* to the router */
     account advertised; /* of these, what routers tell */
     line_use line;    /* what it uses of a line that is narrow */
@@ -45,7 +45,7 @@ speaker *speaker_join(const uint8_t host[4]);
 void speaker_leave(speaker *it);
 
 /* An address speaks, or a network of another kind with a number. Returns the number of its queue. */
-size_t speaker_speaks(speaker *it);
+uint8_t speaker_speaks(speaker *it);
 void speaker_be_network(speaker *it, size_t number);
 
 /* What an address receives on networks where a packet takes so many nanoseconds of that. */

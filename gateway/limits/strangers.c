@@ -5,14 +5,8 @@
 
 #include "ipx.h"
 
-/* One address gets one part in so many of what goes to all; at once half of what all get. */
-enum { PART_OF_ONE = 8, PART_AT_ONCE = 2 };
-
 /* Bytes of a place that are its address. */
 enum { HOST = 4 };
-
-/* How many at once, in seconds of what goes to all; and to one address at least as many as a registration takes, its answer and a ping. */
-enum { BURST = 2, LEAST_OF_ONE = 2 };
 
 /* The turns of a second, from a registration on, in which one is pinged again, and once more, so that more than one second and three have
  * passed; and places of the list for one address. */
@@ -26,12 +20,7 @@ bool strangers_make(strangers *it, uint32_t rate, const uint8_t key[SIPHASH_KEY]
     if (it->hosts == NULL)
         return false;
     memset(it->hosts, 0, MOST_HOSTS * sizeof *it->hosts);
-    it->has_no_limit = rate == 0;
-    if (it->has_no_limit)
-        return true;
-    it->all = limit_of(rate, 1, BURST * rate);
-    uint32_t of_one = BURST * rate / PART_AT_ONCE;
-    it->one = limit_of(rate, PART_OF_ONE, of_one > LEAST_OF_ONE ? of_one : LEAST_OF_ONE);
+    it->has_no_limit = !ipxr_strangers_make(&it->limits, rate);
     return true;
 }
 
@@ -42,16 +31,14 @@ void strangers_free(strangers *it)
 }
 
 /* What an address has been sent. (with a hash that can be told beforehand somebody would choose an address that has a newcomer's) */
-static meter *of_host(strangers *it, const uint8_t place[6])
+static ipxr_meter *of_host(strangers *it, const uint8_t place[6])
 {
-    return &it->hosts[siphash(it->key, place, HOST) % MOST_HOSTS];
+    return meter_now(&it->hosts[siphash(it->key, place, HOST) % MOST_HOSTS]);
 }
 
 bool strangers_let(strangers *it, const uint8_t place[6], uint32_t count)
 {
-    if (it->has_no_limit)
-        return true;
-    return limits_let(&it->one, of_host(it, place), &it->all, &it->sent, count);
+    return it->has_no_limit || ipxr_strangers_send(&it->limits, count, of_host(it, place), meter_now(&it->sent)) == IPXR_PASSES;
 }
 
 /* Whether the place of a ping waits already, or as many of its address do as may. */

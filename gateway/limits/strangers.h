@@ -3,6 +3,7 @@
 #ifndef STRANGERS_H
 #define STRANGERS_H
 
+#include "ipxr_limits.h"
 #include "ipxr_tunnel.h"
 #include "limits/meter.h"
 #include "siphash.h"
@@ -22,7 +23,7 @@ typedef struct newcomer {
 
 typedef struct strangers {
     bool has_no_limit;
-    limit all, one;
+    ipxr_strangers_limits limits;
     meter sent;              /* to all */
     uint8_t key[SIPHASH_KEY]; /* of that hash */
     meter *hosts;            /* to the addresses */

@@ -68,7 +68,7 @@ bool ether_put(network *on, const uint8_t *from, const uint8_t *node, const uint
 void ether_send(network *on, const origin *by, const uint8_t *from, const uint8_t *node, const uint8_t *packet, size_t length)
 {
     unsigned kinds = kinds_to(on, node);
-    reason why = throttle_carries(&on->throttle, on->of_link, by, packet, length, count_of(kinds));
+    reason why = throttle_carries(&on->throttle, on->of_link, by, length, count_of(kinds));
     if (why != REASONS) {
         gateway_lose(on, why);
         return;
@@ -102,28 +102,21 @@ static bool is_heard_beside(const gateway *it, const cable *carrier, uint8_t kin
     return false;
 }
 
-/* Who said what came on a network: the network itself, whoever is there. */
-static origin spoken_on(network *on)
-{
-    return (origin){.speaks = &on->speaks};
-}
-
 /* A packet came for the gateway or for all. (clients of DOSBox' receive of all who are there as much as of one address) */
-static void hear_packet(gateway *it, network *on, const uint8_t *packet, size_t length)
+static void hear_packet(gateway *it, network *on, const origin *by, const uint8_t *packet, size_t length)
 {
-    origin by = spoken_on(on);
     bool is_whole = has_length(packet, length);
     if (is_whole) {
-        reason why = throttle_hears(&on->throttle, &on->speaks, packet, length);
+        reason why = throttle_hears(&on->throttle, by);
         if (why != REASONS) {
             gateway_lose(on, why);
             return;
         }
         length = get16(packet + AT_LENGTH);
         if (is_broadcast(packet + AT_TO_NODE) && is_for_here(on, packet) && length <= LONGEST)
-            extend(it, on, &by, packet, length);
+            extend(it, on, by, packet, length);
     }
-    gateway_hear(it, on, is_whole ? &by : NULL, packet, length);
+    gateway_hear(it, on, is_whole ? by : NULL, packet, length);
 }
 
 /* Whether another link of the network has proved that a node is there: it is a client of a tunnel. */
@@ -158,7 +151,7 @@ static void look_for_twins(gateway *it, network *on, const uint8_t *node)
 }
 
 /* A packet came on one of several links, from a node for a node or for all. */
-static void hear_at_link(gateway *it, network *on, const uint8_t *frame, const uint8_t *packet, size_t length)
+static void hear_at_link(gateway *it, network *on, const origin *by, const uint8_t *frame, const uint8_t *packet, size_t length)
 {
     const uint8_t *to = frame, *from = frame + NODE;
     bool is_whole = has_length(packet, length);
@@ -171,12 +164,11 @@ static void hear_at_link(gateway *it, network *on, const uint8_t *frame, const u
         gateway_lose(on, FALSE_SOURCE);
         return;
     }
-    origin by = spoken_on(on);
-    heard what = segment_hear(it, on, &by, from, to, packet, carried);
+    heard what = segment_hear(it, on, by, from, to, packet, carried);
     if (what.by_router || what.links > 0)
         look_for_twins(it, on, from);
     if (what.by_router)
-        hear_packet(it, on, packet, length);
+        hear_packet(it, on, by, packet, length);
     else if (what.links > 0)
         gateway_note(on, packet, carried, "handed on");
     else
@@ -230,24 +222,17 @@ static void lose_other_kind(gateway *it, network *on, uint8_t kind, const uint8_
           is_shared(it, on) ? " for one more network" : ", or auto");
 }
 
-/* Whether a packet that came in a frame goes anywhere. */
-static bool is_let_in(network *on, const uint8_t *packet, size_t length)
-{
-    reason why = has_length(packet, length) ? throttle_lets_in(&on->throttle, packet) : REASONS;
-    if (why != REASONS)
-        gateway_lose(on, why);
-    return why == REASONS;
-}
-
-/* A packet came, and the frame may be heard. */
+/* A packet came, and the frame may be heard. (the network itself says it, whoever is there) */
 static void hear(gateway *it, network *on, const uint8_t *frame, const uint8_t *packet, size_t length)
 {
-    if (!is_let_in(on, packet, length))
-        return;
-    if (on->segment != NULL)
-        hear_at_link(it, on, frame, packet, length);
+    origin by = {.speaks = &on->speaks, .kind = ipxr_kind_of(packet, length)};
+    reason why = throttle_lets_in(&on->throttle, by.kind);
+    if (why != REASONS)
+        gateway_lose(on, why);
+    else if (on->segment != NULL)
+        hear_at_link(it, on, &by, frame, packet, length);
     else
-        hear_packet(it, on, packet, length);
+        hear_packet(it, on, &by, packet, length);
 }
 
 void ether_hear(gateway *it, cable *carrier, const uint8_t *frame, size_t length)

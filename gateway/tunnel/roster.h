@@ -6,7 +6,7 @@
 #include <stddef.h>
 #include <stdint.h>
 
-#include "limits/meter.h"
+#include "ipxr_limits.h"
 #include "limits/receiver.h"
 #include "limits/speaker.h"
 #include "tunnel/asked.h"
@@ -32,7 +32,8 @@ typedef struct member {
     bool is_by_line;  /* whether it is reached by the narrow line */
     receiver *queues; /* what it receives of each who speaks to it */
     asked ping;       /* the last that it was sent */
-    meter pinged, asked, answered;
+    ipxr_client_use used; /* of its limits, */
+    uint64_t used_clock;  /* when that was looked at last */
 } member;
 
 typedef struct roster {

@@ -78,7 +78,7 @@ static void send_own(network *on, bool are_clients)
 }
 
 /* Why a client doesn't get the copy of a packet; REASONS where it does. What it doesn't get is counted. */
-static reason why_not(network *on, const uint8_t place[NODE], size_t queue, size_t length)
+static reason why_not(network *on, const uint8_t place[NODE], uint8_t queue, size_t length)
 {
     member *to = roster_find(&on->roster, place);
     if (to == NULL)
@@ -96,15 +96,15 @@ static reason why_not(network *on, const uint8_t place[NODE], size_t queue, size
 
 /* Sends what somebody says, or the router itself where that is NULL, to the clients that get it, as the tunnel said, and as far as each
  * receives it. Returns to how many it doesn't go since they received too much. */
-static size_t send_carried(network *on, speaker *from, const uint8_t *packet, size_t length)
+static size_t send_carried(network *on, const origin *by, const uint8_t *packet, size_t length)
 {
     uint8_t place[NODE];
     size_t dropped = 0;
     if (ipxr_tunnel_receivers(&on->tunnel) == 0)
         return 0;
-    size_t queue = throttle_queue(from, packet);
+    uint8_t queue = throttle_queue(by);
     if (on->set->kilobits > 0)
-        line_begin(from != NULL ? &from->line : NULL, length);
+        line_begin(by != NULL ? &by->speaks->line : NULL, length);
     outgoing_begin(on, packet, length);
     for (size_t k = 0; ipxr_tunnel_receiver(&on->tunnel, k, place) == 0; k++) {
         if (why_not(on, place, queue, length) == REASONS)
@@ -115,12 +115,23 @@ static size_t send_carried(network *on, speaker *from, const uint8_t *packet, si
     return dropped;
 }
 
+/* Whether a client gets what the router itself says to it alone: an answer. (somebody may ask in its name) */
+static bool lets_router_answer(network *on, const origin *by, const uint8_t *node)
+{
+    member *to = by == NULL && !is_broadcast(node) ? roster_find(&on->roster, node) : NULL;
+    return to == NULL || throttle_lets_router_answer(&on->throttle, to);
+}
+
 void tunnel_send(network *on, const origin *by, const uint8_t *node, const uint8_t *packet, size_t length)
 {
+    if (!lets_router_answer(on, by, node)) {
+        gateway_lose(on, TOO_MANY_ANSWERS);
+        return;
+    }
     ipxr_tunnel_send(&on->tunnel, node);
     if (ipxr_tunnel_receivers(&on->tunnel) == 0 && !is_broadcast(node) && on->segment == NULL)
         gateway_lose(on, NO_CLIENT); /* (else it may be a station of another link) */
-    (void)send_carried(on, by != NULL ? by->speaks : NULL, packet, length);
+    (void)send_carried(on, by, packet, length);
 }
 
 /* ---- Who comes and who leaves ---- */
@@ -282,34 +293,32 @@ static bool answer_stranger(network *on, const uint8_t place[NODE], bool registe
 }
 
 /* A client as the one who said a packet. */
-static origin origin_of(member *from)
+static origin origin_of(member *from, const uint8_t *packet, size_t length)
 {
-    return (origin){.speaks = from->speaks, .copies = &from->dropped[DROPPED_OF_IT]};
+    return (origin){.speaks = from->speaks, .client = from, .kind = ipxr_kind_of(packet, length)};
 }
 
 /* What a client said goes to the router, and to other networks where it is extended. */
-static void pass_on(gateway *it, network *on, member *from, const uint8_t *packet, size_t length)
+static void pass_on(gateway *it, network *on, const origin *by, const uint8_t *packet, size_t length)
 {
-    origin by = origin_of(from);
-    reason why = throttle_hands(&on->throttle, from, packet, length);
+    reason why = throttle_hands(&on->throttle, by);
     if (why != REASONS) {
         gateway_lose(on, why);
         return;
     }
     if (is_broadcast(packet + AT_TO_NODE) && is_for_here(on, packet))
-        extend(it, on, &by, packet, length);
-    gateway_hear(it, on, &by, packet, length);
+        extend(it, on, by, packet, length);
+    gateway_hear(it, on, by, packet, length);
 }
 
 /* What a client said goes to the other links of its network. Returns whether any of them gets it. */
-static bool carry_over(gateway *it, network *on, member *from, const uint8_t *packet, size_t length)
+static bool carry_over(gateway *it, network *on, const origin *by, const uint8_t *packet, size_t length)
 {
     uint8_t to[NODE];
-    origin by = origin_of(from);
     if (on->segment == NULL)
         return false;
     segment_next(on, packet, to);
-    return segment_hear(it, on, &by, from->place, to, packet, length).links > 0;
+    return segment_hear(it, on, by, by->client->place, to, packet, length).links > 0;
 }
 
 /* Whether it is for routers of another network. Where it names no network as its source, they would take it for a neighbour's, and learn
@@ -321,11 +330,11 @@ static bool is_for_far_routers(const network *on, const uint8_t *packet)
 }
 
 /* Why what a client said is dropped before anybody gets it; REASONS where it isn't. */
-static reason why_not_said(network *on, member *from, const uint8_t *packet)
+static reason why_not_said(network *on, const origin *by, const uint8_t *packet)
 {
     if (!is_for_far_routers(on, packet))
-        return throttle_lets_say(&on->throttle, from, packet);
-    from->dropped[DROPPED_FOR_ROUTER]++;
+        return throttle_lets_say(&on->throttle, by);
+    by->client->dropped[DROPPED_FOR_ROUTER]++;
     return FOR_FAR_ROUTERS;
 }
 
@@ -333,16 +342,17 @@ static reason why_not_said(network *on, member *from, const uint8_t *packet)
 static void carry(gateway *it, network *on, member *from, const uint8_t *packet, size_t length)
 {
     bool is_heard = ipxr_tunnel_is_heard(&on->tunnel) == 1;
-    reason why = why_not_said(on, from, packet);
+    origin by = origin_of(from, packet, length);
+    reason why = why_not_said(on, &by, packet);
     if (why != REASONS) {
         gateway_lose(on, why);
         return;
     }
     bool is_received = ipxr_tunnel_receivers(&on->tunnel) > 0;
-    from->dropped[DROPPED_OF_IT] += send_carried(on, from->speaks, packet, length);
-    is_received = carry_over(it, on, from, packet, length) || is_received;
+    from->dropped[DROPPED_OF_IT] += send_carried(on, &by, packet, length);
+    is_received = carry_over(it, on, &by, packet, length) || is_received;
     if (is_heard)
-        pass_on(it, on, from, packet, length);
+        pass_on(it, on, &by, packet, length);
     else if (is_received || on->segment == NULL)
         gateway_note(on, packet, length, "handed on");
     else

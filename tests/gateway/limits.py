@@ -35,6 +35,7 @@ STEADY = 560  # packets a second that fill no client's queue
 CROWD, FIRST = 200, 20000  # clients of one host, and the first of their ports
 LISTENING, HOUSEHOLD_RATE = 800, 16  # clients of one host that only listen, and as much as how many they receive
 FILLS_TABLES = 147  # packets that answer a question, where the tables are full
+PAGES, PAGES_AT_ONCE = 20, 188  # packets by which the router answers a client, a second and at once
 STRANGERS_A_SECOND = 100
 ALIKE = ("10.79.0.5", "10.79.16.5")  # two addresses with the same last twelve bits
 PORTS_THAT_REGISTER = 64  # more than are answered at once at one address
@@ -256,7 +257,8 @@ def questions_in_its_name(kind):
         far.play(lambda: it.party.hear() or sent.lasts())
         came, seconds = far.settle(), time.monotonic() - began
         figures(f"{sent.end()}; lost: {far.figures()}; the one in whose name it was asked got {victim.beside - before} packets")
-        most = (seconds + 4) * FILLS_TABLES + len(far.all) * 50 * SECONDS
+        # (and once a minute it broadcasts all that it has)
+        most = 2 * PAGES_AT_ONCE + (seconds + 1) * PAGES + len(far.all) * 50 * SECONDS
         none(far.fault(came), are_answering(it, far.all), "" if victim.beside - before <= most else "too many answers")
         assert it.gate.counted(0x20, "too many questions") >= 50 * SECONDS - (seconds + 4) - PINGS_LOST
         far.close()
@@ -388,8 +390,8 @@ def asks_for_all(player):
 
 
 def questions_of_an_address():
-    """With full tables 300 clients of an address ask the router for all services: it answers 16 at once, and four a second later. They register
-    again: the gateway answers twice as often."""
+    """With full tables 300 clients of an address ask the router for all services: it hears 16 at once, and four a second later, and they get
+    as many packets of its answers as four clients may. They register again: the gateway answers twice as often."""
     text = f"{FULL}network 20 1 1424 dosbox 0.0.0.0:{OTHER_PORT}\nstrangers none\nclients {ASKING}\n"
     with Playground(text, numbers=(1, 0, 1), more=1, clock=Clock()) as it:
         fill(it)
@@ -399,7 +401,7 @@ def questions_of_an_address():
             player.register()
         until(lambda: it.party.hear() or it.gate.counted(0x20, "clients") == ASKING, "all clients")
         unanswered = 0
-        for passed, answered in (0, QUESTIONS_AT_ONCE * HOUSEHOLD), (1, HOUSEHOLD):
+        for passed, answered, pages in (0, QUESTIONS_AT_ONCE * HOUSEHOLD, PAGES_AT_ONCE * HOUSEHOLD), (1, HOUSEHOLD, PAGES * HOUSEHOLD):
             it.let_pass(passed)
             before, sent = it.gate.counted(0x20, "too many questions"), it.gate.counted(0x20, "out")
             for player in asking:
@@ -410,14 +412,34 @@ def questions_of_an_address():
             lost = it.gate.counted(0x20, "too many questions") - before
             assert lost == ASKING - answered, f"{ASKING - lost} are answered, not {answered}"
             sent = it.gate.counted(0x20, "out") - sent
-            assert sent <= ASKING + answered * FILLS_TABLES, f"{sent} packets"
-            unanswered += ASKING - 2 * answered
+            assert pages <= sent <= ASKING + pages, f"{sent} packets"
+            unanswered += answered * FILLS_TABLES - pages + ASKING - 2 * answered
             for player in asking:
                 player.register()
                 it.party.hear()
             until(lambda: it.party.hear() or it.gate.counted(0x20, "too many answers") >= unanswered, "all register")
             it.party.until(lambda: False, QUIET)
             assert it.gate.counted(0x20, "too many answers") == unanswered, it.gate.report()
+
+
+def answers_of_the_router():
+    """With full tables a client asks the router for all services once a second: it gets all of them once, and then so many packets a second."""
+    text = f"{FULL}network 20 1 1424 dosbox 0.0.0.0:{OTHER_PORT}\n"
+    with Playground(text, numbers=(1, 0, 1), more=1, clock=Clock()) as it:
+        fill(it)
+        player = Player(it.free[0], (GATEWAY[0], OTHER_PORT))
+        it.party.put_in("asks", player)
+        player.register()
+        until(lambda: it.party.hear() or it.gate.counted(0x20, "clients") == 1, "a client")
+        sent, most = it.gate.counted(0x20, "out"), PAGES_AT_ONCE
+        for _ in range(SECONDS):
+            it.let_pass(1)
+            most += PAGES
+            asks_for_all(player)
+            it.party.until(lambda: False, QUIET)
+            assert it.gate.counted(0x20, "too many questions") == 0, it.gate.report()
+        count = it.gate.counted(0x20, "out") - sent
+        assert most - PAGES <= count <= most + 2 * SECONDS, f"{count} packets, not {most}"
 
 
 def questions_of_a_client(to, data):
@@ -483,6 +505,7 @@ TESTS = [
     what_an_address_receives,
     answers_to_pings_come_last,
     questions_of_an_address,
+    answers_of_the_router,
     named("a client asks the router 20 times by RIP's requests", questions_of_a_client, RIP, struct.pack(">HIHH", 1, 0xFFFFFFFF, 16, 1)),
     named("the same by SAP's queries", questions_of_a_client, SAP, struct.pack(">HH", 1, 4)),
     named("the same by SAP's queries for the nearest", questions_of_a_client, SAP, struct.pack(">HH", 3, 4)),

@@ -5,7 +5,7 @@
  *     minutes parts COUNT        so many addresses say 1,000 packets a second to one client, and one more says nine tenths of its part
  *     minutes once               what a client receives at once, of one address and of many
  *     minutes two                an address has clients on two networks, and somebody floods those of the slower one
- *     minutes address            a client's address has no room for what the client has room for
+ *     minutes address            a client has no room for what its address has room for, and the other way round
  *     minutes line KILOBITS      four play by a line of so many kilobits, beside one who says 1,000 of the longest packets a second: for
  *                                ten minutes all five, and for one more the four
  *     minutes narrow             one says the longest packets by a line of 8 kbit/s: in ten minutes no more than nine tenths of it are used
@@ -13,6 +13,7 @@
  *     minutes links              eleven links tell the router as much as each may, for a minute: it hears no more than of one, and a twelfth
  *                                whole that tells its tables twice, at once
  *     minutes accounts           an address says more than the router hears by a network's limits: by another's it is heard
+ *     minutes none               what one limit refuses isn't counted by the others that it would have to pass
  *     minutes gateway            the same of what the gateway answers to clients and strangers, and of pings for all
  *
  * It prints what it saw, and ends with 1 where that isn't what is due. */
@@ -28,6 +29,9 @@ enum { RATE = 800, SHARE = 50, RECEIVED = RATE + 2 * SHARE, USUAL = 16 * RATE };
 /* ---- Those who speak ---- */
 
 enum { MOST_SPEAKERS = 250, PLAYERS = 5, SHORT = 100 };
+
+/* Sockets. */
+enum { RIP = 0x453, SAP = 0x452, PING = 2, GAMES = 0x4003 };
 
 static speaker *speakers[MOST_SPEAKERS];
 
@@ -49,14 +53,22 @@ static member client_at(uint8_t last)
     return (member){.speaks = speaker_join((uint8_t[4]){10, 1, 0, last}), .queues = calloc(1, sizeof(receiver))};
 }
 
-/* A packet for all, from a socket of a game. */
-static const uint8_t *packet(void)
+/* What a packet from a socket to another one is, for all or for a node, with a word behind the header. */
+static uint8_t kind_of(uint16_t to, uint16_t from, bool is_for_all, uint16_t word)
 {
-    static uint8_t it[HEADER];
-    memset(it + AT_TO_NODE, 0xFF, NODE);
-    put16(it + AT_TO_SOCKET, 0x4003);
-    put16(it + AT_FROM_SOCKET, 0x4003);
-    return it;
+    uint8_t bytes[HEADER + 4] = {0};
+    put16(bytes + AT_LENGTH, sizeof bytes);
+    memset(bytes + AT_TO_NODE, is_for_all ? 0xFF : 0, NODE);
+    put16(bytes + AT_TO_SOCKET, to);
+    put16(bytes + AT_FROM_SOCKET, from);
+    put16(bytes + HEADER, word);
+    return ipxr_kind_of(bytes, sizeof bytes);
+}
+
+/* Somebody who says a packet of a game to all. */
+static origin game_of(speaker *from)
+{
+    return (origin){.speaks = from, .kind = kind_of(GAMES, GAMES, true, 0)};
 }
 
 /* How many packets one has said who says so many a second, so many milliseconds after he began. */
@@ -83,9 +95,9 @@ typedef struct wire {
 
 static void say_up_to(wire *it, size_t who, uint64_t count)
 {
-    origin by = {.speaks = speakers[who]};
+    origin by = game_of(speakers[who]);
     for (; it->said[who] < count; it->said[who]++)
-        it->heard[who] += throttle_carries(&it->limits, it->queues, &by, packet(), SHORT, it->frames) == REASONS;
+        it->heard[who] += throttle_carries(&it->limits, it->queues, &by, SHORT, it->frames) == REASONS;
 }
 
 /* For some milliseconds the players say 35 packets a second each, a little late, and a sixth as many as are named. Each player is heard
@@ -126,9 +138,15 @@ static void link_with(uint32_t frames, uint64_t rate)
 
 /* ---- A client ---- */
 
+static reason why_not(const throttle *it, member *to, speaker *from, size_t length)
+{
+    origin by = game_of(from);
+    return throttle_receives(it, to, throttle_queue(&by), length);
+}
+
 static bool receives(const throttle *it, member *to, speaker *from, size_t length)
 {
-    return throttle_receives(it, to, throttle_queue(from, packet()), length) == REASONS;
+    return why_not(it, to, from, length) == REASONS;
 }
 
 static void parts(size_t count)
@@ -217,6 +235,20 @@ static uint64_t behind_the_router(void)
     return heard;
 }
 
+/* By which queue what somebody says is received: his own, or that of pings; whoever asks a router, or tells it, from whatever socket. */
+static void by_queues(void)
+{
+    origin game = game_of(speakers[0]), ping = game, answer = game, question = game, tells = game;
+    ping.kind = kind_of(PING, GAMES, true, 0);
+    answer.kind = kind_of(GAMES, PING, false, 0);
+    question.kind = kind_of(RIP, PING, true, 1);
+    tells.kind = kind_of(SAP, PING, true, 2);
+    uint8_t own = throttle_queue(&game);
+    expect(throttle_queue(NULL) == OF_ROUTER && own >= OF_ADDRESSES, "who speaks has a queue of its own");
+    expect(throttle_queue(&ping) == OF_PINGS && throttle_queue(&answer) == OF_PINGS, "pings and their answers have another");
+    expect(throttle_queue(&question) == own && throttle_queue(&tells) == own, "what is for routers is said, whatever its source");
+}
+
 /* What a link with frames carries of another such link, and of the router itself: all. */
 static void from_other_links(void)
 {
@@ -228,9 +260,9 @@ static void from_other_links(void)
     uint64_t carried = 0;
     throttle_set(&limits, &set);
     speaker_be_network(&network, NUMBER);
-    origin by = {.speaks = &network};
+    origin by = game_of(&network);
     for (size_t k = 0; k < SAY; k++)
-        carried += throttle_carries(&limits, &queues, k % 2 == 0 ? &by : NULL, packet(), SHORT, 1) == REASONS;
+        carried += throttle_carries(&limits, &queues, k % 2 == 0 ? &by : NULL, SHORT, 1) == REASONS;
     expect(carried == SAY, "what other links and the router say has no limit on a link");
 }
 
@@ -241,6 +273,7 @@ static void once(void)
     pass(MILLISECOND);
     expect(at_once(1, 100, SHARE, false) == 100 && at_once(1, 1424, SHARE, false) == 32, "what one has who speaks alone");
     from_other_links();
+    by_queues();
     expect(behind_the_router() < 100, "the router's packets count towards what a client receives");
     for (size_t k = 0; k < sizeof SHARES / sizeof *SHARES; k++) {
         at_once_of(SHARES[k], 100, 22);
@@ -365,7 +398,7 @@ static void narrow(void)
 
 /* ---- What the router hears ---- */
 
-enum { RIP = 0x453, SAP = 0x452, PING = 2, GAMES = 0x4003, MOST_CLIENTS = 5 };
+enum { MOST_CLIENTS = 5 };
 
 /* What somebody says to the router, from a socket to a socket, with a word behind the header; and how often he is heard at once, and a
  * second: one client of an address, one of several there, or a link. */
@@ -397,14 +430,13 @@ typedef struct teller {
 /* Says it so many times, by one client after the other. Returns how often it was heard. */
 static uint64_t say_to_router(teller *it, const words *what, uint64_t count)
 {
-    uint8_t bytes[HEADER + 4] = {0};
+    origin by = {.kind = kind_of(what->to, what->from, false, what->word)};
     uint64_t heard = 0;
-    put16(bytes + AT_TO_SOCKET, what->to);
-    put16(bytes + AT_FROM_SOCKET, what->from);
-    put16(bytes + HEADER, what->word);
-    for (uint64_t k = 0; k < count; k++)
-        heard += (it->count > 0 ? throttle_hands(&it->limits, &it->clients[k % it->count], bytes, sizeof bytes)
-                                : throttle_hears(&it->limits, it->speaks, bytes, sizeof bytes)) == REASONS;
+    for (uint64_t k = 0; k < count; k++) {
+        by.client = it->count > 0 ? &it->clients[k % it->count] : NULL;
+        by.speaks = it->count > 0 ? by.client->speaks : it->speaks;
+        heard += (it->count > 0 ? throttle_hands(&it->limits, &by) : throttle_hears(&it->limits, &by)) == REASONS;
+    }
     return heard;
 }
 
@@ -544,17 +576,42 @@ static void accounts(void)
     printf("%d advertisements heard on one network, then %d on another\n", LARGE, AT_ONCE);
 }
 
+/* An address says as much to the router as it hears of it at once. What it asks and tells then is refused, and counts for no limit: some
+ * milliseconds later, in which hardly any limit but the router's has room again, it asks and tells as much as it may at once. */
+static void none(void)
+{
+    enum { REQUEST = 0, RESPONSE = 3, GAME = 6, LATER = 100 };
+    const words *request = &WORDS_TO_ROUTER[REQUEST], *response = &WORDS_TO_ROUTER[RESPONSE], *game = &WORDS_TO_ROUTER[GAME];
+    network_setting set = usual(LINK_DOSBOX);
+    teller it = {.count = 1};
+    throttle_set(&it.limits, &set);
+    it.clients[0] = client_at(8);
+    pass(MINUTE * MILLISECOND);
+    expect(say_to_router(&it, game, SECOND) == game->at_once[0], "the router hears so much at once");
+    expect(say_to_router(&it, request, SECOND) + say_to_router(&it, response, SECOND) == 0, "it hears no question then");
+    expect(it.clients[0].dropped[DROPPED_FOR_ROUTER] == 3 * SECOND - game->at_once[0], "since the address said too much");
+    pass(LATER * MILLISECOND);
+    uint64_t asked = say_to_router(&it, request, SECOND), told = say_to_router(&it, response, SECOND);
+    expect(asked == request->at_once[0] && told == response->at_once[0], "what was refused counted for no other limit");
+    expect(it.clients[0].dropped[DROPPED_QUESTIONS] == SECOND - asked, "the rest are too many questions");
+    expect(it.clients[0].dropped[DROPPED_ADVERTISEMENTS] == SECOND - told, "and too many advertisements");
+    uint64_t left = game->a_second[0] * LATER / SECOND - asked - told;
+    expect(say_to_router(&it, game, SECOND) == left, "what those limits refused counted for no other, either");
+    printf("%" PRIu64 " questions and %" PRIu64 " advertisements heard after as much as is refused\n", asked, told);
+    free(it.clients[0].queues);
+}
+
 /* ---- What the gateway answers, and carries to all ---- */
 
 static uint64_t pings(void *of, uint64_t count)
 {
-    uint8_t ping[HEADER] = {0};
+    origin by = {.kind = kind_of(PING, PING, true, 0)};
     uint64_t passed = 0;
     teller *it = of;
-    memset(ping + AT_TO_NODE, 0xFF, NODE);
-    put16(ping + AT_TO_SOCKET, PING);
-    for (uint64_t k = 0; k < count; k++)
-        passed += throttle_lets_say(&it->limits, &it->clients[k % it->count], ping) == REASONS;
+    for (uint64_t k = 0; k < count; k++) {
+        by.client = &it->clients[k % it->count];
+        passed += throttle_lets_say(&it->limits, &by) == REASONS;
+    }
     return passed;
 }
 
@@ -564,6 +621,15 @@ static uint64_t answers(void *of, uint64_t count)
     teller *it = of;
     for (uint64_t k = 0; k < count; k++)
         passed += throttle_lets_answer(&it->limits, &it->clients[k % it->count]);
+    return passed;
+}
+
+static uint64_t router_answers(void *of, uint64_t count)
+{
+    uint64_t passed = 0;
+    teller *it = of;
+    for (uint64_t k = 0; k < count; k++)
+        passed += throttle_lets_router_answer(&it->limits, &it->clients[k % it->count]);
     return passed;
 }
 
@@ -601,6 +667,8 @@ static void gateway(void)
     drive("pings of all clients", pings, &all, 8, 40);
     drive("answers to a client", answers, &one, 8, 20);
     drive("answers to an address", answers, &all, 32, 80);
+    drive("answers of the router to a client", router_answers, &one, 188, 200);
+    drive("answers of the router to an address", router_answers, &all, 752, 800);
     drive("strangers at an address", at_one, &strangers, 100, 125);
     drive("all strangers", at_all, &strangers, 200, 1000);
     strangers_free(&strangers);
@@ -609,28 +677,36 @@ static void gateway(void)
         free(all.clients[k].queues);
 }
 
-/* Somebody says 128 packets to eight clients of an address that receives 500 at once: each client has room for 100, and what its address
- * has no room for counts, too. So the others are dropped for the clients, and no more of what is said then for the address. */
+/* Somebody says 128 packets to each of eight clients of an address that receives 500 at once. The first has room for 100; the rest isn't
+ * counted for the address, of which the others have what is left. What that refuses isn't counted for them: once it has no limit they have
+ * room for what each lacks of 100. */
 static void of_address(void)
 {
     enum { CLIENTS = 8, SAID = 128, OF_CLIENT = 100, OF_ADDRESS = 500 };
     network_setting set = usual(LINK_DOSBOX);
     throttle limits;
     member to[CLIENTS];
-    uint64_t why[REASONS + 1] = {0};
+    uint64_t why[REASONS + 1] = {0}, more = 0;
     set.household = 160;
     throttle_set(&limits, &set);
     join(1);
     pass(MILLISECOND);
     for (size_t k = 0; k < CLIENTS; k++)
         to[k] = client_at(4);
-    for (size_t k = 0; k < CLIENTS * SAID; k++)
-        why[throttle_receives(&limits, &to[k % CLIENTS], throttle_queue(speakers[0], packet()), SHORT)]++;
+    for (size_t k = 0; k < SAID; k++)
+        why[why_not(&limits, &to[0], speakers[0], SHORT)]++;
+    expect(why[REASONS] == OF_CLIENT && why[TOO_MUCH_FOR_CLIENT] == SAID - OF_CLIENT, "a client has room for so much");
+    for (size_t k = 0; k < (CLIENTS - 1) * SAID; k++)
+        why[why_not(&limits, &to[1 + k % (CLIENTS - 1)], speakers[0], SHORT)]++;
     printf("%" PRIu64 " received, %" PRIu64 " dropped for clients, %" PRIu64 " for their address\n", why[REASONS], why[TOO_MUCH_FOR_CLIENT],
            why[TOO_MUCH_FOR_ADDRESS]);
     expect(why[REASONS] == OF_ADDRESS, "an address receives so much");
-    expect(why[TOO_MUCH_FOR_CLIENT] == CLIENTS * (SAID - OF_CLIENT), "a client has room for so much, whatever its address has");
-    expect(why[TOO_MUCH_FOR_ADDRESS] == CLIENTS * OF_CLIENT - OF_ADDRESS, "the rest is dropped for the address");
+    expect(why[TOO_MUCH_FOR_CLIENT] == SAID - OF_CLIENT, "the others have room");
+    expect(why[TOO_MUCH_FOR_ADDRESS] == (CLIENTS - 1) * SAID - (OF_ADDRESS - OF_CLIENT), "the rest is dropped for the address");
+    limits.has_household = false;
+    for (size_t k = 0; k < CLIENTS * SAID; k++)
+        more += receives(&limits, &to[k % CLIENTS], speakers[0], SHORT);
+    expect(more == CLIENTS * OF_CLIENT - OF_ADDRESS, "what an address has no room for isn't counted for its clients");
     for (size_t k = 0; k < CLIENTS; k++)
         free(to[k].queues);
 }
@@ -639,7 +715,7 @@ static const struct {
     const char *word;
     void (*does)(void);
 } WORDS_ALONE[] = {{"once", once}, {"two", two}, {"address", of_address}, {"narrow", narrow}, {"router", router}, {"links", links},
-                   {"accounts", accounts}, {"gateway", gateway}};
+                   {"accounts", accounts}, {"none", none}, {"gateway", gateway}};
 
 int main(int count, char **words)
 {

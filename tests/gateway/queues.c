@@ -1,18 +1,18 @@
-/* For the tests: what a receiver hears (receiver.c, and the library's receivers behind it), by a clock that this program sets.
+/* For the tests: what a receiver hears (receiver.c, and the library's limits behind it), by a clock that this program sets.
  *
  *     queues SEED COUNT   so many random calls, beside each of which stands what a simple model says; and the clock is set back by an hour
  *
  * The model is docs/FAIR.md, done slowly. It prints what it saw, and ends with 1 where that isn't what is due. */
 #include "limits/receiver.h"
 
-#include "limits/numbers.h"
 #include "own_clock.h"
 
-enum { RECEIVED = 900, MOST_FRAMES = 4 }; /* packets a second that a client receives, and frames of one */
+/* Packets a second that a client receives; frames of one; pieces of a short one, and of the longest; and bytes of a short one. */
+enum { RECEIVED = 900, MOST_FRAMES = 4, SHORTEST = 22, LONGEST = 89, SHORT = 100 };
 
 /* How long the queues of all senders are, and what is left of the time. */
 typedef struct queues {
-    uint64_t senders, length[MOST_NUMBERS], left;
+    uint64_t senders, length[IPXR_SPEAKERS], left;
 } queues;
 
 typedef struct model {
@@ -66,9 +66,15 @@ static bool model_has_room(const ipxr_fair_setting *of, const queues *it, size_t
     return own <= of->one || (own <= of->own && all <= of->room + of->reserve) || it->length[number] + all <= of->room;
 }
 
-static bool model_hears(const reading *as, model *it, size_t number, uint32_t pieces, uint32_t frames)
+/* A packet of so many bytes takes so many pieces. */
+static uint64_t pieces_of(size_t length)
 {
-    uint64_t packets = frames * as->between, bytes = frames * pieces * as->piece;
+    return length > 600 ? 89 : length > 110 ? 37 : 22;
+}
+
+static bool model_hears(const ipxr_reading *as, model *it, size_t number, size_t length, uint32_t frames)
+{
+    uint64_t packets = frames * as->packet, bytes = frames * pieces_of(length) * as->piece;
     model_serve(&it->packets, now - it->looked);
     model_serve(&it->pieces, now - it->looked);
     it->looked = now;
@@ -88,16 +94,31 @@ static void compare(const ipxr_fair *it, const queues *like, const ipxr_fair_set
     expect(it->total <= of->room + of->reserve + of->one * like->senders, "no more waits than there is room for");
 }
 
-static reading any_reading(void)
+/* How many may wait, and a reserve, of packets or pieces of so many nanoseconds; in so many frames at most. */
+static ipxr_fair_setting setting_of(uint64_t each, uint64_t room, uint64_t reserve, uint64_t frames)
 {
-    static const uint32_t COUNTS[] = {3, 160, RECEIVED, 12800, 3000000}, PIECES[] = {1, 89};
-    room packets = {(uint32_t)(150 + draw(2) * draw(3000)), (uint32_t)(50 + draw(2) * draw(2000))};
-    uint32_t pieces = PIECES[draw(2)];
-    return reading_of(COUNTS[draw(5)], packets, pieces == 1 ? packets : (room){64, 0}, pieces, 1 + (uint32_t)draw(MOST_FRAMES));
+    enum { OWN_PARTS = 8 };
+    uint64_t one = each * frames, own = each * reserve / OWN_PARTS;
+    return (ipxr_fair_setting){.one = one, .own = own > one ? own : one, .reserve = each * reserve, .room = each * room};
+}
+
+/* So many packets a second, each of so many pieces if it is one of those that are read as fast as by packets. */
+static ipxr_reading reading_of(uint64_t count, uint64_t room, uint64_t reserve, uint64_t pieces, uint64_t frames)
+{
+    uint64_t packet = UINT64_C(1000000000) / count;
+    return (ipxr_reading){.packet = packet, .piece = packet / pieces, .packets = setting_of(packet, room, reserve, frames),
+        .pieces = setting_of(packet, pieces == LONGEST ? 64 : room, pieces == LONGEST ? 0 : reserve, frames)};
+}
+
+static ipxr_limits any_limits(void)
+{
+    static const uint64_t COUNTS[] = {3, 160, RECEIVED, 12800, 3000000}, PIECES[] = {SHORTEST, LONGEST};
+    uint64_t room = 150 + draw(2) * draw(3000), reserve = 50 + draw(2) * draw(2000);
+    return (ipxr_limits){.received = reading_of(COUNTS[draw(5)], room, reserve, PIECES[draw(2)], 1 + draw(MOST_FRAMES))};
 }
 
 /* Nanoseconds from one call to the next: none, as one turn has many; about as long as a packet takes; or much longer. */
-static uint64_t any_time(const reading *as)
+static uint64_t any_time(const ipxr_reading *as)
 {
     switch (draw(8)) {
     case 0:
@@ -107,26 +128,32 @@ static uint64_t any_time(const reading *as)
     case 3:
         return draw(300);
     case 7:
-        return draw(100) == 0 ? draw(2 * as->packets.room) : draw(8 * as->between);
+        return draw(100) == 0 ? draw(2 * as->packets.room) : draw(8 * as->packet);
     default:
-        return draw(2 * as->between);
+        return draw(2 * as->packet);
     }
 }
 
-static void any_call(const reading *as, receiver *it, model *like)
+/* Whether a packet of so many bytes goes out to it, in so many frames, that somebody says who has a number. */
+static bool hears(const ipxr_limits *as, receiver *it, size_t number, size_t length, uint32_t frames)
 {
-    static const uint32_t PIECES[] = {22, 37, 89};
-    uint32_t pieces = as->piece == as->between ? 1 : PIECES[draw(3)], frames = 1 + (uint32_t)draw(MOST_FRAMES);
-    size_t number = draw(like->packets.senders);
-    bool is_heard = receiver_hears(it, as, number, pieces, frames);
-    expect(is_heard == model_hears(as, like, number, pieces, frames), "a packet is heard if the model hears it");
+    return ipxr_limits_carries(as, receiver_now(it), (uint8_t)number, length, frames) == IPXR_PASSES;
+}
+
+static void any_call(const ipxr_limits *as, receiver *it, model *like)
+{
+    static const size_t LENGTHS[] = {30, 110, 111, 600, 601, 1500};
+    size_t length = LENGTHS[draw(6)], number = draw(like->packets.senders);
+    uint32_t frames = 1 + (uint32_t)draw(MOST_FRAMES);
+    bool is_heard = hears(as, it, number, length, frames);
+    expect(is_heard == model_hears(&as->received, like, number, length, frames), "a packet is heard if the model hears it");
 }
 
 /* All is empty, and everybody has room. */
-static void expect_peace(const reading *as, receiver *it)
+static void expect_peace(const ipxr_limits *as, receiver *it)
 {
-    for (size_t k = 0; k < MOST_NUMBERS; k++)
-        expect(receiver_hears(it, as, k, 1, 1), "after peace everybody is heard");
+    for (size_t k = 0; k < IPXR_SPEAKERS; k++)
+        expect(hears(as, it, k, SHORT, 1), "after peace everybody is heard");
 }
 
 /* Some calls with one setting, then peace. */
@@ -134,19 +161,19 @@ static void round_of_calls(uint64_t count)
 {
     static receiver it;
     static model like;
-    reading as = any_reading();
+    ipxr_limits as = any_limits();
     memset(&it, 0, sizeof it);
     it.clock = now;
-    uint64_t senders = 1 + draw(draw(4) > 0 ? 8 : MOST_NUMBERS);
+    uint64_t senders = 1 + draw(draw(4) > 0 ? 8 : IPXR_SPEAKERS);
     like = (model){.looked = now, .packets.senders = senders, .pieces.senders = senders};
-    receiver_set(&it, &as);
+    receiver_set(&it, &as.received);
     for (uint64_t k = 0; k < count; k++) {
-        pass(any_time(&as));
+        pass(any_time(&as.received));
         any_call(&as, &it, &like);
-        compare(&it.packets, &like.packets, &as.packets);
-        compare(&it.pieces, &like.pieces, &as.pieces);
+        compare(&it.of.packets, &like.packets, &as.received.packets);
+        compare(&it.of.pieces, &like.pieces, &as.received.pieces);
     }
-    pass(it.packets.total > it.pieces.total ? it.packets.total : it.pieces.total);
+    pass(it.of.packets.total > it.of.pieces.total ? it.of.packets.total : it.of.pieces.total);
     expect_peace(&as, &it);
 }
 
@@ -162,16 +189,16 @@ static void calls(uint64_t count)
 static void back(void)
 {
     static receiver it;
-    reading as = reading_of(RECEIVED, (room){200, 50}, (room){64, 0}, 89, 1);
+    ipxr_limits as = {.received = reading_of(RECEIVED, 200, 50, LONGEST, 1)};
     pass(2 * 60 * MINUTE * MILLISECOND);
-    receiver_set(&it, &as);
-    for (int k = 0; k < 300; k++)
-        (void)receiver_hears(&it, &as, (size_t)k % 9, 22, 1);
-    uint64_t waits = it.packets.total;
+    receiver_set(&it, &as.received);
+    for (size_t k = 0; k < 300; k++)
+        (void)hears(&as, &it, k % 9, SHORT, 1);
+    uint64_t waits = it.of.packets.total;
     now -= 60 * MINUTE * MILLISECOND;
     pass(0);
-    receiver_set(&it, &as);
-    expect(it.packets.waits == 9 && !receiver_hears(&it, &as, 0, 22, 1) && it.packets.total == waits, "all wait");
+    receiver_set(&it, &as.received);
+    expect(it.of.packets.waits == 9 && !hears(&as, &it, 0, SHORT, 1) && it.of.packets.total == waits, "all wait");
     pass(waits);
     expect_peace(&as, &it);
 }

@@ -41,8 +41,9 @@ TESTS = (
     named("eleven links tell the router as much as each may for a minute: it hears as much as of one, and a twelfth's tables", plays, "links"),
     named("what an address says to the router on one network doesn't use up another network's limits, nor does what was said before a reload",
           plays, "accounts"),
+    named("what one limit refuses isn't counted by another", plays, "none"),
     named("for ten minutes clients and strangers ask the gateway, and ping all, more often than they may", plays, "gateway"),
-    named("what a client has room for and its address hasn't counts for the client", plays, "address"),
+    named("what a client or its address has no room for isn't counted by the other", plays, "address"),
     named("somebody floods an address' clients on a network that lets them receive little: on another they hear all", plays, "two"),
 )
 

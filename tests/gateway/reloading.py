@@ -1,4 +1,5 @@
 """The configuration is read anew while the gateway runs: what changed changes, and all else runs on."""
+import contextlib
 import itertools
 import json
 import os
@@ -16,6 +17,7 @@ from events import Follower
 from frames import Packets, Station, Udp
 from lab import (AGAIN, ALL_THERE_IS, EVERYONE, GAME, LIMIT, NOBODY, RIP, TUNNEL, Client, Clock, address, comes_next, free_ports, is_ping,
                  packet, reaches, registration, rip_response, socket_of, tunnels, until)
+from links import is_closed
 from orders import is_farewell, told_until
 from segments import hears, tells
 from six import has_six
@@ -32,6 +34,7 @@ ASKERS = 6  # who are shown a list while it becomes shorter: each gets a piece b
 MANY = 180  # clients, routes and services: more than a piece of what is shown
 CUT = 50  # times that it is shortened, until that comes between two pieces
 LONGEST = 1424  # bytes of a datagram of the tunnel
+KNOCKS = 3  # connections beside that of a PC
 FLOOD = 300  # packets of a client, more than another receives at once where there are limits
 
 
@@ -95,6 +98,41 @@ def counts_go_on():
         for left in links[1:], links[:1]:
             gate.reload(tunnels(1) + "network 20 1 1424\n" + "".join(left))
             assert came() == 2, f"{came()} datagrams"
+
+
+def knock_at(port):
+    """Somebody comes to a port where a PC is connected already."""
+    with socket.create_connection(("127.0.0.1", port)) as other:
+        assert is_closed(other)
+
+
+def refusals_go_on():
+    """What a link refused beside its PC stays counted: with another port, other frames or a link beside it, and where it is one no more."""
+    first, second = free_ports(2)
+    alone, several = "network 20 1 1424 qemu-tcp listen 127.0.0.1:%d %s\n", "network 20 1 1424\nlink dosbox 127.0.0.1:0\n"
+    link = "link qemu-tcp listen 127.0.0.1:%d %s\n"
+    # (where the port stays, so does the PC)
+    steps = ((first, True, alone % (first, "raw")), (second, True, alone % (second, "raw")), (second, False, alone % (second, "llc")),
+             (second, False, several + link % (second, "llc")), (first, True, several + link % (first, "llc")))
+    then = several, several + link % (second, "llc"), at(0x20, "127.0.0.1:0"), alone % (first, "raw")
+    with Changed(tunnels(1) + steps[0][2]) as gate, contextlib.ExitStack() as pcs:
+        count = 0
+
+        def refused():
+            return sum(it["number"] for it in gate.shown("counts") if (it["network"], it["count"]) == ("00000020", "refused"))
+
+        for port, is_another, text in steps:
+            gate.reload(tunnels(1) + text)
+            if is_another:
+                pcs.enter_context(socket.create_connection(("127.0.0.1", port)))
+            assert refused() == count, text
+            for _ in range(KNOCKS):
+                knock_at(port)
+            count += KNOCKS
+            assert refused() == count, text
+        for text in then:
+            gate.reload(tunnels(1) + text)
+            assert refused() == count, text
 
 
 def rules_for_clients():
@@ -567,10 +605,10 @@ def inside():
 def main():
     if not has_linux("reading the configuration anew"):
         return Counts()
-    counts = tried(all_is_compared, nothing_changes, wrong_file, counts_go_on, rules_for_clients, newcomers, limits, limits_of_a_link,
-                   a_line, shares, sockets, a_link_is_another, frames_on_another_link, networks_come_and_go, links_that_are_alike, a_node_of_several_links,
-                   another_address, a_link_is_taken, the_router_begins_anew, shown_while_links_go, shown_while_a_network_goes,
-                   shown_while_counts_go, followed, at_a_terminal)
+    counts = tried(all_is_compared, nothing_changes, wrong_file, counts_go_on, refusals_go_on, rules_for_clients, newcomers, limits,
+                   limits_of_a_link, a_line, shares, sockets, a_link_is_another, frames_on_another_link, networks_come_and_go,
+                   links_that_are_alike, a_node_of_several_links, another_address, a_link_is_taken, the_router_begins_anew,
+                   shown_while_links_go, shown_while_a_network_goes, shown_while_counts_go, followed, at_a_terminal)
     return counts + tried_inside(__file__, "cards beside a reload")
 
 

@@ -211,6 +211,7 @@ void gateway_is_well(gateway *it)
         check_network(it, &it->networks[k]);
     check_ports(it);
     speakers_are_well(it);
+    links_are_well();
     line_is_well(it);
     status_is_well();
     if (it->room_count > 0 || ipxr_sent(&it->router) > 0)

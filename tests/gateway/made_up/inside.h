@@ -19,8 +19,10 @@ bool speakers_are_gone(void);
 void line_is_well(gateway *it);
 bool line_is_unused(void);
 
-/* What is counted of all queues of somebody must be so, whoever he is: of packets alone, and of their bytes, too. */
+/* What is counted of all queues of somebody must be so, whoever he is: of packets alone, and of their bytes, too; and of what all links
+ * with frames tell the router. */
 void queues_are_well(const ipxr_fair *it, const char *whose);
 void receiver_is_well(const receiver *it, const char *whose);
+void links_are_well(void);
 
 #endif

@@ -13,22 +13,22 @@ static size_t members_of(gateway *it, const speaker *of)
     return count;
 }
 
-static void look(gateway *it, const speaker *one, size_t users[MOST_NUMBERS])
+static void look(gateway *it, const speaker *one, size_t users[IPXR_SPEAKERS])
 {
     if (one->clients != members_of(it, one) || (one != &spare && one->clients == 0))
         wrong("address 10.0.0.%u has %zu clients, and %zu are listed", one->host[3], one->clients, members_of(it, one));
     users[one->queue]++;
     for (const household *all = &one->first; all != NULL; all = all->next)
-        queues_are_well(&all->received, "an address");
+        queues_are_well(&all->received.of, "an address");
 }
 
 void speakers_are_well(gateway *it)
 {
-    size_t users[MOST_NUMBERS] = {0};
+    size_t users[IPXR_SPEAKERS] = {0};
     look(it, &spare, users);
     for (const speaker *one = speakers; one != NULL; one = one->next)
         look(it, one, users);
-    for (size_t k = OF_ADDRESSES; k < MOST_NUMBERS; k++)
+    for (size_t k = OF_ADDRESSES; k < IPXR_SPEAKERS; k++)
         if (users[k] != queues.users[k])
             wrong("%zu addresses have the queue %zu, and %zu are counted", users[k], k, queues.users[k]);
 }

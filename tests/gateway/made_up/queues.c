@@ -20,6 +20,6 @@ void queues_are_well(const ipxr_fair *it, const char *whose)
 
 void receiver_is_well(const receiver *it, const char *whose)
 {
-    queues_are_well(&it->packets, whose);
-    queues_are_well(&it->pieces, whose);
+    queues_are_well(&it->of.packets, whose);
+    queues_are_well(&it->of.pieces, whose);
 }
