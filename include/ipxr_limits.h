@@ -220,8 +220,8 @@ IPXR_CALL uint8_t ipxr_household_receives_of_router(const ipxr_household_limits 
 /* ---- Who has which queue ---- */
 
 /* Gives somebody who begins to speak a queue, of those from the first to the last, and returns its number: one that the fewest have, and of
- * several the first behind the one that was given last, round and round. So as long as fewer speak than there are queues, each has one of
- * his own. If the last isn't behind the first, the first is given. */
+ * several the first behind the one that was given last, round and round. So as long as fewer speak than there are queues, whoever begins
+ * gets one that nobody has. If the last isn't behind the first, the first is given. */
 IPXR_CALL uint8_t ipxr_queues_take(ipxr_queues *queues, uint8_t first, uint8_t last);
 
 /* Somebody who has that queue speaks no more. A queue that nobody has stays so. */

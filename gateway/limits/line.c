@@ -30,10 +30,6 @@ enum { BIT = 1000000, BITS = 8, USED = 9, OF = 10 };
  * as they are few. */
 enum { SHORT = 200, QUIET = 10, MOST_PARTS = 4096, PART_OF_OWN = 10 };
 
-/* Of the line one part in so many is for what is said as little. (with all of it what waits would grow, little by little, until what is
- * within a part finds no room for good) */
-enum { PART_OF_LITTLE = 2 };
-
 static struct {
     uint32_t kilobits;
     line_meter used;
@@ -167,7 +163,7 @@ static uint64_t larger(uint64_t a, uint64_t b)
 static uint64_t most_said(void)
 {
     uint64_t to_each = receivers() * the.cost_of_short;
-    return PART_OF_LITTLE * larger(MOST_SAID, speakers() * (to_each < MOST_SAID ? to_each : MOST_SAID));
+    return larger(MOST_SAID, speakers() * (to_each < MOST_SAID ? to_each : MOST_SAID));
 }
 
 /* And to an address: as much as a second's, or a short packet where that is more. */
@@ -183,12 +179,19 @@ static bool says_little(uint64_t most)
     return the.said != NULL && ahead(the.said) <= most;
 }
 
-/* Whether he is within his part of that of an address. Or he says so little to all that it doesn't matter to whom. That is half of what he
- * may say at once, so that an address with many clients doesn't use up what others are to hear; all of it where he isn't told apart. */
+/* Whether he says so little to all that it doesn't matter to whom, as long as the address has its part: else copies for its silent clients
+ * would fill the line, before those for others. That is half of what he may say at once, so that an address with many clients doesn't use
+ * up what others are to hear. Where he isn't told apart it is all of it, whatever the address has: somebody else may use up his part. */
+static bool says_little_to(line_use *to)
+{
+    bool is_alone = the.numbers.users[the.number] <= 1;
+    return is_alone ? has_part(to) && says_little(the.most_said / 2) : says_little(the.most_said);
+}
+
+/* Whether he is within his part of that of an address, or doesn't matter there. */
 static bool has_his_part(line_use *to)
 {
-    uint64_t most = the.numbers.users[the.number] > 1 ? the.most_said : the.most_said / 2;
-    return is_within(&to->of[the.number], pairs(to), most_to(to)) || says_little(most);
+    return is_within(&to->of[the.number], pairs(to), most_to(to)) || says_little_to(to);
 }
 
 /* ---- Datagrams ---- */
@@ -203,7 +206,7 @@ void line_begin(line_use *from, size_t length)
     the.most_said = most_said();
     if (is_address) {
         from->quiet = 0;
-        hold(the.said, the.most_said + speakers() * PART_OF_LITTLE * the.longest);
+        hold(the.said, the.most_said + speakers() * the.longest);
     }
     the.cost = cost_of(length + HEADERS);
 }
@@ -229,7 +232,7 @@ void line_send(line_use *to)
     bool is_his = has_his_part(to), is_received = has_part(to) || is_his;
     use(the.cost);
     if (is_his && says_little(the.most_said))
-        move(the.said, the.cost * speakers() * PART_OF_LITTLE);
+        move(the.said, the.cost * speakers());
     if (is_his)
         move(&to->of[the.number], the.cost * pairs(to));
     if (is_received)

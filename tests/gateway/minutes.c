@@ -9,6 +9,7 @@
  *     minutes line KILOBITS      four play by a line of so many kilobits, beside one who says 1,000 of the longest packets a second: for
  *                                ten minutes all five, and for one more the four
  *     minutes narrow             one says the longest packets by a line of 8 kbit/s: in ten minutes no more than nine tenths of it are used
+ *     minutes silent             60 silent clients of one address, which came first, and four players by a line of 1 Mbit/s, with pings
  *     minutes router             clients and a link say to the router what it limits: for ten minutes it hears as much as it is to
  *     minutes links              eleven links tell the router as much as each may, for a minute: it hears no more than of one, and a twelfth
  *                                whole that tells its tables twice, at once
@@ -396,6 +397,41 @@ static void narrow(void)
     expect(sent > most / 2 && sent <= most + 1, "a narrow line carries no more than nine tenths of its width");
 }
 
+/* An address has silent clients, which came before the players, so that their copies are sent first; and the gateway pings all. Each player
+ * says less than his part of each address. (the copies for the silent clients are more than their address' part) */
+static void silent(void)
+{
+    enum { SILENT = 60, PLAY = 4, GAME = 20, PACKET = 90, A_PING = 76, KILOBITS = 1000, LASTS = 5 * MINUTE, BETWEEN_PINGS = 150 };
+    uint64_t said[PLAY] = {0}, lost = 0;
+    use_line_of(KILOBITS);
+    join(PLAY + 1);
+    for (size_t k = 0; k < SILENT; k++)
+        line_join(&speakers[PLAY]->line);
+    for (size_t k = 0; k < PLAY; k++)
+        line_join(&speakers[k]->line);
+    for (uint64_t at = 1; at <= LASTS; at++) {
+        pass_millisecond(at);
+        if (at % BETWEEN_PINGS == 0)
+            line_send_own(A_PING);
+        for (size_t who = 0; who < PLAY; who++)
+            for (; said[who] < said_by(GAME, at + who); said[who]++) {
+                line_begin(&speakers[who]->line, PACKET);
+                for (size_t k = 0; k < SILENT; k++)
+                    if (line_has_room(&speakers[PLAY]->line))
+                        line_send(&speakers[PLAY]->line);
+                for (size_t k = 0; k < PLAY; k++) {
+                    bool has_room = k != who && line_has_room(&speakers[k]->line);
+                    if (has_room)
+                        line_send(&speakers[k]->line);
+                    lost += k != who && !has_room;
+                }
+            }
+    }
+    uint64_t all = (PLAY - 1) * (said[0] + said[1] + said[2] + said[3]);
+    printf("%" PRIu64 " of %" PRIu64 " copies of the players are lost\n", lost, all);
+    expect(1000 * lost < all, "beside silent clients players within their parts of a line are heard");
+}
+
 /* ---- What the router hears ---- */
 
 enum { MOST_CLIENTS = 5 };
@@ -714,7 +750,7 @@ static void of_address(void)
 static const struct {
     const char *word;
     void (*does)(void);
-} WORDS_ALONE[] = {{"once", once}, {"two", two}, {"address", of_address}, {"narrow", narrow}, {"router", router}, {"links", links},
+} WORDS_ALONE[] = {{"once", once}, {"two", two}, {"address", of_address}, {"narrow", narrow}, {"silent", silent}, {"router", router}, {"links", links},
                    {"accounts", accounts}, {"none", none}, {"gateway", gateway}};
 
 int main(int count, char **words)

@@ -37,6 +37,8 @@ TESTS = (
     named("what one receives at once, of one to 40 addresses", plays, "once"),
     named("for ten minutes four play by a line of 1 Mbit/s, beside one who says 1,000 long packets a second", plays, "line", 1000),
     named("for ten minutes one says the longest packets by a line of 8 kbit/s, which carries nine tenths of that at most", plays, "narrow"),
+    named("for five minutes an address has 60 silent clients by a line of 1 Mbit/s: four players within their parts are heard", plays,
+          "silent"),
     named("for ten minutes clients and a link ask the router, and tell it, more than it hears", plays, "router"),
     named("eleven links tell the router as much as each may for a minute: it hears as much as of one, and a twelfth's tables", plays, "links"),
     named("what an address says to the router on one network doesn't use up another network's limits, nor does what was said before a reload",
