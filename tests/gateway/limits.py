@@ -400,7 +400,6 @@ def questions_of_an_address():
             it.party.put_in("asks", player)
             player.register()
         until(lambda: it.party.hear() or it.gate.counted(0x20, "clients") == ASKING, "all clients")
-        unanswered = 0
         for passed, answered, pages in (0, QUESTIONS_AT_ONCE * HOUSEHOLD, PAGES_AT_ONCE * HOUSEHOLD), (1, HOUSEHOLD, PAGES * HOUSEHOLD):
             it.let_pass(passed)
             before, sent = it.gate.counted(0x20, "too many questions"), it.gate.counted(0x20, "out")
@@ -412,14 +411,20 @@ def questions_of_an_address():
             lost = it.gate.counted(0x20, "too many questions") - before
             assert lost == ASKING - answered, f"{ASKING - lost} are answered, not {answered}"
             sent = it.gate.counted(0x20, "out") - sent
-            assert pages <= sent <= ASKING + pages, f"{sent} packets"
-            unanswered += answered * FILLS_TABLES - pages + ASKING - 2 * answered
+            # (while that lasts, some time passes by the clock, too)
+            assert pages <= sent <= ASKING + pages + PAGES * HOUSEHOLD, f"{sent} packets"
+            before, unanswered = it.gate.counted(0x20, "too many answers"), ASKING - 2 * answered
             for player in asking:
                 player.register()
                 it.party.hear()
-            until(lambda: it.party.hear() or it.gate.counted(0x20, "too many answers") >= unanswered, "all register")
+            until(lambda: it.party.hear() or it.gate.counted(0x20, "too many answers") - before >= unanswered, "all register")
             it.party.until(lambda: False, QUIET)
-            assert it.gate.counted(0x20, "too many answers") == unanswered, it.gate.report()
+            assert it.gate.counted(0x20, "too many answers") - before == unanswered, it.gate.report()
+
+
+def answers_of(it):
+    """Packets by which the router answered on a network: those that went out, and those that were too many."""
+    return it.gate.counted(0x20, "out") + it.gate.counted(0x20, "too many answers")
 
 
 def answers_of_the_router():
@@ -431,15 +436,17 @@ def answers_of_the_router():
         it.party.put_in("asks", player)
         player.register()
         until(lambda: it.party.hear() or it.gate.counted(0x20, "clients") == 1, "a client")
-        sent, most = it.gate.counted(0x20, "out"), PAGES_AT_ONCE
+        sent, began, most = it.gate.counted(0x20, "out"), time.monotonic(), PAGES_AT_ONCE
         for _ in range(SECONDS):
             it.let_pass(1)
             most += PAGES
+            before = answers_of(it)
             asks_for_all(player)
-            it.party.until(lambda: False, QUIET)
+            until(lambda before=before: it.party.hear() or answers_of(it) - before >= FILLS_TABLES, "all answers")
             assert it.gate.counted(0x20, "too many questions") == 0, it.gate.report()
         count = it.gate.counted(0x20, "out") - sent
-        assert most - PAGES <= count <= most + 2 * SECONDS, f"{count} packets, not {most}"
+        # (besides, some time passes by the clock, and the client is pinged)
+        assert most - PAGES <= count <= most + (PAGES + 2) * (time.monotonic() - began + 1) + SECONDS, f"{count} packets, not {most}"
 
 
 def questions_of_a_client(to, data):
