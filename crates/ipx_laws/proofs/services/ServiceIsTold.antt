@@ -78,12 +78,6 @@ module _ (ports : List Port) (s : Service) where
 
     module _ (before after : Holding) (on : AnyIs (λ k. k ≡ j) after.up) (fit : AllByRecursion IsTellable (told_services after.services j))
         (changed : AllByRecursion IsTellable (news_services before.services after.services j)) (any : AnyIs Is (told_services after.services j)) where
-      abbrev rest : List Service
-      rest = told_services after.services j
-
-      abbrev gone : List Service
-      gone = news_services before.services after.services j
-
       here_tells : AnyIs (TellsService j) (second_on ports before after true j)
       here_tells = grind (arith, any_behind, sap_tells, all_sorted, IsTellable, all-append, any-sorted, any_in_front)
 

@@ -195,9 +195,6 @@ module _ (net : Internet) (laws : Layouts) (is : IsInternet net) (differ : Nodes
       sent_by : Option Why → Result Parts PacketFault → List Sent
       sent_by o r = elim o [ Some reason ↦ [] | None ↦ elim r [ Ok x ↦ relayed ports ups routes number x | Err fault ↦ [] ] ]
 
-      abbrev leaving : Option Outway → List Sent
-      leaving o = elim o [ Some out ↦ record { port = out.port; link = out.link; bytes = packet_bytes (forwarded p) } ∷ [] | None ↦ [] ]
-
       module _ (way : Outway) (routed : way_to ports ups routes to ≡ Some way) (leaves : way.port < length ports) (leaves_up : is_up (up q) way.port ≡ true)
           (short : p.header.length ≤ (port_at ports way.port).longest) where
         abbrev it : Sent
