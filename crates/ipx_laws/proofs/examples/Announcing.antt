@@ -33,7 +33,7 @@ use Rattle.ipx_internet.proofs.examples.Words.{network, node, port_on, at}
 use Rattle.ipx_internet.proofs.packets.SentOnOrReply.{Layouts}
 use Rattle.ipx_internet.proofs.ticks.TickCanBeHad.{sound_run, can_be_busy}
 use Rattle.ipx_laws.specs.Meanwhile.{LeavesPorts, SaysOnly, EachTick}
-use Rattle.ipx_laws.specs.Regular.{IsListedName, IsServiceSetting, most_ticks_known, IsHeard, HeardInSteps, HeardInTicks, AreInTime}
+use Rattle.ipx_laws.specs.Regular.{IsListedName, IsServiceSetting, most_ticks_known, IsHeard, HeardInTicks, AreInTime}
 use Rattle.ipx_laws.specs.Servers.{Announcer, NamesOnly, at_hops, known_of, SaysNoFalse}
 use Rattle.ipx_laws.specs.Ups.{ups}
 use Rattle.ipx_laws.proofs.examples.Hosts.{server, said, start, names, bytes, says, names_it, the_host, one_voice, room}
@@ -55,9 +55,7 @@ abbrev pub tick_of : ℕ → List Step
 tick_of n = first ++ replicate n Settles
 
 each_once : (router : ℕ) → router < 2 → seconds_of router first ≡ 1
-each_once zero within = refl
-each_once (suc zero) within = refl
-each_once (suc (suc router)) within = absurd (omega (arith, within))
+each_once router within = grind arith
 
 many : (P : Step → Type 0) → P Settles → (n : ℕ) → AllByRecursion P (replicate n Settles)
 many P one zero = tt
@@ -99,13 +97,7 @@ heard_so = refl
 
 -- the only port on its network
 the_port : (router port : ℕ) → (network_of segment (at router port)).0 ≡ 0x10 → at router port ≡ at 0 0
-the_port zero zero e = refl
-the_port zero (suc zero) e = absurd (omega (arith, e))
-the_port zero (suc (suc port)) e = absurd (omega (arith, e))
-the_port (suc zero) zero e = absurd (omega (arith, e))
-the_port (suc zero) (suc zero) e = absurd (omega (arith, e))
-the_port (suc zero) (suc (suc port)) e = absurd (omega (arith, e))
-the_port (suc (suc router)) port e = absurd (omega (arith, e))
+the_port router port e = grind arith
 
 pub setting : IsServiceSetting segment 8 start.histories names (server 0x10)
 setting = (made, are, one_voice, room, (0, refl))
@@ -142,9 +134,7 @@ module _ (laws : Layouts) where
   heard_in : (window after : List (List Step)) → length window ≡ period → AllByRecursion IsOne (window ++ after) → (run : Run) → IsKept run
       → HeardInTicks segment 8 8 (server 0x10) (at 0 0) host run window
   heard_in [] after minute ones run kept = absurd (omega (arith, minute))
-  heard_in (steps ∷ window) after minute ones run kept =
-      subst (λ (ss : List Step). HeardInSteps segment 8 8 (server 0x10) (at 0 0) host (λ next. HeardInTicks segment 8 8 (server 0x10) (at 0 0) host next window) run ss)
-      (sym ones.0.1) (inl (heard_first run kept))
+  heard_in (steps ∷ window) after minute ones run kept = grind (arith, segment, server, at, heard_first)
 
   -- so far all is kept, and what follows are such ticks
   goes_on : (before rest : List (List Step)) (run : Run) → IsKept run → EachTick segment 8 8 (IsBusyTick segment 8 8) run (before ++ rest)

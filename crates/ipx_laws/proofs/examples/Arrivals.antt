@@ -120,6 +120,4 @@ fits =
 
 -- and none of them more
 pub too_long : IsShort beside (all beside) 577 (network 0x50) 2 0 → ⊥
-too_long short =
-    let longest : 577 ≤ 576 = (short.1.0 refl).0.1.0 refl in
-    omega (arith, longest)
+too_long short = grind arith

@@ -1,5 +1,5 @@
 -- A client on 30h asks for the nearest file server. The second router of `Hosts`, two hops from one, answers with it, three hops from there.
-use Rattle.std.proofs.Common.{◌≡◌, ◌≢◌, refl, sym, ap, ◌∙◌, ℕ, zero, suc, true, List, Some, arith}
+use Rattle.std.proofs.Common.{◌≡◌, ◌≢◌, refl, ℕ, true, List, Some, arith}
 use Rattle.ipx_wire.specs.Address.{address_bytes, address_at}
 use Rattle.ipx_wire.specs.Crossed.{network_bytes, network_at}
 use Rattle.ipx_wire.specs.Header.{header_bytes, header_at}
@@ -19,15 +19,15 @@ use Rattle.ipx_router.specs.Heard.{HeardSap}
 use Rattle.ipx_router.specs.History.{Packet}
 use Rattle.ipx_router.specs.Numbers.{every_service}
 use Rattle.ipx_router.specs.Port.{every_server}
-use Rattle.ipx_internet.specs.Internet.{network_of, ports_of}
+use Rattle.ipx_internet.specs.Internet.{ports_of}
 use Rattle.ipx_internet.specs.Queue.{history_of, sends_at}
 use Rattle.ipx_internet.specs.Run.{Run, run_of}
 use Rattle.ipx_internet.proofs.examples.Waiting.{segment}
 use Rattle.ipx_internet.proofs.examples.Words.{network, node, port_on, at}
 use Rattle.ipx_laws.specs.Nearest.{LeadsElsewhere, IsAnswered}
-use Rattle.ipx_laws.specs.Servers.{Announcer, at_hops}
+use Rattle.ipx_laws.specs.Servers.{at_hops}
 use Rattle.ipx_laws.specs.Ups.{ups}
-use Rattle.ipx_laws.proofs.examples.Hosts.{server, said, start, tick, the_host}
+use Rattle.ipx_laws.proofs.examples.Hosts.{server, said, start, tick}
 use Rattle.ipx_laws.proofs.examples.Meanwhile.{are_bytes}
 
 -- the client
@@ -52,21 +52,8 @@ pub answers : IsAnswered (ports_of segment 1) 1 client 4 3 (sends_at segment 8 8
 unfolding header_bytes address_bytes network_bytes service_bytes name_field packet_of header_at address_at items network_at entry_bytes entry_at rip_of sap_of sap_entry_at name_of
 answers = record { service = at_hops (server 0x10) 3; of_kind = refl; near = omega arith; alone = refl }
 
--- no way to the server begins on 30h
-none_else : (router port : ℕ) → router ≢ 1 → (network_of segment (at router port)).0 ≡ 0x30 → ⊥
-none_else zero zero off e = absurd (omega (arith, e))
-none_else zero (suc zero) off e = absurd (omega (arith, e))
-none_else zero (suc (suc port)) off e = absurd (omega (arith, e))
-none_else (suc zero) port off e = off refl
-none_else (suc (suc router)) port off e = absurd (omega (arith, e))
-
 pub elsewhere : LeadsElsewhere segment (ups segment start.histories) (server 0x10) (at 1 1) 2
-elsewhere = record {
-  hosts = λ which host listed on.
-      let other : 0x30 ≡ 0x10 = ap (λ n. n.0) (on ∙ ap (λ (h : Announcer). h.network) (the_host which host listed)) in
-      absurd (omega (arith, other));
-  neighbours = λ from others off there on way. absurd (none_else from.router from.port (λ same. off (sym same)) (ap (λ n. n.0) (sym on)));
-}
+elsewhere = grind arith
 
 pub of_a_type : (server 0x10).kind ≢ every_service
 of_a_type e = absurd (omega (arith, e))

@@ -29,7 +29,7 @@ use Rattle.ipx_internet.specs.Run.{Step, Happens, Settles, Run, begun, run_of}
 use Rattle.ipx_internet.specs.Ticks.{seconds_of}
 use Rattle.ipx_internet.proofs.examples.Waiting.{segment}
 use Rattle.ipx_internet.proofs.examples.Words.{network, node, port_on, at}
-use Rattle.ipx_internet.proofs.lists.FoundInAList.{it_is, nothing}
+use Rattle.ipx_internet.proofs.lists.FoundInAList.{it_is}
 use Rattle.ipx_laws.specs.Announces.{AsksApart, service_of}
 use Rattle.ipx_laws.specs.Meanwhile.{message_of, LeavesPorts, SaysOnly}
 use Rattle.ipx_laws.specs.Regular.{HasRoomFor, HaveOneVoice, IsListedName, HeardInTicks}
@@ -155,8 +155,7 @@ unfolding header_bytes address_bytes network_bytes service_bytes name_field pack
 is_heard = inr (inl (refl, refl, HeardSap (own_services (port_on 0x10 0xAA)) (Response false (entry_of (at_hops (server 0x10) 1) ∷ [])), refl, (refl, 0, refl)))
 
 pub the_host : (which : ℕ) (host : Announcer) → slice_get (server 0x10).announcers which ≡ Some host → host ≡ record { network = network 0x10; node = node 0xAA; hops = 1 }
-the_host zero host e = it_is (λ (h : Announcer). h ≡ record { network = network 0x10; node = node 0xAA; hops = 1 }) host (record { network = network 0x10; node = node 0xAA; hops = 1 }) e refl
-the_host (suc which) host e = nothing e
+the_host which host e = grind arith
 
 pub one_voice : HaveOneVoice (server 0x10)
 one_voice a b host other one two network node = ap (λ (h : Announcer). h.hops) (the_host a host one) ∙ sym (ap (λ (h : Announcer). h.hops) (the_host b other two))

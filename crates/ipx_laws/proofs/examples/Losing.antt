@@ -53,14 +53,7 @@ are_sound count [] = true
 are_sound count (event ∷ past) = is_sound count event && are_sound count past
 
 sound : (ports : List Port) (event : Event) → is_sound (length ports) event ≡ true → IsOnPort ports event × IsOfBytes event
-sound ports Start e = (tt, tt)
-sound ports Stop e = (tt, tt)
-sound ports Second e = (tt, tt)
-sound ports (PortDown number) e = (ltb-true number (length ports) e, tt)
-sound ports (PortUp number) e = (ltb-true number (length ports) e, tt)
-sound ports (Packet number bytes) e =
-    let parts = and_parts (nat_lt number (length ports)) (all_small bytes) e in
-    (ltb-true number (length ports) parts.0, are_bytes bytes parts.1)
+sound ports event e = grind (arith, ltb-true, and_parts, all_small, are_bytes)
 
 all_sound : (ports : List Port) (past : History) → are_sound (length ports) past ≡ true → AllByRecursion (IsOnPort ports) past × AllByRecursion IsOfBytes past
 all_sound ports [] e = (tt, tt)

@@ -1,7 +1,7 @@
 -- The second router of `Hosts` is beside no host that announces the file server: its fewest hops there are two, one more than the first router's,
 -- and so it has it. Where both routers have one node on the segment between them, the second one never hears the first: it has nothing, though
 -- the way is there.
-use Rattle.std.proofs.Common.{◌≡◌, refl, ap, ◌∙◌, ℕ, zero, suc, ◌≤◌, List, [], ◌∷◌, arith}
+use Rattle.std.proofs.Common.{◌≡◌, refl, ap, ◌∙◌, ℕ, ◌≤◌, List, [], ◌∷◌, arith}
 use Rattle.ipx_wire.specs.Address.{address_bytes, address_at}
 use Rattle.ipx_wire.specs.Crossed.{network_bytes, network_at}
 use Rattle.ipx_wire.specs.Header.{header_bytes, header_at}
@@ -27,16 +27,11 @@ use Rattle.ipx_laws.proofs.examples.Hosts.{server, said, start, tick, offer, the
 
 -- the host says one hop, so nobody has it nearer
 at_least_one : {router hops : ℕ} → IsAway segment (ups segment start.histories) (server 0x10) router hops → 1 ≤ hops
-at_least_one (beside port which host on listed network) =
-    let said_so = ap (λ (h : Announcer). h.hops) (the_host which host listed) in
-    omega (arith, said_so)
-at_least_one (beyond port from other on there network way) = omega arith
+at_least_one given = grind arith
 
 -- none of the second router's ports is on that host's network
 not_beside : (port : ℕ) → (network_of segment (at 1 port)).0 ≡ 0x10 → ⊥
-not_beside zero e = absurd (omega (arith, e))
-not_beside (suc zero) e = absurd (omega (arith, e))
-not_beside (suc (suc port)) e = absurd (omega (arith, e))
+not_beside port e = grind arith
 
 pub second_fewest : IsFewest segment (ups segment start.histories) (server 0x10) 1 2
 second_fewest = (beyond 0 (at 0 1) (λ e. absurd (omega (arith, e))) refl refl refl (beside 0 0 _ refl refl refl), least)

@@ -1,5 +1,6 @@
 -- What the laws of time ask for is met: by two routers on one segment, as of `Waiting`, that were started and of which what they sent was
 -- lost; by the ticks of a period, with nothing that waits; by a tick in which a host announces a server, and by a packet of a host.
+use Rattle.std.proofs.lemmas.Grind.{common_steps}
 use Rattle.std.proofs.Common.{◌≡◌, refl, ap, get_or, drop, ℕ, ◌-◌, zero, suc, ◌+◌, ◌<◌, ◌≤◌, false, List, [], ◌∷◌, ◌++◌, length, replicate, arith}
 use Rattle.std.specs.List.{AllByRecursion}
 use Rattle.ipx_wire.specs.Address.{address_bytes, address_at}
@@ -85,8 +86,7 @@ each_once (suc zero) n within = seconds_then 1 (a_tick 2 0) n refl
 each_once (suc (suc router)) n within = absurd (omega (arith, within))
 
 empty : {X : Type 0} (xs : List X) → length xs ≡ 0 → xs ≡ []
-empty [] e = refl
-empty (x ∷ xs) e = absurd (omega (arith, e))
+empty xs e = grind (arith, common_steps)
 
 pub are_by : (most : ℕ) (run : Run) (counts : List ℕ) → left most run counts ≡ replicate (length counts) 0 → AreTicks segment most most run (ticks counts)
 are_by most run [] e = tt
@@ -110,14 +110,10 @@ enough = omega arith
 
 pub all_real : (router : ℕ) → router < 2
     → AllByRecursion (IsReal segment (ups segment started) router) (offers (routes_held (ports_of segment router) 1 (history_of started router)))
-all_real zero within = tt
-all_real (suc zero) within = tt
-all_real (suc (suc router)) within = absurd (omega (arith, within))
+all_real router within = grind arith
 
 pub no_service : (router : ℕ) → router < 2 → services_held (ports_of segment router) 1 (history_of started router) ≡ []
-no_service zero within = refl
-no_service (suc zero) within = refl
-no_service (suc (suc router)) within = absurd (omega (arith, within))
+no_service router within = grind arith
 
 -- ---- a packet of a host on 10h, to 30h
 

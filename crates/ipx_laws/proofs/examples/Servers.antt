@@ -1,6 +1,6 @@
 -- Two routers on one segment. A host on 10h announces a file server. The first router has it then, one hop away as it was said, and the second
 -- one two hops away.
-use Rattle.std.proofs.Common.{◌≡◌, refl, sym, ap, ℕ, false, List, [], ◌∷◌, map, inl, inr, is_some, true≢false, arith}
+use Rattle.std.proofs.Common.{◌≡◌, refl, ℕ, false, List, [], ◌∷◌, map, inl, arith}
 use Rattle.ipx_wire.specs.Address.{address_bytes, address_at}
 use Rattle.ipx_wire.specs.Crossed.{network_bytes, network_at}
 use Rattle.ipx_wire.specs.Header.{header_bytes, header_at}
@@ -80,8 +80,7 @@ is_said = record {
 
 -- a router that is stopped accepts nothing: what comes to it says nothing
 pub dropped : IsAccepted (ports_of segment 0) 8 8 [] 0 announcement → ⊥
-dropped (inl (message, heard)) = true≢false (sym (ap is_some heard))
-dropped (inr some) = some refl
+dropped given = grind arith
 
 -- so it is announced as the second router has it
 pub is_announced : IsAnnounced segment 8 8 start (tick ∷ []) (server 2)

@@ -1,6 +1,7 @@
 -- What the law of tables that stay asks for is met by the two routers on one segment of `Premises`, that were started and
 -- of which what they sent was lost: by the ticks of two periods, and by those of one in which a host announces a server, and one more in
 -- which it does so again: the services stay.
+use Rattle.std.proofs.lemmas.Grind.{common_steps}
 use Rattle.std.proofs.Common.{◌≡◌, refl, ap, sym, ◌∙◌, get_or, drop, ℕ, ◌+◌, ◌*◌, ◌-◌, zero, suc, ◌<◌, List, [], ◌∷◌, ◌++◌, length, map, replicate, arith}
 use Rattle.std.specs.List.{AllByRecursion}
 use Rattle.ipx_wire.specs.Address.{address_bytes, address_at}
@@ -79,14 +80,10 @@ happens zero = ((omega arith, tt, tt), ((omega arith, omega arith, bytes), ((ome
 happens (suc n) = ((omega arith, tt, tt), ((omega arith, tt, tt), all_settle (IsStep segment) tt n))
 
 each : (kind router : ℕ) → router < 2 → seconds_of router (tick_of kind) ≡ 1
-each zero zero within = refl
-each zero (suc zero) within = refl
-each zero (suc (suc router)) within = absurd (omega (arith, within))
-each (suc n) router within = each_once router n within
+each kind router within = grind (arith, each_once)
 
 empty : {X : Type 0} (xs : List X) → length xs ≡ 0 → xs ≡ []
-empty [] e = refl
-empty (x ∷ xs) e = absurd (omega (arith, e))
+empty xs e = grind (arith, common_steps)
 
 busy_by : (run : Run) (kinds : List ℕ) → waits run kinds ≡ replicate (length kinds) 0 → EachTick segment 8 8 (IsBusyTick segment 8 8) run (ticks_of kinds)
 busy_by run [] e = tt

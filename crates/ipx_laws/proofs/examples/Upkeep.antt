@@ -1,5 +1,6 @@
 -- Two routers on one segment, as of `Waiting`, of which each knows the other's network: in a period their tables stay as they are, and each
 -- sends the other one page; but a route that is old ends. And how much a page is for internets of some sizes.
+use Rattle.std.proofs.lemmas.Grind.{common_steps}
 use Rattle.std.proofs.Common.{◌≡◌, refl, sym, ap, ◌∙◌, get_or, drop, ℕ, ◌+◌, zero, suc, ◌<◌, ◌-◌, ◌*◌, ◌/◌, flat_map, List, [], ◌∷◌, ◌++◌, length, map, replicate, arith}
 use Rattle.ipx_wire.specs.Address.{address_bytes, address_at}
 use Rattle.ipx_wire.specs.Crossed.{network_bytes, network_at}
@@ -33,9 +34,7 @@ minute = flat_map (λ n. a_tick 2 0) (numbers (period - 1)) ++ a_tick 2 2
 
 -- each router has as many seconds in it
 pub a_period : (router : ℕ) → router < 2 → seconds_of router minute ≡ period
-a_period zero within = refl
-a_period (suc zero) within = refl
-a_period (suc (suc router)) within = absurd (omega (arith, within))
+a_period router within = grind (arith, common_steps)
 
 -- routes and services of both after each step
 abbrev tables : List History → List (List RouteOffer × List ServiceOffer)
