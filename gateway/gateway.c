@@ -100,25 +100,14 @@ static bool goes_on(const uint8_t *packet, const uint8_t *heard)
     return memcmp(packet + AT_FROM_NODE, heard + AT_FROM_NODE, HEADER - AT_FROM_NODE) == 0;
 }
 
-/* Whether a packet of the router's answers what a client of a network asked, or somebody in its name. */
-static bool is_answer(const network *on, const origin *by, const ipxr_packet_sent *sent)
-{
-    bool asks = by != NULL && by->client != NULL && by->kind == IPXR_KIND_QUESTION;
-    return asks && sent->port == on->set->port && same_node(sent->node, by->client->place);
-}
-
-/* Sends what the router has to send, once it heard what somebody said on a network; or else by itself, where all are NULL. */
-static void send_all(gateway *it, network *on, const origin *by, const uint8_t *heard)
+/* Sends what the router has to send, once it heard what somebody said; or else by itself, where both are NULL. */
+static void send_all(gateway *it, const origin *by, const uint8_t *heard)
 {
     size_t count = ipxr_sent(&it->router);
     for (size_t k = 0; k < count; k++) {
         ipxr_packet_sent sent;
         uint8_t *packet = gateway_room(it);
-        if (ipxr_get(&it->router, k, &sent, packet, LONGEST) != 0)
-            continue;
-        if (is_answer(on, by, &sent) && !throttle_lets_router_answer(&on->throttle, by->client))
-            gateway_lose(on, TOO_MANY_ANSWERS);
-        else
+        if (ipxr_get(&it->router, k, &sent, packet, LONGEST) == 0)
             gateway_send(it, &it->ports[sent.port], by != NULL && goes_on(packet, heard) ? by : NULL, sent.node, packet, sent.length);
     }
     ipxr_clear(&it->router);
@@ -126,7 +115,7 @@ static void send_all(gateway *it, network *on, const origin *by, const uint8_t *
 
 void gateway_send_all(gateway *it)
 {
-    send_all(it, NULL, NULL, NULL);
+    send_all(it, NULL, NULL);
 }
 
 void gateway_note(const network *on, const uint8_t *packet, size_t length, const char *became)
@@ -156,7 +145,7 @@ void gateway_hear(gateway *it, network *on, const origin *by, const uint8_t *pac
         gateway_lose(on, NO_MEMORY);
     else if (IPXR_DROPPED(became))
         count_drop(&on->counts, became);
-    send_all(it, on, by, packet);
+    send_all(it, by, packet);
 }
 
 /* ---- Turns ---- */
