@@ -212,7 +212,7 @@ static void let_tunnels_pass(gateway *it, uint64_t passed)
     speakers_second();
     segments_second(it);
     for (size_t k = 0; k < it->count; k++)
-        kinds_second(&it->networks[k].kinds);
+        ipxr_kinds_second(&it->networks[k].kinds);
     loops_second(it);
 }
 

@@ -57,7 +57,7 @@ typedef struct network {
     ipxr_segment *segment; /* of its network's links, where it is one of several; */
     uint8_t link;          /* and its number there */
     loop loop;             /* whether it is one cable with another of them */
-    kinds kinds;           /* of frames, which its stations use, where they may use any; */
+    ipxr_kinds kinds;      /* of frames, which its stations use, where they may use any; */
     uint64_t kind_told;    /* and where not, when one that used another was told last, or 0 */
 } network;
 

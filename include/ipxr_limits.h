@@ -23,6 +23,9 @@
  * What the router says to a client: ipxr_limits_router_answers if it answers a question, then ipxr_limits_hears_router, or
  * ipxr_household_receives_of_router.
  *
+ * A NARROW LINE (ipxr_line_..) is shared by all clients that it reaches. Ask ipxr_line_room before the client, and ipxr_line_send if the
+ * copy goes out.
+ *
  * QUEUES. Whoever speaks to a client has a queue there, one of IPXR_SPEAKERS, and the same one at the client's address. Its number is
  * yours, or one that ipxr_queues_take gives. Those who have one together share its part.
  *
@@ -140,6 +143,38 @@ typedef struct ipxr_queues {
     uint8_t last;        /* the one that was given last */
 } ipxr_queues;
 
+/* ---- A narrow line ---- */
+
+/* A line by which clients are reached, and which is narrow. With all bytes 0 it carries one kilobit a second, and nobody is on it. Moments are
+ * nanoseconds of your clock. */
+typedef struct ipxr_line {
+    uint32_t kilobits;     /* a second, where 0 is 1. Set it when you like */
+    uint32_t addresses;    /* how many have clients there, */
+    uint32_t speakers;     /* and how many speak to these, with clients there or elsewhere */
+    uint64_t used;         /* the moment until which the line is busy, */
+    uint64_t own;          /* until which the part of your own datagrams is used, */
+    uint64_t to_strangers; /* and until which that of datagrams to those who are no clients is */
+    ipxr_queues numbers;   /* who has which number */
+} ipxr_line;
+
+/* An address that has clients there, or speaks to such. With all bytes 0 it has none, and never spoke. */
+typedef struct ipxr_line_address {
+    uint32_t clients;    /* that it has there */
+    uint8_t number;      /* that it has while it speaks, or 0, */
+    uint8_t quiet;       /* and seconds since it did */
+    uint64_t received;   /* the moment until which its part of the line is used, */
+    uint64_t within[64]; /* until which the parts of that are, of each who speaks to it, by his number, */
+    uint64_t spoken[64]; /* and until which is used what each may say to it beyond that */
+} ipxr_line_address;
+
+/* Which copies come first, the last of all. These numbers have no words. */
+#define IPXR_LINE_FULL 0       /* there is no room */
+#define IPXR_LINE_BEYOND 1     /* beyond all parts; any other number means this, too */
+#define IPXR_LINE_OF_ADDRESS 2 /* within the part of the address */
+#define IPXR_LINE_OF_SPEAKER 3 /* within what the speaker may say to the address at once */
+#define IPXR_LINE_LITTLE 4     /* the speaker says little to all together */
+#define IPXR_LINE_WITHIN 5     /* within the part that the speaker has of the address' part */
+
 /* ---- Making ---- */
 
 /* Makes the limits of a network whose link is of that kind. A client there receives `rate` packets a second and two shares more; a `share`
@@ -232,6 +267,40 @@ IPXR_CALL void ipxr_queues_give_back(ipxr_queues *queues, uint8_t queue);
 /* Whether so many datagrams go to a place without a client, all of them or none. `address` is used of what may go to its address, and `all`
  * of what may go to all such places. */
 IPXR_CALL uint8_t ipxr_strangers_send(const ipxr_strangers_limits *limits, uint32_t count, ipxr_meter *address, ipxr_meter *all);
+
+/* ---- A narrow line ---- */
+
+/* An address has one more client there, or one fewer. */
+IPXR_CALL void ipxr_line_join(ipxr_line *line, ipxr_line_address *address);
+IPXR_CALL void ipxr_line_leave(ipxr_line *line, ipxr_line_address *address);
+
+/* An address speaks, with clients there or elsewhere. Returns the number that it has then, one from 1 to 63. It has it until a second finds it
+ * silent for ten; or until it is silenced, since it is gone. If more speak than there are numbers, some share one. */
+IPXR_CALL uint8_t ipxr_line_speak(ipxr_line *line, ipxr_line_address *address);
+IPXR_CALL void ipxr_line_second(ipxr_line *line, ipxr_line_address *address);
+IPXR_CALL void ipxr_line_silence(ipxr_line *line, ipxr_line_address *address);
+
+/* Whether there is room for a copy of a packet of so many bytes to an address: its rank, or IPXR_LINE_FULL. The speaker has that number, or 0
+ * if it is the router or a network of another kind; `said` is the moment until which his part of what he says to all is used, 0 at first.
+ * Nothing is used yet but that debts of the parts are held to what is owed now. */
+IPXR_CALL uint8_t ipxr_line_room(const ipxr_line *line, uint64_t now, uint8_t number, size_t bytes, uint64_t *said, ipxr_line_address *to);
+
+/* It goes out with that rank. */
+IPXR_CALL void ipxr_line_send(ipxr_line *line, uint64_t now, uint8_t number, size_t bytes, uint8_t rank, uint64_t *said,
+                              ipxr_line_address *to);
+
+/* Whether an answer of your own goes out to a client; and it does, or a ping, for which there is always room: by it clients stay. */
+IPXR_CALL ipxr_flag ipxr_line_lets_own(const ipxr_line *line, uint64_t now);
+IPXR_CALL void ipxr_line_send_own(ipxr_line *line, uint64_t now, size_t bytes);
+
+/* Whether there is room for what you say to one who is no client; and it goes out. `address` is the moment until which the part is used which
+ * his address has of what goes to all who are none, 0 at first. */
+IPXR_CALL ipxr_flag ipxr_line_lets_stranger(ipxr_line *line, uint64_t now, uint64_t *address);
+IPXR_CALL void ipxr_line_send_to_stranger(ipxr_line *line, uint64_t now, size_t bytes, uint64_t *address);
+
+/* Writes into `between` how many nanoseconds should pass from a ping of so many bytes to the next, so that those of many clients keep
+ * to the part of your own datagrams. */
+IPXR_CALL void ipxr_line_between_pings(const ipxr_line *line, size_t bytes, uint64_t *between);
 
 #ifdef __cplusplus
 }

@@ -4,8 +4,11 @@
 
 #include "configuration/reader.h"
 
-/* Reads the line that the word, its first, begins. Returns false where none begins so, and nothing is told then. */
-bool read_line_below(reader *r, const char *word);
+/* Takes what a line says that begins neither with network nor with link. */
+void take_line_below(reader *r);
+
+/* Whether a line here stands below a tunnel. */
+bool is_below_tunnel(reader *r);
 
 /* All networks on a link with frames share what it receives, so a rate that is below one of them holds for all. */
 void share_rate(reader *r, network_setting *of);

@@ -73,7 +73,7 @@ static void move_networks(gateway *it, const settings *set)
             *on = *was;
         on->segment = NULL;
         on->set = &set->networks[k];
-        if (on->loop.is_shut)
+        if (loop_is_shut(&on->loop))
             on->lacks = on->loop.why; /* (which has moved, too) */
         const ipxr_plan_origin *origin = &next.origins[k];
         on->cable = origin->is_kept ? move_cable(it, before.networks[origin->cable].cable, on->set) : NULL;
@@ -90,19 +90,14 @@ static network *first_of_network(gateway *it, uint32_t number)
     return k < it->count ? &it->networks[k] : NULL;
 }
 
-/* What was counted of links that are there no more goes on at another of their network: a network's counts only grow. (a listener
- * that another network has from now on counts for that one) */
+/* What was counted of links that are there no more goes on at another of their network: a network's counts only grow. */
 static void count_on(gateway *it)
 {
     for (size_t k = 0; k < before.count; k++) {
-        network *gone = &before.networks[k];
-        size_t becomes = next.fates[k].becomes;
-        network *on = becomes == IPXR_NO_ONE ? first_of_network(it, gone->set->network) : &it->networks[becomes];
-        const cable *moved = before.moved[gone->cable - before.cables];
-        if (becomes == IPXR_NO_ONE && on != NULL)
+        const network *gone = &before.networks[k];
+        network *on = next.fates[k].becomes == IPXR_NO_ONE ? first_of_network(it, gone->set->network) : NULL;
+        if (on != NULL)
             counts_add(&on->counts, &gone->counts);
-        if (on != NULL && gone->set->type == LINK_QEMU_LISTEN && (moved == NULL || on->cable != moved))
-            on->counts.refused += gone->cable->refused;
     }
 }
 

@@ -1,4 +1,4 @@
-/* Addresses of IPv4 that begin with the same bits, and lists of them. */
+/* Addresses of IPv4 that begin with the same bits, and lists of them: the library says which they have (ipxr_cable.h). */
 #ifndef RANGE_H
 #define RANGE_H
 
@@ -6,6 +6,7 @@
 #include <stddef.h>
 #include <stdint.h>
 
+#include "ipxr_cable.h"
 #include "systems/address.h"
 
 enum {
@@ -13,18 +14,12 @@ enum {
     MOST_RANGES = 16, /* of a list */
 };
 
-typedef struct range {
-    uint8_t host[4]; /* the first of them */
-    uint8_t bits;    /* that all have in common */
-} range;
+typedef ipxr_range range;
 
 typedef struct ranges {
     range list[MOST_RANGES];
     size_t count;
 } ranges;
-
-/* Whether an address is the first of those that begin with so many of its bits. */
-bool is_first(const uint8_t host[4], uint8_t bits);
 
 /* Whether an address is in one of them. */
 bool ranges_have(const ranges *it, const address *at);

@@ -6,8 +6,8 @@
 /* Where reading ends: a file that somebody named by mistake may be endless, and nobody is heard while it is read. */
 enum { LONGEST_LINE = LINE_ROOM - 1, LONGEST_FILE = 1 << 20, MOST_FAULTS = 1000 };
 
-/* Bytes of a word that are shown: who wrote a longer one knows it by these; and of their text, with the 0 behind. */
-enum { MOST_SHOWN = 100, SHOWN_ROOM = 4 * MOST_SHOWN + sizeof ".." };
+/* Bytes of the text of a word, with the 0 behind. */
+enum { SHOWN_ROOM = 4 * MOST_SHOWN + sizeof ".." };
 
 static const char BLANKS[] = " \t\r\n\v\f";
 
@@ -88,25 +88,11 @@ char *reader_begin(reader *r, char *line, size_t *length)
     return line + mark;
 }
 
-const char *reader_word(reader *r)
+const char *reader_word(reader *r, size_t number)
 {
-    return r->next < r->count ? r->words[r->next++] : NULL;
-}
-
-bool reader_ends(reader *r)
-{
-    return r->next == r->count || reader_fault(r, r->words[r->next], "expected nothing more");
-}
-
-bool reader_cut(reader *r, char *line)
-{
-    char *rest;
-    line[strcspn(line, "#")] = '\0';
-    r->count = r->next = 0;
-    for (char *word = strtok_r(line, BLANKS, &rest); word != NULL; word = strtok_r(NULL, BLANKS, &rest)) {
-        if (r->count == MOST_WORDS)
-            return reader_fault(r, word, "expected at most %d words", MOST_WORDS);
-        r->words[r->count++] = word;
-    }
-    return true;
+    size_t start = 0, length = ipxr_settings_word((const uint8_t *)r->text, r->length, number, &start);
+    size_t shown = length < sizeof r->word ? length : sizeof r->word - 1;
+    memcpy(r->word, r->text + start, shown);
+    r->word[shown] = '\0';
+    return length > 0 ? r->word : NULL;
 }

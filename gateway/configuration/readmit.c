@@ -42,15 +42,18 @@ static void keep_newcomers(network *on, const strangers *old)
     }
 }
 
-/* A client stays in the list of clients, with what was counted of it. */
-static void keep_client(network *on, const known_client *client)
+/* A client stays in the list of clients, with what was counted of it, and how long it has been silent. (where it is trusted now and wasn't,
+ * or was and isn't, that means something else, and begins anew) */
+static void keep_client(const gateway *it, network *on, network *old, const known_client *client)
 {
     tunnel_list(on, client->place);
-    member *kept = roster_find(&on->roster, client->place);
-    if (kept == NULL)
+    member *kept = roster_find(&on->roster, client->place), *was = roster_find(&old->roster, client->place);
+    if (kept == NULL || was == NULL)
         return;
     kept->refused = client->refused;
     memcpy(kept->dropped, client->dropped, sizeof kept->dropped);
+    kept->kept = it->seconds;
+    kept->silent = kept->is_trusted == was->is_trusted ? roster_silence(was, it->seconds, client->heard) : 0;
 }
 
 /* Those who were clients stay as far as they may and can. */
@@ -59,7 +62,7 @@ static void keep_clients(const gateway *it, network *on, network *old)
     known_client client;
     for (size_t k = 0; tunnel_client(old, k, &client); k++)
         if (is_let_in(it, on, &client))
-            keep_client(on, &client);
+            keep_client(it, on, old, &client);
         else
             tunnel_tell_leaves(on, client.place);
 }

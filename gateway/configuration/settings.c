@@ -11,8 +11,6 @@
 #include "systems/card.h"
 #include "systems/system.h"
 
-enum { SHORTEST_LONGEST = 576 };
-
 /* Bytes of a name and a port, with the 0 behind. */
 enum { PLACE_ROOM = HOST_ROOM + 8 };
 
@@ -26,21 +24,6 @@ enum {
     TUNNEL_SERVICES = IPXR_MOST_SERVICES / IPXR_MOST_PORTS,
 };
 
-/* The default route and all networks: numbers that no network has. */
-#define FIRST_RESERVED 0xFFFFFFFEu
-
-/* The words that a person may write for a link, and the longest packet that it carries. */
-static const struct {
-    const char *word;
-    link_type type;
-} LINKS[] = {
-    {"dosbox", LINK_DOSBOX},   {"qemu-udp", LINK_QEMU_UDP},   {"qemu-tcp", LINK_QEMU_LISTEN},
-    {"tap", LINK_TAP},         {"interface", LINK_INTERFACE},
-};
-enum { LINK_COUNT = sizeof LINKS / sizeof *LINKS };
-#define LINK_WORDS "dosbox, qemu-udp, qemu-tcp, tap or interface"
-#define LINK_WORDS_WITHOUT_CARDS "dosbox, qemu-udp or qemu-tcp"
-
 /* The kinds of frames, and bytes of the longest packet in each; the first stands for the tunnel, and the last for all of them. */
 static const struct {
     char word[KIND_ROOM];
@@ -50,123 +33,26 @@ static const struct {
 /* (one more kind of the library needs its word) */
 typedef char has_word_for_each_kind[sizeof KINDS / sizeof *KINDS == ANY_KIND + 1 ? 1 : -1];
 
-#define KIND_WORDS "raw, ethernet2, llc, snap or auto"
-
 const char *kind_word(uint8_t kind)
 {
     return KINDS[kind].word;
 }
 
-/* ---- The words of a network ---- */
+/* ---- What a line says ---- */
 
-static bool read_network(reader *r, network_setting *it)
-{
-    const char *word = reader_word(r);
-    if (word == NULL || !is_hexadecimal(word, 8, &it->network) || it->network == 0 || it->network >= FIRST_RESERVED)
-        return reader_fault(r, word, "expected the number of a network in hexadecimal digits, 1 to FFFFFFFD");
-    for (size_t k = 0; k < r->into->count; k++)
-        if (r->into->networks[k].network == it->network)
-            return reader_fault(r, word, "expected another network, this one is that of line %zu", r->into->networks[k].network_line);
-    return true;
-}
+/* What carries a link, by the library's number; LINK_DOSBOX stands for none, too. */
+static const link_type CARRIERS[] = {
+    [IPXR_OVER_UDP] = LINK_QEMU_UDP, [IPXR_OVER_LISTEN] = LINK_QEMU_LISTEN, [IPXR_OVER_CONNECT] = LINK_QEMU_CONNECT,
+    [IPXR_OVER_TAP] = LINK_TAP, [IPXR_OVER_INTERFACE] = LINK_INTERFACE, [IPXR_OVER_TUNNEL] = LINK_DOSBOX,
+};
 
-static bool read_cost_and_longest(reader *r, network_setting *it)
+static address address_said(const ipxr_setting_host *said)
 {
-    uint32_t cost, longest;
-    const char *word = reader_word(r);
-    if (word == NULL || !is_number(word, 65535, &cost) || cost == 0)
-        return reader_fault(r, word, "expected the cost in ticks, 1 to 65535");
-    word = reader_word(r);
-    if (word == NULL || !is_number(word, LONGEST, &longest) || longest < SHORTEST_LONGEST)
-        return reader_fault(r, word, "expected the bytes of the longest packet, %d to %d", SHORTEST_LONGEST, LONGEST);
-    it->cost = (uint16_t)cost;
-    it->longest = (uint16_t)longest;
-    return true;
-}
-
-/* Both shares, where the next word is a number. */
-static bool read_shares(reader *r, network_setting *it)
-{
-    uint32_t routes, services;
-    if (r->next == r->count || r->words[r->next][0] < '0' || r->words[r->next][0] > '9')
-        return true;
-    const char *word = reader_word(r);
-    if (!is_number(word, 65535, &routes))
-        return reader_fault(r, word, "expected the most routes, 0 to 65535");
-    word = reader_word(r);
-    if (word == NULL || !is_number(word, 65535, &services))
-        return reader_fault(r, word, "expected the most services, 0 to 65535");
-    it->has_shares = true;
-    it->routes = (uint16_t)routes;
-    it->services = (uint16_t)services;
-    return true;
-}
-
-/* Where the gateway is. */
-static bool read_local(reader *r, network_setting *it)
-{
-    const char *word = reader_word(r);
-    if (word == NULL || !is_address(word, &it->local))
-        return reader_fault(r, word, "expected a numeric address and a port, such as 127.0.0.1:5001, or a port alone");
-    return it->type != LINK_DOSBOX || !it->local.is_six ||
-           reader_fault(r, word, "expected an address of IPv4: a client's node is its address and port, and has six bytes");
-}
-
-/* Where the other end is. */
-static bool read_remote(reader *r, network_setting *it)
-{
-    const char *word = reader_word(r);
-    if (word == NULL || !is_place(word, &it->remote, it->host) || it->remote.port == 0)
-        return reader_fault(r, word, "expected an address and a port, such as 127.0.0.1:5001 or b.example.net:5001");
-    return it->type != LINK_QEMU_UDP || it->host[0] != '\0' || it->remote.is_six == it->local.is_six ||
-           reader_fault(r, word, "expected an address of %s, like the one before it", it->local.is_six ? "IPv6" : "IPv4");
-}
-
-/* Whether Linux takes it for the name of one interface: with a % it would make up a number, and with the others it takes none. */
-static bool is_name(const char *word)
-{
-    return strlen(word) < NAME_ROOM && strpbrk(word, "%/:") == NULL && strcmp(word, ".") != 0 && strcmp(word, "..") != 0;
-}
-
-static bool read_name(reader *r, network_setting *it)
-{
-    const char *word = reader_word(r);
-    if (word == NULL || !is_name(word))
-        return reader_fault(r, word, "expected the name of %s, of at most %d bytes, without %% / and :",
-                            it->type == LINK_TAP ? "a TAP" : "an interface", NAME_ROOM - 1);
-    strcpy(it->name, word);
-    return true;
-}
-
-/* `listen ADDRESS` or `connect ADDRESS`. */
-static bool read_connection(reader *r, network_setting *it)
-{
-    const char *word = reader_word(r);
-    if (word != NULL && strcmp(word, "listen") == 0)
-        return read_local(r, it);
-    if (word == NULL || strcmp(word, "connect") != 0)
-        return reader_fault(r, word, "expected listen or connect");
-    it->type = LINK_QEMU_CONNECT;
-    return read_remote(r, it);
-}
-
-static bool is_card(link_type type)
-{
-    return type == LINK_TAP || type == LINK_INTERFACE;
-}
-
-static bool read_type(reader *r, network_setting *it)
-{
-    const char *word = reader_word(r);
-    size_t k = 0;
-    while (word != NULL && k < LINK_COUNT && strcmp(word, LINKS[k].word) != 0)
-        k++;
-    if (word == NULL || k == LINK_COUNT)
-        return reader_fault(r, word, "expected %s", has_cards() ? LINK_WORDS : LINK_WORDS_WITHOUT_CARDS);
-    it->type = LINKS[k].type;
-    if (is_card(it->type) && !has_cards())
-        return reader_fault(r, word, "expected %s: only Linux has TAPs and interfaces", LINK_WORDS_WITHOUT_CARDS);
-    return true;
+    address it = {.is_six = said->is_six, .port = said->port};
+    memcpy(it.host, said->four, sizeof it.host);
+    for (size_t k = 0; k < 8; k++)
+        put16(it.six + 2 * k, said->six[k]);
+    return it;
 }
 
 /* What holds where no line says more of a network. */
@@ -184,60 +70,30 @@ static void choose_defaults(network_setting *it)
     it->services = is_tunnel ? TUNNEL_SERVICES : IPXR_NO_LIMIT;
 }
 
-static bool read_link(reader *r, network_setting *it)
+static void take_link(network_setting *it, const ipxr_setting_link *said)
 {
-    if (!read_type(r, it))
-        return false;
+    it->type = CARRIERS[said->carrier];
+    it->kind = said->frames;
+    it->local = address_said(&said->local);
+    it->remote = address_said(&said->remote);
+    memcpy(it->host, said->host, sizeof it->host);
+    memcpy(it->name, said->name, sizeof it->name);
     choose_defaults(it);
-    switch (it->type) {
-    case LINK_DOSBOX:
-        return read_local(r, it);
-    case LINK_QEMU_UDP:
-        return read_local(r, it) && read_remote(r, it);
-    case LINK_QEMU_LISTEN:
-    case LINK_QEMU_CONNECT:
-        return read_connection(r, it);
-    default:
-        return read_name(r, it);
-    }
 }
 
-static bool read_kind(reader *r, network_setting *it)
+static void take_network(network_setting *it, const ipxr_setting_network *said)
 {
-    it->kind = IPXR_NO_FRAME;
-    if (it->type == LINK_DOSBOX)
-        return true;
-    const char *word = reader_word(r);
-    for (uint8_t kind = IPXR_FRAME_ETHERNET2; word != NULL && kind <= ANY_KIND; kind++)
-        if (strcmp(word, KINDS[kind].word) == 0) {
-            it->kind = kind;
-            return true;
-        }
-    return reader_fault(r, word, "expected the kind of frames: %s", KIND_WORDS);
+    it->network = said->number;
+    it->cost = said->cost;
+    it->longest = said->longest;
+    it->has_shares = said->has_shares;
+    it->routes = said->routes;
+    it->services = said->services;
+    it->has_node = said->has_node;
+    memcpy(it->node, said->node, sizeof it->node);
 }
 
-/* `node NODE`, if the line goes on. */
-static bool read_node(reader *r, network_setting *it)
-{
-    if (r->next == r->count)
-        return true;
-    const char *word = reader_word(r);
-    if (strcmp(word, "node") != 0)
-        return reader_fault(r, word, "expected node, or nothing more");
-    word = reader_word(r);
-    if (word == NULL || !is_node(word, it->node) || (it->node[0] & 1) != 0 || memcmp(it->node, "\0\0\0\0\0", sizeof it->node) == 0)
-        return reader_fault(r, word, "expected a node, twelve digits, such as 02005E000001, whose first byte is even");
-    it->has_node = true;
-    return true;
-}
-
-/* The gateway's node on the one link of a network, where it has neither a card of its own nor a tunnel there. */
-static bool read_node_on_link(reader *r, network_setting *it)
-{
-    return it->type == LINK_DOSBOX || it->type == LINK_INTERFACE || read_node(r, it);
-}
-
-/* ---- What the words say together ---- */
+/* ---- What lines say together ---- */
 
 bool same_link(const network_setting *a, const network_setting *b)
 {
@@ -322,19 +178,32 @@ static bool fits(reader *r, const network_setting *it)
 
 /* ---- Networks and links ---- */
 
-/* A link, with its kind of frames; and with its rate, where another network on it has one. */
-static bool read_whole_link(reader *r, network_setting *it)
+static bool is_another_network(reader *r)
 {
-    if (!read_link(r, it) || !read_kind(r, it) || !is_single(r, it) || !is_for_another(r, it) || !fits(r, it))
-        return false;
-    share_rate(r, it);
+    uint32_t number = r->said.network.number;
+    for (size_t k = 0; k < r->into->count; k++)
+        if (number != 0 && r->into->networks[k].network == number)
+            return reader_fault(r, reader_word(r, 1), "expected another network, this one is that of line %zu", r->into->networks[k].network_line);
     return true;
 }
 
-/* Whether the line says no link: its end comes first, or the gateway's node. */
-static bool has_no_link(const reader *r)
+/* Whether a network's line goes on with a link, right or wrong. */
+static bool goes_on_with_link(const reader *r)
 {
-    return r->next == r->count || strcmp(r->words[r->next], "node") == 0;
+    bool is_wrong = r->expected == IPXR_EXPECTED_LINK || r->expected == IPXR_EXPECTED_LINK_OF_SYSTEM;
+    return r->said.link.has_word || is_wrong;
+}
+
+/* A link, with its kind of frames; and with its rate, where another network on it has one. */
+static bool take_whole_link(reader *r, network_setting *it)
+{
+    if (r->said.link.carrier == IPXR_OVER_NONE)
+        return reader_fault_of_word(r);
+    take_link(it, &r->said.link);
+    if (!is_single(r, it) || !is_for_another(r, it) || !fits(r, it))
+        return false;
+    share_rate(r, it);
+    return true;
 }
 
 /* A network has had all its lines: one of them named a link. */
@@ -343,7 +212,7 @@ static void end_network(reader *r)
     size_t line = r->line;
     if (r->has_links_below && !r->is_below_wrong && r->into->count == r->first) {
         r->line = r->network.network_line;
-        reader_fault(r, NULL, "expected %s, or lines below it that begin with link", has_cards() ? LINK_WORDS : LINK_WORDS_WITHOUT_CARDS);
+        reader_fault(r, NULL, "expected %s, or lines below it that begin with link", link_choices());
         r->line = line;
     }
     r->has_links_below = false;
@@ -351,24 +220,25 @@ static void end_network(reader *r)
 
 static bool has_room_for_link(reader *r)
 {
-    return r->into->count < MOST_LINKS || reader_fault(r, r->words[0], "expected at most %d links", MOST_LINKS);
+    return r->into->count < MOST_LINKS || reader_fault(r, reader_word(r, 0), "expected at most %d links", MOST_LINKS);
 }
 
-static void read_network_line(reader *r)
+static void take_network_line(reader *r)
 {
     network_setting it = {.line = r->line, .network_line = r->line, .port = (uint8_t)r->into->ports};
     end_network(r);
     r->is_network_wrong = r->is_below_wrong = true;
     if (r->into->ports == IPXR_MOST_PORTS) {
-        reader_fault(r, r->words[0], "expected at most %d networks", IPXR_MOST_PORTS);
+        reader_fault(r, reader_word(r, 0), "expected at most %d networks", IPXR_MOST_PORTS);
         return;
     }
-    if (!read_network(r, &it) || !read_cost_and_longest(r, &it) || !read_shares(r, &it))
+    if (!is_another_network(r))
         return;
-    it.is_of_several = has_no_link(r);
-    if (!it.is_of_several && !has_room_for_link(r))
+    take_network(&it, &r->said.network);
+    it.is_of_several = !goes_on_with_link(r);
+    if (!it.is_of_several && (!has_room_for_link(r) || !take_whole_link(r, &it)))
         return;
-    if (!(it.is_of_several ? read_node(r, &it) : read_whole_link(r, &it) && read_node_on_link(r, &it)) || !reader_ends(r))
+    if (!reader_is_right(r))
         return;
     r->has_links_below = it.is_of_several;
     r->network = it;
@@ -392,7 +262,7 @@ static void agree_on_shares(reader *r)
     }
 }
 
-static void read_link_line(reader *r)
+static void take_link_line(reader *r)
 {
     if (r->is_network_wrong)
         return;
@@ -400,10 +270,10 @@ static void read_link_line(reader *r)
     it.line = r->line;
     r->is_below_wrong = true;
     if (!r->has_links_below)
-        reader_fault(r, r->words[0], "expected below the line of a network that names no link itself");
+        reader_fault(r, reader_word(r, 0), "expected below the line of a network that names no link itself");
     else if (r->into->count - r->first == IPXR_MOST_LINKS)
-        reader_fault(r, r->words[0], "expected at most %d links of a network", IPXR_MOST_LINKS);
-    else if (has_room_for_link(r) && read_whole_link(r, &it) && reader_ends(r)) {
+        reader_fault(r, reader_word(r, 0), "expected at most %d links of a network", IPXR_MOST_LINKS);
+    else if (has_room_for_link(r) && take_whole_link(r, &it) && reader_is_right(r)) {
         r->into->networks[r->into->count++] = it;
         agree_on_shares(r);
         r->is_below_wrong = false;
@@ -412,17 +282,25 @@ static void read_link_line(reader *r)
 
 /* ---- Lines ---- */
 
-static void read_line(reader *r, char *line)
+static void read_line(reader *r, const char *text, size_t length)
 {
-    const char *word = reader_cut(r, line) ? reader_word(r) : NULL;
-    if (word == NULL)
-        return;
-    if (strcmp(word, "network") == 0)
-        read_network_line(r);
-    else if (strcmp(word, "link") == 0)
-        read_link_line(r);
-    else if (!read_line_below(r, word))
-        reader_fault(r, word, "expected network, link, extend, clients, allow, trust, rate, strangers or line");
+    r->text = text;
+    r->length = length;
+    r->is_below_tunnel = is_below_tunnel(r);
+    r->expected = ipxr_settings_line((const uint8_t *)text, length, has_cards(), r->is_below_tunnel, IPXR_MOST_CLIENTS, &r->said);
+    switch (r->said.kind) {
+    case IPXR_SETTING_NONE:
+        reader_is_right(r);
+        break;
+    case IPXR_SETTING_NETWORK:
+        take_network_line(r);
+        break;
+    case IPXR_SETTING_LINK:
+        take_link_line(r);
+        break;
+    default:
+        take_line_below(r);
+    }
 }
 
 static void read_text(reader *r, char *text, size_t length)
@@ -430,7 +308,7 @@ static void read_text(reader *r, char *text, size_t length)
     if (strlen(text) != length)
         reader_fault(r, text, "expected text, there is a byte 0 behind it");
     else
-        read_line(r, text);
+        read_line(r, text, length);
 }
 
 /* Reads all lines, as long as they aren't too much; returns false where the file fails. */

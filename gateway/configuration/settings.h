@@ -20,6 +20,7 @@ enum {
     USUAL_SHARE = 50,    /* packets a second of who says little, where no line says it: games say some 35 */
     USUAL_HOUSEHOLD = 16, /* times the rate: what all clients of an address receive where no line says it */
     MOST_SOCKETS = 16, /* that a network's `extend` may name */
+    SHORTEST_LONGEST = 576, /* bytes that the longest packet of a network has at least */
     NAME_ROOM = 16,    /* bytes of the name of a TAP or an interface, with the 0 behind */
     MOST_LINKS = IPXR_MOST_PORTS + IPXR_MOST_LINKS, /* of all networks together */
 };

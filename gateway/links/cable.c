@@ -172,6 +172,13 @@ bool cable_was_lost(cable *it)
     return was_lost;
 }
 
+uint64_t cable_refused(cable *it)
+{
+    uint64_t count = it->refused;
+    it->refused = 0;
+    return count;
+}
+
 const address *cable_with(const cable *it)
 {
     if (is_connection(it))

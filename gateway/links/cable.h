@@ -26,7 +26,7 @@ typedef struct cable {
     uint64_t starved;           /* milliseconds of the clock when the system had no room for what is to be received, or 0 */
     bool has_heard;             /* something came from there since one looked, */
     uint64_t heard;             /* and milliseconds of the clock when one last saw so */
-    uint64_t refused;           /* how many came in while somebody was */
+    uint64_t refused;           /* how many came in while somebody was, since one looked */
     uint64_t told;              /* milliseconds of the clock when that was told last */
     bool is_settled;            /* the machine that is connected has said a frame, or has stayed */
     uint64_t taken;             /* milliseconds of the clock when it came in, */
@@ -82,5 +82,8 @@ const address *cable_with(const cable *it);
 
 /* Whether a connection was lost since this was asked last; there may be another already. */
 bool cable_was_lost(cable *it);
+
+/* How many came in while somebody was connected, since this was asked last. */
+uint64_t cable_refused(cable *it);
 
 #endif

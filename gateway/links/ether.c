@@ -186,7 +186,7 @@ static void hear_own(gateway *it, network *on, const uint8_t *packet, size_t len
 static bool is_of_its_kind(network *on, uint8_t kind, const uint8_t *frame, const uint8_t *packet, size_t length)
 {
     char link[LINK_ROOM];
-    bool was_heard = kinds_has(&on->kinds, kind);
+    bool was_heard = ipxr_kinds_is_used(&on->kinds, kind);
     if (on->set->kind != ANY_KIND || is_broadcast(frame + NODE) || !has_length(packet, length))
         return true;
     if (!kinds_hear(&on->kinds, kind, frame + NODE, is_broadcast(frame)))

@@ -16,8 +16,8 @@ enum { MINUTE = 60000 };
 
 const char *link_lacks(const network *on, int *fault)
 {
-    *fault = on->loop.is_shut ? 0 : on->cable->fault;
-    return on->loop.is_shut ? on->loop.why : on->cable->lacks;
+    *fault = loop_is_shut(&on->loop) ? 0 : on->cable->fault;
+    return loop_is_shut(&on->loop) ? on->loop.why : on->cable->lacks;
 }
 
 const char *part_of(const network *on)
@@ -97,13 +97,14 @@ static void look_at(gateway *it, network *on, bool is_up)
 static void look(gateway *it, cable *carrier)
 {
     bool is_up = cable_is_up(carrier), was_lost = cable_was_lost(carrier);
+    first_on(it, carrier)->counts.refused += cable_refused(carrier);
     for (size_t k = 0; k < it->count; k++) {
         network *on = &it->networks[k];
         if (on->cable != carrier)
             continue;
         if (was_lost)
             look_at(it, on, false);
-        look_at(it, on, is_up && !on->loop.is_shut);
+        look_at(it, on, is_up && !loop_is_shut(&on->loop));
         if (!on->is_up && tell_down(on))
             events_link(on);
     }

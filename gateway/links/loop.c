@@ -10,8 +10,6 @@
 
 enum {
     LOOP_SOCKET = 0x8A5E, /* no program's: whoever hears such a packet lets go of it */
-    QUIET = 5,            /* seconds, after which a link is one cable with no other any more */
-    LATE = 3,             /* seconds for which a packet may be under way */
     SEAL = 8,             /* bytes by which the gateway knows its own packet */
 };
 
@@ -90,14 +88,9 @@ static void why_with(const network *with, char why[LOOP_WORDS])
     snprintf(why, LOOP_WORDS, "it is one cable with %s", cable_words(with->cable, with->set, link));
 }
 
-/* A link is one cable with an earlier one. */
-static void shut(gateway *it, network *on, const network *with)
+/* A link is shut now, since it is one cable with an earlier one. */
+static void tell_shut(gateway *it, network *on, const network *with)
 {
-    bool was_shut = on->loop.is_shut;
-    on->loop.is_shut = true;
-    on->loop.quiet = 0;
-    if (was_shut)
-        return;
     why_with(with, on->loop.why);
     links_look(it, on->cable);
 }
@@ -118,7 +111,8 @@ void loops_change(gateway *it)
 {
     it->changes++;
     for (network *on = it->networks; on < it->networks + it->count; on++)
-        on->loop.is_shut = on->loop.is_shut && stays_shut(it, on);
+        if (loop_is_shut(&on->loop) && !stays_shut(it, on))
+            on->loop.shut = (ipxr_loop){0};
 }
 
 static bool is_own(const gateway *it, const network *on, const uint8_t *packet)
@@ -127,21 +121,29 @@ static bool is_own(const gateway *it, const network *on, const uint8_t *packet)
     uint8_t made[DATA];
     memcpy(made, data, DATA);
     put_seal(it, on, made);
-    return memcmp(made, data, DATA) == 0 && it->seconds - second_of(data) <= LATE;
+    return memcmp(made, data, DATA) == 0;
 }
 
 bool loop_hears(gateway *it, network *on, const uint8_t *packet, size_t length)
 {
     if (!is_cable(on) || length < HEADER + DATA || get16(packet + AT_TO_SOCKET) != LOOP_SOCKET || !is_own(it, on, packet))
         return false;
+    const uint8_t *data = packet + HEADER;
     port *router_port = port_of(it, on);
-    network *other = first_of(it, router_port) + packet[HEADER + AT_LINK];
-    if (packet[HEADER + AT_LINK] >= router_port->count)
+    if (data[AT_LINK] >= router_port->count)
         return true; /* (none does: its seal is of the links as they are now) */
-    if (other < on)
-        shut(it, on, other);
-    else if (other > on && !other->loop.is_shut)
-        shut(it, other, on);
+    network *other = first_of(it, router_port) + data[AT_LINK];
+    ipxr_loop same = {0};
+    switch (ipxr_loop_probe(on->link, data[AT_LINK], second_of(data), it->seconds, &on->loop.shut, other != on ? &other->loop.shut : &same)) {
+    case IPXR_PROBE_LATE:
+        return false;
+    case IPXR_PROBE_HERE:
+        tell_shut(it, on, other);
+        break;
+    case IPXR_PROBE_THERE:
+        tell_shut(it, other, on);
+        break;
+    }
     return true;
 }
 
@@ -151,9 +153,7 @@ void loops_second(gateway *it)
         network *on = &it->networks[k];
         if (on->is_up)
             loop_ask(it, on);
-        if (on->loop.is_shut && ++on->loop.quiet > QUIET) {
-            on->loop.is_shut = false;
+        if (ipxr_loop_second(&on->loop.shut))
             links_look(it, on->cable);
-        }
     }
 }

@@ -1,6 +1,6 @@
 /* Two links of a network that are one cable behind the gateway's back, as by a bridge, would carry a broadcast round for ever. So the
  * gateway sends a packet of its own to all on each of them, each second. Where one comes back on another link, the later of the two is
- * shut, until none has come for some seconds. */
+ * shut, until none has come for some seconds: the library decides which, and for how long (ipxr_cable.h). */
 #ifndef LOOP_H
 #define LOOP_H
 
@@ -8,13 +8,19 @@
 #include <stddef.h>
 #include <stdint.h>
 
+#include "ipxr_cable.h"
+
 enum { LOOP_WORDS = 120 /* bytes of why a link is shut, with the 0 behind */ };
 
 typedef struct loop {
-    bool is_shut;
-    unsigned quiet;           /* seconds since such a packet came last */
-    char why[LOOP_WORDS];
+    ipxr_loop shut;       /* whether the link is, */
+    char why[LOOP_WORDS]; /* and why */
 } loop;
+
+static inline bool loop_is_shut(const loop *it)
+{
+    return it->shut.left > 0;
+}
 
 struct gateway;
 struct network;

@@ -120,7 +120,7 @@ static void show_station(const network *on, const uint8_t station[NODE])
 
 static void show_stations_of_any_kind(const network *on)
 {
-    const kind_of_station *station;
+    const ipxr_kind_station *station;
     say("stations on %08" PRIX32 ": %zu", on->set->network, kinds_stations(&on->kinds));
     for (size_t index = 0; (station = kinds_next(&on->kinds, &index)) != NULL;)
         show_station(on, station->node);

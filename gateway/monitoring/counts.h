@@ -44,7 +44,7 @@ typedef struct counts {
     uint64_t in;  /* packets that came, by the link */
     uint64_t out; /* packets that were sent; a broadcast to several clients is one */
     uint64_t extended; /* copies of broadcasts that were handed to this network */
-    uint64_t refused;  /* connections, while a PC was connected, to a link that is there no more */
+    uint64_t refused;  /* connections, while a PC was connected; of a link that several networks share, the first counts them */
     uint64_t lost[REASONS];
     uint64_t dropped[MOST_HUNDREDS][MOST_REST]; /* by the router */
 } counts;

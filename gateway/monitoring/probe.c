@@ -4,8 +4,8 @@
 #include <stdio.h>
 #include <string.h>
 
-#include "configuration/words.h"
 #include "ipx.h"
+#include "ipxr_settings.h"
 #include "monitoring/note.h"
 #include "monitoring/viewer.h"
 #include "systems/clock.h"
@@ -25,6 +25,12 @@ enum {
 
 /* ---- Words ---- */
 
+/* Whether a word is hexadecimal digits, at most so many. */
+static bool is_hexadecimal(const char *word, size_t digits, uint32_t *number)
+{
+    return ipxr_settings_hexadecimal((const uint8_t *)word, strlen(word), digits, number);
+}
+
 /* Reads NETWORK.NODE or NETWORK.NODE.SOCKET. */
 static bool is_station(const char *word, ipxr_address *station, bool *has_socket)
 {
@@ -32,7 +38,7 @@ static bool is_station(const char *word, ipxr_address *station, bool *has_socket
     uint32_t value = 0;
     int count = sscanf(word, "%8[^.].%17[^.].%4[^.]", number, node, port);
     size_t length = strlen(number) + 1 + strlen(node) + (count > 2 ? 1 + strlen(port) : 0);
-    if (count < 2 || length != strlen(word) || !is_hexadecimal(number, 8, &station->network) || !is_node(node, station->node))
+    if (count < 2 || length != strlen(word) || !is_hexadecimal(number, 8, &station->network) || !ipxr_settings_node((const uint8_t *)node, strlen(node), station->node))
         return false;
     *has_socket = count > 2;
     if (count > 2 && (!is_hexadecimal(port, 4, &value) || value == 0))

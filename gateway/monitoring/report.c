@@ -23,8 +23,8 @@ static void show_network(network *on)
         say("  kinds: %s", kinds_words(&on->kinds, kinds));
     if (set->type == LINK_QEMU_LISTEN)
         say("  connected: %d", on->cable->stream.is_connected ? 1 : 0);
-    if (set->type == LINK_QEMU_LISTEN && on->cable->refused > 0)
-        say("  refused: %" PRIu64, on->cable->refused);
+    if (on->counts.refused > 0)
+        say("  refused: %" PRIu64, on->counts.refused);
     if (set->type == LINK_QEMU_LISTEN && on->cable->not_taken > 0)
         say("  not taken: %" PRIu64, on->cable->not_taken);
     if (set->type == LINK_DOSBOX)

@@ -95,6 +95,13 @@ static uint64_t dropped_of(const known_client *client)
     return sum;
 }
 
+/* Seconds since a client answered, also before a reload. */
+static int heard_of(gateway *it, network *on, const known_client *client)
+{
+    const member *known = roster_find(&on->roster, client->place);
+    return known != NULL ? roster_silence(known, it->seconds, client->heard) : client->heard;
+}
+
 static bool next_client(gateway *it, cursor *so_far, sheet *s)
 {
     known_client client;
@@ -111,7 +118,7 @@ static bool next_client(gateway *it, cursor *so_far, sheet *s)
     field_node(s, client.place);
     field_text(s, address_words(&client.at, place));
     field_flag(s, client.is_trusted);
-    field_number(s, (uint64_t)client.heard);
+    field_number(s, (uint64_t)heard_of(it, &it->networks[so_far->network], &client));
     field_number(s, client.refused);
     field_number(s, dropped_of(&client));
     record_end(s);
@@ -131,10 +138,10 @@ static const network *station_of(gateway *it, port *of, size_t *index, ipxr_stat
     const network *first = first_of(it, of);
     if (first->set->is_of_several)
         return ipxr_segment_station(&of->segment, (*index)++, station) == 0 ? first + station->link : NULL;
-    const kind_of_station *next = kinds_next(&first->kinds, index);
+    const ipxr_kind_station *next = kinds_next(&first->kinds, index);
     if (next == NULL)
         return NULL;
-    *station = (ipxr_station){.seconds_left = (uint16_t)(STATION_LASTS - (first->kinds.second - next->heard))};
+    *station = (ipxr_station){.seconds_left = next->left};
     memcpy(station->node, next->node, sizeof station->node);
     return first;
 }

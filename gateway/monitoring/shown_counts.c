@@ -24,7 +24,7 @@ static uint64_t value_on(network *on, size_t index)
     case EXTENDED:
         return it->extended;
     case REFUSED:
-        return it->refused + (on->set->type == LINK_QEMU_LISTEN ? on->cable->refused : 0);
+        return it->refused;
     case UP:
         return on->is_up;
     case CLIENTS:

@@ -21,9 +21,8 @@ static inline bool same_address(const address *a, const address *b)
            a->port == b->port;
 }
 
-/* The digits of an address of IPv6, as the system reads and writes them. */
+/* The digits of an address of IPv6, as the system writes them. */
 enum { SIX_ROOM = 46 /* bytes of them, with the 0 behind */ };
-bool six_of_words(const char *digits, uint8_t six[16]);
 void six_words(const uint8_t six[16], char digits[SIX_ROOM]);
 
 #endif

@@ -1,5 +1,5 @@
 /* Pings of clients that are reached by a narrow line, which go out one by one: together they would fill it. They keep their order, and none
- * waits for longer than four seconds. */
+ * waits for longer than four seconds: the library says when they go (ipxr_cable.h). */
 #ifndef PINGS_H
 #define PINGS_H
 
@@ -7,13 +7,13 @@
 #include <stddef.h>
 #include <stdint.h>
 
+#include "ipxr_cable.h"
 #include "ipxr_tunnel.h"
 
 typedef struct pings {
     ipxr_own *list; /* a ring */
     size_t room, first, count;
-    uint64_t next;    /* nanoseconds of the clock from which on the first may go; */
-    uint64_t between; /* and from each to the next */
+    ipxr_pace pace; /* when the first may go, and how far apart they go */
 } pings;
 
 /* Makes it for as many pings as there may be clients; 0 where none wait. Returns false where there is no memory. */

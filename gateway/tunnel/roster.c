@@ -35,9 +35,9 @@ void roster_free(roster *it)
 member *roster_find(roster *it, const uint8_t place[6])
 {
     for (size_t k = 0; k < it->count; k++) {
-        size_t index = (it->next + k) % it->count;
+        size_t index = (it->last + k) % it->count;
         if (same_node(it->list[index].place, place)) {
-            it->next = index + 1;
+            it->last = index;
             return &it->list[index];
         }
     }
@@ -71,5 +71,11 @@ void roster_remove(roster *it, const uint8_t place[6])
     it->count--;
     memmove(gone, gone + 1, (size_t)(it->list + it->count - gone) * sizeof *gone);
     it->list[it->count].queues = queues;
-    it->next = 0;
+    it->last = 0;
+}
+
+int roster_silence(const member *it, uint64_t second, int told)
+{
+    bool has_answered = (uint64_t)told < second - it->kept;
+    return has_answered ? told : told + it->silent;
 }

@@ -32,6 +32,8 @@ typedef struct member {
     bool is_by_line;  /* whether it is reached by the narrow line */
     receiver *queues; /* what it receives of each who speaks to it */
     asked ping;       /* the last that it was sent */
+    uint64_t kept;    /* the tunnels' second in which a reload kept it, or 0, */
+    int silent;       /* and seconds since it had answered then */
     ipxr_client_use used; /* of its limits, */
     uint64_t used_clock;  /* when that was looked at last */
 } member;
@@ -41,18 +43,22 @@ typedef struct roster {
     receiver *queues; /* of all */
     size_t count;
     size_t room;
-    size_t next; /* behind the one that was found last */
+    size_t last; /* the one that was found last */
 } roster;
 
 /* Makes one for so many clients. Returns false where there is no memory. */
 bool roster_make(roster *it, size_t room);
 void roster_free(roster *it);
 
-/* The client at a place, or NULL. Who asks for one behind the other, in their order, is answered at once. */
+/* The client at a place, or NULL. Who asks for one behind the other, in their order, or for one again, is answered at once. */
 member *roster_find(roster *it, const uint8_t place[6]);
 
 /* A client comes, whose address is trusted or not, and which is reached by the narrow line or not. */
 void roster_add(roster *it, const uint8_t place[6], bool is_trusted, bool is_by_line);
 void roster_remove(roster *it, const uint8_t place[6]);
+
+/* Seconds since a client answered: its tunnel, which a reload may have made, says how many in this second of the tunnels. (an answer in the
+ * second of the reload, but behind it, isn't seen) */
+int roster_silence(const member *it, uint64_t second, int told);
 
 #endif

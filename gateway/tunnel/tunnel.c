@@ -62,7 +62,7 @@ static bool are_by_line(const network *on)
 static void send_one(network *on, const ipxr_own *own, bool is_client)
 {
     if (!is_client && are_by_line(on))
-        line_send_to_stranger(sizeof own->bytes);
+        line_send_to_stranger(on->strangers.key, own->place, sizeof own->bytes);
     else if (on->set->kilobits > 0)
         line_send_own(sizeof own->bytes);
     outgoing_own(on, own->place, own->bytes, sizeof own->bytes, is_client);
@@ -104,7 +104,7 @@ static size_t send_carried(network *on, const origin *by, const uint8_t *packet,
         return 0;
     uint8_t queue = throttle_queue(by);
     if (on->set->kilobits > 0)
-        line_begin(by != NULL ? &by->speaks->line : NULL, length);
+        line_begin(by != NULL && queue != OF_PINGS ? &by->speaks->line : NULL, length);
     outgoing_begin(on, packet, length);
     for (size_t k = 0; ipxr_tunnel_receiver(&on->tunnel, k, place) == 0; k++) {
         if (why_not(on, place, queue, length) == REASONS)
@@ -163,7 +163,7 @@ void tunnel_tell_leaves(network *on, const uint8_t place[NODE])
 /* Whether so many datagrams may go to a stranger now. */
 static bool lets_stranger(network *on, const uint8_t place[NODE], uint32_t count)
 {
-    return (!are_by_line(on) || line_lets_strangers()) && strangers_let(&on->strangers, place, count);
+    return (!are_by_line(on) || line_lets_stranger(on->strangers.key, place)) && strangers_let(&on->strangers, place, count);
 }
 
 /* Pings those again who registered lately and haven't come in, as far as strangers may be answered. */
@@ -271,7 +271,8 @@ static void answer_client(network *on, member *to)
 {
     if (ipxr_tunnel_owns(&on->tunnel) == 0)
         return;
-    if (throttle_lets_answer(&on->throttle, to))
+    bool has_room = on->set->kilobits == 0 || line_lets_own();
+    if (has_room && throttle_lets_answer(&on->throttle, to))
         send_own(on, true);
     else
         on->counts.lost[TOO_MANY_ANSWERS]++;

@@ -5,6 +5,8 @@
 static ipxr_reader client;
 static ipxr_fair address, links;
 static ipxr_queues queues;
+static ipxr_line line;
+static ipxr_line_address from, to;
 
 static int are_made(ipxr_limits *limits, ipxr_household_limits *household, ipxr_strangers_limits *strangers)
 {
@@ -50,6 +52,26 @@ static int is_said(const ipxr_limits *limits)
     return is_right && use.pinged.used == 0 && all.asked.used == limits->questions.each / 2 && clock == 0;
 }
 
+static int is_sent(void)
+{
+    uint64_t said = 0, between = 0, stranger = 0;
+    int is_right;
+    ipxr_line_join(&line, &from);
+    ipxr_line_join(&line, &to);
+    is_right = ipxr_line_speak(&line, &from) == 1 && ipxr_line_room(&line, 0, 1, 100, &said, &to) == IPXR_LINE_WITHIN;
+    ipxr_line_send(&line, 0, 1, 100, IPXR_LINE_WITHIN, &said, &to);
+    is_right = is_right && line.used == 1297777777 && ipxr_line_room(&line, 0, 1, 100, &said, &to) == IPXR_LINE_FULL &&
+               ipxr_line_lets_own(&line, 0);
+    ipxr_line_send_own(&line, 0, 30);
+    is_right = is_right && ipxr_line_lets_stranger(&line, line.own, &stranger);
+    ipxr_line_send_to_stranger(&line, line.own, 30, &stranger);
+    ipxr_line_between_pings(&line, 30, &between);
+    ipxr_line_second(&line, &from);
+    ipxr_line_silence(&line, &from);
+    ipxr_line_leave(&line, &from);
+    return is_right && between == 21617777760 && line.speakers == 0 && line.addresses == 1 && from.quiet == 1;
+}
+
 int main(void)
 {
     static const uint8_t bytes[30] = {0xFF, 0xFF, 0, 29};
@@ -57,7 +79,7 @@ int main(void)
     ipxr_household_limits household;
     ipxr_strangers_limits strangers;
     ipxr_meter one = {0}, all = {0};
-    int is_right = are_made(&limits, &household, &strangers) && is_received(&limits, &household) && is_said(&limits) &&
+    int is_right = are_made(&limits, &household, &strangers) && is_received(&limits, &household) && is_said(&limits) && is_sent() &&
                    ipxr_kind_of(bytes, sizeof bytes) == IPXR_KIND_OTHER && ipxr_strangers_send(&strangers, 2, &one, &all) == IPXR_PASSES &&
                    ipxr_strangers_send(&strangers, 1000, &one, &all) == IPXR_TOO_MUCH_FOR_STRANGERS;
     return is_right ? 0 : 1;

@@ -1,14 +1,17 @@
 /* Calls every export of the headers, and is made of these alone. Each argument and each field has a value of its own, and what each call
  * answers is read back: the first wrong answer is named, and the program ends with 1. dev/exports sees that it fails where two exports,
  * two arguments or two fields are exchanged. What is wanted was given here, or follows from the documents: docs/PACKETS.md,
- * docs/ROUTER.md, docs/TUNNEL.md, docs/SEGMENT.md, docs/RELOAD.md, docs/FAIR.md and docs/LIMITS.md. */
+ * docs/ROUTER.md, docs/TUNNEL.md, docs/SEGMENT.md, docs/RELOAD.md, docs/GATEWAY-REFERENCE.md, docs/FAIR.md, docs/LIMITS.md and
+ * docs/CABLE.md. */
 #include <stdio.h>
 #include <stdlib.h>
 #include <string.h>
 
+#include "ipxr_cable.h"
 #include "ipxr_limits.h"
 #include "ipxr_plan.h"
 #include "ipxr_segment.h"
+#include "ipxr_settings.h"
 #include "ipxr_tunnel.h"
 
 /* A call, and the number that it must return. */
@@ -924,6 +927,115 @@ static void looks(void)
     WROTE(3025, clocks[2]);
 }
 
+/* ---- A narrow line: 44 bytes take a megabit 0.8 ms ---- */
+
+enum { NOW = 1000, SPOKE = 5, SHORT_BYTES = 44 };
+
+/* Addresses come, speak and go. */
+static void line_members(void)
+{
+    ipxr_line line;
+    ipxr_line_address one;
+    memset(&line, 0, sizeof line);
+    memset(&one, 0, sizeof one);
+    CALLS(ipxr_line_join(&line, &one));
+    CALLS(ipxr_line_join(&line, &one));
+    WROTE(1, line.addresses);
+    WROTE(2, one.clients);
+    ANSWERS(1, ipxr_line_speak(&line, &one));
+    WROTE(1, line.speakers);
+    WROTE(1, line.numbers.users[1]);
+    WROTE(1, one.number);
+    one.quiet = 8;
+    CALLS(ipxr_line_second(&line, &one));
+    WROTE(9, one.quiet);
+    WROTE(1, one.number);
+    CALLS(ipxr_line_silence(&line, &one));
+    WROTE(0, one.number);
+    WROTE(9, one.quiet);
+    WROTE(0, line.speakers);
+    WROTE(1, line.addresses);
+    CALLS(ipxr_line_leave(&line, &one));
+    WROTE(1, one.clients);
+    WROTE(1, line.addresses);
+    CALLS(ipxr_line_leave(&line, &one));
+    WROTE(0, line.addresses);
+}
+
+/* Two addresses receive by a line, and three speak. */
+static const ipxr_line LINE = {.kilobits = 1000, .addresses = 2, .speakers = 3};
+
+static void line_copies(void)
+{
+    ipxr_line line = LINE;
+    ipxr_line_address to;
+    uint64_t said = 0;
+    memset(&to, 0, sizeof to);
+    ANSWERS(IPXR_LINE_WITHIN, ipxr_line_room(&line, NOW, SPOKE, SHORT_BYTES, &said, &to));
+    CALLS(ipxr_line_send(&line, NOW, SPOKE, SHORT_BYTES, IPXR_LINE_WITHIN, &said, &to));
+    WROTE(801000, line.used);
+    WROTE(5297554, to.within[SPOKE]);
+    WROTE(1601000, to.received);
+    CALLS(ipxr_line_send(&line, NOW, SPOKE, SHORT_BYTES, IPXR_LINE_LITTLE, &said, &to));
+    WROTE(76801000, said);
+    CALLS(ipxr_line_send(&line, NOW, SPOKE, SHORT_BYTES, IPXR_LINE_OF_SPEAKER, &said, &to));
+    WROTE(4801000, to.spoken[SPOKE]);
+    WROTE(2401000, line.used);
+    CALLS(ipxr_line_send(&line, NOW, SPOKE, SHORT_BYTES, IPXR_LINE_OF_ADDRESS, &said, &to));
+    WROTE(6401000, to.received);
+    CALLS(ipxr_line_send(&line, NOW, SPOKE, SHORT_BYTES, IPXR_LINE_BEYOND, &said, &to));
+    WROTE(6401000, to.received);
+    WROTE(4001000, line.used);
+}
+
+/* What is used of each part decides which rank is next. */
+static void line_ranks(void)
+{
+    ipxr_line line = LINE;
+    ipxr_line_address to;
+    uint64_t said = 0;
+    memset(&to, 0, sizeof to);
+    to.within[SPOKE] = 161001000;
+    ANSWERS(IPXR_LINE_LITTLE, ipxr_line_room(&line, NOW, SPOKE, SHORT_BYTES, &said, &to));
+    said = 1000001001;
+    ANSWERS(IPXR_LINE_OF_SPEAKER, ipxr_line_room(&line, NOW, SPOKE, SHORT_BYTES, &said, &to));
+    to.spoken[SPOKE] = 1000001001;
+    ANSWERS(IPXR_LINE_OF_ADDRESS, ipxr_line_room(&line, NOW, SPOKE, SHORT_BYTES, &said, &to));
+    to.received = 250001001;
+    ANSWERS(IPXR_LINE_BEYOND, ipxr_line_room(&line, NOW, SPOKE, SHORT_BYTES, &said, &to));
+    line.used = 20000900;
+    ANSWERS(IPXR_LINE_BEYOND, ipxr_line_room(&line, NOW, SPOKE, SHORT_BYTES, &said, &to));
+    line.used = 20001001;
+    ANSWERS(IPXR_LINE_FULL, ipxr_line_room(&line, NOW, SPOKE, SHORT_BYTES, &said, &to));
+}
+
+static void line_own(void)
+{
+    ipxr_line line = LINE;
+    uint64_t between = 0, address = 0;
+    CALLS(ipxr_line_send_own(&line, NOW, SHORT_BYTES));
+    WROTE(801000, line.used);
+    WROTE(25601000, line.own);
+    CALLS(ipxr_line_send_to_stranger(&line, NOW, SHORT_BYTES, &address));
+    WROTE(204801000, address);
+    WROTE(1601000, line.used);
+    WROTE(25601000, line.own);
+    WROTE(25601000, line.to_strangers);
+    CALLS(ipxr_line_between_pings(&line, SHORT_BYTES, &between));
+    WROTE(25600000, between);
+    line.used = 20001001;
+    line.own = 1000001001;
+    ANSWERS(0, ipxr_line_lets_own(&line, NOW));
+    ANSWERS(1, ipxr_line_lets_stranger(&line, NOW, &address));
+    line.own = 0;
+    line.to_strangers = 1000001001;
+    ANSWERS(1, ipxr_line_lets_own(&line, NOW));
+    ANSWERS(0, ipxr_line_lets_stranger(&line, NOW, &address));
+    line.to_strangers = 0;
+    address = 1000001001;
+    ANSWERS(0, ipxr_line_lets_stranger(&line, NOW, &address));
+}
+
 static void limits(void)
 {
     limits_of_a_tunnel();
@@ -940,6 +1052,10 @@ static void limits(void)
     queues();
     strangers();
     looks();
+    line_members();
+    line_copies();
+    line_ranks();
+    line_own();
 }
 
 /* ---- Plans ---- */
@@ -1031,6 +1147,188 @@ static void a_plan(void)
     ANSWERS(IPXR_BAD_LINK, ipxr_plan(old, 3, links, 2, origins, 2, fates, 3));
 }
 
+/* ---- Cables ---- */
+
+/* Two stations of one bucket, and what is said of them. */
+static void kinds_of_stations(void)
+{
+    static const uint8_t NODE[6] = {0xA1, 0xA2, 0xA3, 0xA4, 0xA5, 0xA6}, OTHER[6] = {0xB1, 0xB2, 0xB3, 0xB4, 0xB5, 0xB6}, ALL[6] = EVERYONE;
+    ipxr_kinds it;
+    memset(&it, 0, sizeof it);
+    ANSWERS(1, ipxr_kinds_speaks(&it, 9, NODE, IPXR_FRAME_LLC));
+    ANSWERS(0, ipxr_kinds_is_used(&it, IPXR_FRAME_LLC));
+    ANSWERS(0, ipxr_kinds_hear(&it, 9, NODE, IPXR_FRAME_KINDS + 1, 0));
+    ANSWERS(1, ipxr_kinds_hear(&it, 64 + 9, NODE, IPXR_FRAME_SNAP, 0));
+    WROTE_BYTES("A1A2A3A4A5A6", it.buckets[9].stations[0].node);
+    WROTE(IPXR_FRAME_SNAP, it.buckets[9].stations[0].kind);
+    WROTE(300, it.buckets[9].stations[0].left);
+    WROTE(3600, it.left[IPXR_FRAME_SNAP - 1]);
+    CALLS(ipxr_kinds_second(&it));
+    WROTE(299, it.buckets[9].stations[0].left);
+    WROTE(3599, it.left[IPXR_FRAME_SNAP - 1]);
+    ANSWERS(1, ipxr_kinds_hear(&it, 9, OTHER, IPXR_FRAME_RAW, 1));
+    ANSWERS(0, ipxr_kinds_hear(&it, 9, OTHER, IPXR_FRAME_LLC, 1));
+    ANSWERS(0, ipxr_kinds_is_used(&it, IPXR_FRAME_LLC));
+    ANSWERS(1, ipxr_kinds_hear(&it, 9, OTHER, IPXR_FRAME_LLC, 0));
+    ANSWERS(1, ipxr_kinds_is_used(&it, IPXR_FRAME_LLC));
+    ANSWERS(IPXR_FRAME_SNAP, ipxr_kinds_of(&it, 9, NODE));
+    ANSWERS(IPXR_FRAME_RAW, ipxr_kinds_of(&it, 9, OTHER));
+    ANSWERS(IPXR_NO_FRAME, ipxr_kinds_of(&it, 8, OTHER));
+    ANSWERS(0, ipxr_kinds_speaks(&it, 9, NODE, IPXR_FRAME_LLC));
+    ANSWERS(1, ipxr_kinds_speaks(&it, 9, NODE, IPXR_FRAME_SNAP));
+    ANSWERS(1, ipxr_kinds_speaks(&it, 8, NODE, IPXR_FRAME_LLC));
+    ANSWERS(1, ipxr_kinds_speaks(&it, 9, ALL, IPXR_FRAME_LLC));
+    ANSWERS(0, ipxr_kinds_speaks(&it, 9, ALL, IPXR_NO_FRAME));
+}
+
+/* Of links 3 and 5 the later is shut, by whichever probe comes first. */
+static void loops(void)
+{
+    ipxr_loop third = {0}, fifth = {0};
+    ANSWERS(IPXR_PROBE_LATE, ipxr_loop_probe(5, 3, 1001, 1005, &fifth, &third));
+    ANSWERS(IPXR_PROBE_LATE, ipxr_loop_probe(5, 3, 1002, 1001, &fifth, &third));
+    ANSWERS(IPXR_PROBE_HERE, ipxr_loop_probe(5, 3, 1001, 1003, &fifth, &third));
+    WROTE(6, fifth.left);
+    WROTE(0, third.left);
+    ANSWERS(0, ipxr_loop_second(&fifth));
+    WROTE(5, fifth.left);
+    ANSWERS(IPXR_PROBE_NOTHING, ipxr_loop_probe(3, 5, 1001, 1003, &third, &fifth));
+    WROTE(5, fifth.left);
+    ANSWERS(IPXR_PROBE_NOTHING, ipxr_loop_probe(5, 3, 1001, 1003, &fifth, &third));
+    WROTE(6, fifth.left);
+    fifth.left = 1;
+    ANSWERS(1, ipxr_loop_second(&fifth));
+    WROTE(0, fifth.left);
+    ANSWERS(IPXR_PROBE_THERE, ipxr_loop_probe(3, 5, 1001, 1003, &third, &fifth));
+    WROTE(6, fifth.left);
+    WROTE(0, third.left);
+}
+
+static void ranges(void)
+{
+    static const uint8_t INSIDE[4] = {10, 11, 12, 13}, OUTSIDE[4] = {10, 11, 13, 12};
+    ipxr_range list[3] = {{{127, 0, 0, 1}, 32}, {{10, 11, 12, 8}, 24}, {{10, 11, 13, 0}, 24}};
+    ANSWERS(1, ipxr_ranges_have(list, 2, INSIDE));
+    ANSWERS(0, ipxr_ranges_have(list, 2, OUTSIDE));
+    ANSWERS(1, ipxr_ranges_have(list, 3, OUTSIDE));
+    ANSWERS(1, ipxr_range_is_first(&list[0]));
+    ANSWERS(0, ipxr_range_is_first(&list[1]));
+    list[1].bits = 29;
+    ANSWERS(1, ipxr_range_is_first(&list[1]));
+}
+
+/* Four wait, then two more; each call has its own second. */
+static void a_pace(void)
+{
+    const uint64_t begin = 1000000007u, apart = 900000000u;
+    ipxr_pace pace = {0, 0};
+    CALLS(ipxr_pace_more_wait(&pace, 4, apart, begin));
+    WROTE(1000000007, pace.next);
+    WROTE(900000000, pace.between);
+    ANSWERS(0, ipxr_pace_lets_go(&pace, 4, begin - 1));
+    ANSWERS(0, ipxr_pace_lets_go(&pace, 0, begin));
+    ANSWERS(1, ipxr_pace_lets_go(&pace, 4, begin));
+    WROTE(1900000007, pace.next);
+    CALLS(ipxr_pace_more_wait(&pace, 5, apart, begin));
+    WROTE(800000000, pace.between);
+    WROTE(1800000007, pace.next);
+    ANSWERS(1, ipxr_pace_lets_go(&pace, 1, begin + apart));
+    WROTE(0, pace.next);
+    WROTE(0, pace.between);
+}
+
+/* ---- Lines of a configuration ---- */
+
+#define READS(text) (const uint8_t *)(text), sizeof(text) - 1
+
+static void a_link(void)
+{
+    ipxr_setting said;
+    memset(&said, 0xAA, sizeof said);
+    ANSWERS(0, ipxr_settings_line(READS("network 1F 2 1400 7 9 qemu-udp 1.2.3.4:5 6.7.8.9:10 llc node 02:00:00:00:00:07"), 1, 0, 100, &said));
+    WROTE(12, said.read);
+    WROTE(IPXR_SETTING_NETWORK, said.kind);
+    WROTE(0, said.bits);
+    WROTE(0x1F, said.network.number);
+    WROTE(1, said.network.has_head);
+    WROTE(1, said.network.has_shares);
+    WROTE(2, said.network.cost);
+    WROTE(1400, said.network.longest);
+    WROTE(7, said.network.routes);
+    WROTE(9, said.network.services);
+    WROTE(1, said.network.has_node);
+    WROTE_BYTES("020000000007", said.network.node);
+    WROTE(IPXR_OVER_UDP, said.link.carrier);
+    WROTE(IPXR_FRAME_LLC, said.link.frames);
+    WROTE(1, said.link.has_word);
+    WROTE_BYTES("01020304", said.link.local.four);
+    WROTE(5, said.link.local.port);
+    WROTE(0, said.link.local.is_six);
+    WROTE_BYTES("06070809", said.link.remote.four);
+    WROTE(10, said.link.remote.port);
+    WROTE(0, said.link.host[0]);
+    WROTE(0, said.link.name[0]);
+    WROTE(0, said.numbers[0]);
+    ANSWERS(0, ipxr_settings_line(READS("network 1F 2 1400 7 9 tap Aa raw"), 1, 0, 100, &said));
+    WROTE(1, said.network.has_shares);
+    WROTE(0, said.network.has_node);
+    ANSWERS(0, ipxr_settings_line(READS("network 1F 2 1400 tap Aa raw"), 1, 0, 100, &said));
+    WROTE(1, said.network.has_head);
+    WROTE(0, said.network.has_shares);
+    WROTE(0, said.network.has_node);
+    WROTE(IPXR_OVER_TAP, said.link.carrier);
+    WROTE_BYTES("4161 0000", said.link.name);
+    ANSWERS(IPXR_EXPECTED_LINK_OF_SYSTEM, ipxr_settings_line(READS("link tap Aa raw"), 0, 1, 100, &said));
+    WROTE(IPXR_SETTING_LINK, said.kind);
+    WROTE(0, said.link.has_word);
+    WROTE(0, said.network.has_head);
+    ANSWERS(0, ipxr_settings_line(READS("link qemu-tcp connect Bb:6 auto"), 1, 0, 100, &said));
+    WROTE_BYTES("4262 0000", said.link.host);
+    WROTE(6, said.link.remote.port);
+    ANSWERS(0, ipxr_settings_line(READS("link qemu-tcp listen [1:2:3:4:5:6:7:8]:9 snap"), 1, 0, 100, &said));
+    WROTE(1, said.link.local.is_six);
+    WROTE(1, said.link.local.six[0]);
+    WROTE(8, said.link.local.six[7]);
+}
+
+static void a_line(void)
+{
+    size_t start = 77;
+    uint32_t number = 5;
+    uint8_t node[6] = {1};
+    ipxr_setting said;
+    ipxr_setting_range range = {{0}, 0};
+    a_link();
+    ANSWERS(0, ipxr_settings_line(READS("rate 100 50 70"), 0, 1, 100, &said));
+    WROTE(100, said.numbers[0]);
+    WROTE(50, said.numbers[1]);
+    WROTE(70, said.numbers[2]);
+    ANSWERS(IPXR_EXPECTED_NOTHING, ipxr_settings_line(READS("rate 100 50 70"), 1, 0, 100, &said));
+    ANSWERS(0, ipxr_settings_line(READS("clients 100"), 1, 0, 100, &said));
+    ANSWERS(IPXR_EXPECTED_CLIENTS, ipxr_settings_line(READS("clients 100"), 1, 0, 99, &said));
+    ANSWERS(IPXR_EXPECTED_FIRST, ipxr_settings_line(READS("allow 1.2.3.4/24"), 1, 0, 99, &said));
+    WROTE(24, said.bits);
+    WROTE(1, said.read);
+    WROTE(IPXR_SETTING_ALLOW, said.kind);
+    ANSWERS(4, ipxr_settings_word(READS("one three four # five"), 2, &start));
+    WROTE(10, start);
+    ANSWERS(0, ipxr_settings_word(READS("one three four # five"), 3, &start));
+    WROTE(10, start);
+    ANSWERS(0x4003, ipxr_settings_socket(READS("4003")));
+    ANSWERS(0, ipxr_settings_socket(READS("14003")));
+    ANSWERS(1, ipxr_settings_hexadecimal(READS("1F"), 4, &number));
+    WROTE(0x1F, number);
+    ANSWERS(0, ipxr_settings_hexadecimal(READS("1F2F"), 2, &number));
+    WROTE(0x1F, number);
+    ANSWERS(1, ipxr_settings_node(READS("0102030405FF"), node));
+    WROTE_BYTES("0102030405FF", node);
+    ANSWERS(0, ipxr_settings_node(READS("0102030405F"), node));
+    ANSWERS(1, ipxr_settings_range(READS("10.20.30.0/24"), &range));
+    WROTE_BYTES("0A141E00", range.first);
+    WROTE(24, range.bits);
+    ANSWERS(0, ipxr_settings_range(READS("10.20.30/24"), &range));
+}
+
 int main(void)
 {
     words();
@@ -1045,5 +1343,10 @@ int main(void)
     a_meter();
     limits();
     a_plan();
+    kinds_of_stations();
+    loops();
+    ranges();
+    a_pace();
+    a_line();
     return 0;
 }

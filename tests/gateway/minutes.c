@@ -10,6 +10,7 @@
  *                                ten minutes all five, and for one more the four
  *     minutes narrow             one says the longest packets by a line of 8 kbit/s: in ten minutes no more than nine tenths of it are used
  *     minutes silent             60 silent clients of one address, which came first, and four players by a line of 1 Mbit/s, with pings
+ *     minutes crowds             three addresses with 20 silent clients each flood five players by a line of 1 Mbit/s
  *     minutes router             clients and a link say to the router what it limits: for ten minutes it hears as much as it is to
  *     minutes links              eleven links tell the router as much as each may, for a minute: it hears no more than of one, and a twelfth
  *                                whole that tells its tables twice, at once
@@ -432,6 +433,52 @@ static void silent(void)
     expect(1000 * lost < all, "beside silent clients players within their parts of a line are heard");
 }
 
+/* Whether there was room for a copy, which went out then. */
+static bool goes_to(size_t whom)
+{
+    bool has_room = line_has_room(&speakers[whom]->line);
+    if (has_room)
+        line_send(&speakers[whom]->line);
+    return has_room;
+}
+
+/* Addresses fill the line with long packets to each player, as many as find room, and have silent clients, which came before the players.
+ * Each player says to each other what his part of that one's part is. (all have begun to speak, so parts stay what they are) */
+static void crowds(void)
+{
+    enum { PLAY = 5, CROWDS = 3, SILENT = 20, GAME = 9, PACKET = 154, LONG = 1424, KILOBITS = 1000, LASTS = 2 * MINUTE };
+    uint64_t said[PLAY] = {0}, lost = 0, all = 0;
+    use_line_of(KILOBITS);
+    join(PLAY + CROWDS);
+    for (size_t k = 0; k < PLAY + CROWDS; k++) {
+        for (size_t clients = 0; clients < (k < PLAY ? 1 : SILENT); clients++)
+            line_join(&speakers[k]->line);
+        line_begin(&speakers[k]->line, PACKET);
+    }
+    for (size_t who = 0; who < PLAY; who++)
+        said[who] = said_by(GAME, 20 * who);
+    for (uint64_t at = 1; at <= LASTS; at++) {
+        pass_millisecond(at);
+        for (size_t crowd = PLAY; crowd < PLAY + CROWDS; crowd++)
+            for (size_t k = 0; k < PLAY; k++) {
+                line_begin(&speakers[crowd]->line, LONG);
+                (void)goes_to(k);
+            }
+        for (size_t who = 0; who < PLAY; who++)
+            for (; said[who] < said_by(GAME, at + 20 * who); said[who]++) {
+                line_begin(&speakers[who]->line, PACKET);
+                for (size_t k = PLAY; k < PLAY + CROWDS; k++)
+                    for (size_t clients = 0; clients < SILENT; clients++)
+                        (void)goes_to(k);
+                for (size_t k = 0; k < PLAY; k++)
+                    lost += k != who && !goes_to(k);
+                all += PLAY - 1;
+            }
+    }
+    printf("%" PRIu64 " of %" PRIu64 " copies of the players are lost\n", lost, all);
+    expect(lost == 0 && all > 0, "beside addresses that flood and have silent clients players within their parts of a line lose nothing");
+}
+
 /* ---- What the router hears ---- */
 
 enum { MOST_CLIENTS = 5 };
@@ -750,8 +797,10 @@ static void of_address(void)
 static const struct {
     const char *word;
     void (*does)(void);
-} WORDS_ALONE[] = {{"once", once}, {"two", two}, {"address", of_address}, {"narrow", narrow}, {"silent", silent}, {"router", router}, {"links", links},
-                   {"accounts", accounts}, {"none", none}, {"gateway", gateway}};
+} WORDS_ALONE[] = {
+    {"once", once}, {"two", two}, {"address", of_address}, {"narrow", narrow}, {"silent", silent}, {"crowds", crowds},
+    {"router", router}, {"links", links}, {"accounts", accounts}, {"none", none}, {"gateway", gateway},
+};
 
 int main(int count, char **words)
 {

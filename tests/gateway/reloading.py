@@ -34,6 +34,8 @@ ASKERS = 6  # who are shown a list while it becomes shorter: each gets a piece b
 MANY = 180  # clients, routes and services: more than a piece of what is shown
 CUT = 50  # times that it is shortened, until that comes between two pieces
 LONGEST = 1424  # bytes of a datagram of the tunnel
+SILENCE = 20  # seconds in which a client doesn't answer
+PINGED = 5  # after so many it is pinged
 KNOCKS = 3  # connections beside that of a PC
 FLOOD = 300  # packets of a client, more than another receives at once where there are limits
 
@@ -106,6 +108,10 @@ def knock_at(port):
         assert is_closed(other)
 
 
+def refused_on(gate, number):
+    return sum(it["number"] for it in gate.shown("counts") if (it["network"], it["count"]) == (f"{number:08X}", "refused"))
+
+
 def refusals_go_on():
     """What a link refused beside its PC stays counted: with another port, other frames or a link beside it, and where it is one no more."""
     first, second = free_ports(2)
@@ -117,22 +123,41 @@ def refusals_go_on():
     then = several, several + link % (second, "llc"), at(0x20, "127.0.0.1:0"), alone % (first, "raw")
     with Changed(tunnels(1) + steps[0][2]) as gate, contextlib.ExitStack() as pcs:
         count = 0
-
-        def refused():
-            return sum(it["number"] for it in gate.shown("counts") if (it["network"], it["count"]) == ("00000020", "refused"))
-
         for port, is_another, text in steps:
             gate.reload(tunnels(1) + text)
             if is_another:
                 pcs.enter_context(socket.create_connection(("127.0.0.1", port)))
-            assert refused() == count, text
+            assert refused_on(gate, 0x20) == count, text
             for _ in range(KNOCKS):
                 knock_at(port)
             count += KNOCKS
-            assert refused() == count, text
+            assert refused_on(gate, 0x20) == count, text
         for text in then:
             gate.reload(tunnels(1) + text)
-            assert refused() == count, text
+            assert refused_on(gate, 0x20) == count, text
+
+
+def refusals_at_a_shared_link():
+    """What a listener refused that links share in two kinds of frames counts once, and no number falls, whichever of them goes or comes."""
+    (port,) = free_ports(1)
+    raw, llc = (f"qemu-tcp listen 127.0.0.1:{port} {kind}\n" for kind in ("raw", "llc"))
+    twenty, thirty, beside = "network 20 1 1424\n", "network 30 1 1424 ", "link dosbox 127.0.0.1:0\n"
+    both = f"{twenty}link {raw}link {llc}"
+    steps = (both, f"{twenty}link {raw}", both, f"{twenty}link {llc}", f"{twenty}link {llc}link {raw}", f"{twenty}{beside}link {raw}",
+             f"{twenty}{beside}link {raw}{thirty}{llc}", f"{thirty}{llc}{twenty}{beside}link {raw}", f"{thirty}{llc}{twenty}{beside}")
+    with Changed(both) as gate, socket.create_connection(("127.0.0.1", port)):
+        before, count = (0, 0), 0
+        for text in steps:
+            gate.reload(text)
+            for _ in range(KNOCKS):
+                knock_at(port)
+            count += KNOCKS
+            numbers = refused_on(gate, 0x20), refused_on(gate, 0x30)
+            told = [int(it) for it in re.findall(r"(?m)^  refused: (\d+)$", gate.report())]
+            metrics = re.findall(r"(?m)^ipxr_gateway_refused_connections_total\S+ (\d+)$", gate.asked("show", "counts", "--prometheus"))
+            assert sum(numbers) == sum(told) == sum(map(int, metrics)) == count, (text, count, numbers, told, metrics)
+            assert all(it >= was for it, was in zip(numbers, before)), (text, before, numbers)
+            before = numbers
 
 
 def rules_for_clients():
@@ -154,6 +179,39 @@ def rules_for_clients():
         assert reaches(a, b) and gate.counted(0x10, "clients") == 3
         gate.reload(tunnels(1, extra="clients 1\n"))
         assert gate.counted(0x10, "clients") == 1 and reaches(a, a)
+
+
+def heard_of(gate, client):
+    (heard,) = (it["heard"] for it in gate.shown("clients") if it["client"] == client.node.hex().upper())
+    return heard
+
+
+def silence_goes_on():
+    """How long ago a client answered is shown behind reloads too, until it answers; that begins anew where it is trusted from then on."""
+    clock = Clock()
+
+    def let_pass(seconds):
+        for _ in range(seconds):
+            clock.let_pass(1)
+            gate.report()
+
+    with Changed(tunnels(1), program=SYSTEM.fast, environment=clock.environment()) as gate:
+        silent, other = Client(gate.ports[0x10]), Client(gate.ports[0x10])
+        silent.answers = False
+        let_pass(SILENCE)
+        before, of_other = heard_of(gate, silent), heard_of(gate, other)
+        assert SILENCE - 1 <= before <= SILENCE and of_other < SILENCE, (before, of_other)
+        for further, below in enumerate(("clients 9\n", "rate 900\n", "clients 9\n")):
+            gate.reload(tunnels(1, extra=below))
+            assert heard_of(gate, silent) == before + further, below
+            let_pass(1)
+            assert heard_of(gate, silent) == before + further + 1, below
+        assert heard_of(gate, other) <= of_other + 3
+        silent.answers = True
+        let_pass(PINGED)
+        until(lambda: heard_of(gate, silent) < PINGED, "it answers")
+        gate.reload(tunnels(1, extra="trust 127.0.0.1\n"))
+        assert heard_of(gate, silent) == heard_of(gate, other) == 0
 
 
 def all_heard(stranger):
@@ -605,10 +663,10 @@ def inside():
 def main():
     if not has_linux("reading the configuration anew"):
         return Counts()
-    counts = tried(all_is_compared, nothing_changes, wrong_file, counts_go_on, refusals_go_on, rules_for_clients, newcomers, limits,
-                   limits_of_a_link, a_line, shares, sockets, a_link_is_another, frames_on_another_link, networks_come_and_go,
-                   links_that_are_alike, a_node_of_several_links, another_address, a_link_is_taken, the_router_begins_anew,
-                   shown_while_links_go, shown_while_a_network_goes, shown_while_counts_go, followed, at_a_terminal)
+    counts = tried(all_is_compared, nothing_changes, wrong_file, counts_go_on, refusals_go_on, refusals_at_a_shared_link, rules_for_clients,
+                   silence_goes_on, newcomers, limits, limits_of_a_link, a_line, shares, sockets, a_link_is_another, frames_on_another_link,
+                   networks_come_and_go, links_that_are_alike, a_node_of_several_links, another_address, a_link_is_taken,
+                   the_router_begins_anew, shown_while_links_go, shown_while_a_network_goes, shown_while_counts_go, followed, at_a_terminal)
     return counts + tried_inside(__file__, "cards beside a reload")
 
 

@@ -10,9 +10,9 @@ from systems import HEADERS
 from telling import has, left_out, prints, quietly, succeeds, tell
 
 STRICT = ["-Wall", "-Wextra", "-Wpedantic", "-Wconversion", "-Werror"]
-ROUTER, TUNNEL, SEGMENT, PLAN, FAIR, LIMITS = HEADERS
+ROUTER, TUNNEL, SEGMENT, PLAN, SETTINGS, FAIR, LIMITS, CABLE = HEADERS
 # Numbers with words: all of the router's, and those of the others that a call answers. The kinds of frames, what a datagram said, what a
-# link is, and what limits say of a packet have no words.
+# link is, what limits say of a packet, and what a probe does have no words.
 ANSWERS = {
     ROUTER: re.compile(r"(?m)^(?!.*_FRAME)#define (IPXR_[A-Z_]+) +\(?-?[0-9]+\)? +/\*"),
     TUNNEL: re.compile(r"(?m)^#define (IPXR_[A-Z_]+) +\(-[0-9]+\) +/\*"),
@@ -35,6 +35,9 @@ ALTERED = (
     (SEGMENT, "ipxr_segment_link(ipxr_segment *segment, ", "ipxr_segment_link("),
     (PLAN, "size_t becomes;", "uint32_t becomes;"),
     (PLAN, "ipxr_plan_fate *fates, size_t fates_room", "ipxr_plan_fate *fates"),
+    (SETTINGS, "uint16_t six[8];", "uint16_t six[7];"),
+    (SETTINGS, "size_t number, size_t *start", "size_t *start, size_t number"),
+    (SETTINGS, "uint16_t most_clients, ", "size_t most_clients, "),
     (FAIR, "uint8_t speaker, uint64_t weight", "uint8_t speaker, uint32_t weight"),
     (FAIR, "uint64_t ends[256]", "uint64_t ends[255]"),
     (FAIR, "uint64_t waits;     /*", "uint64_t total;     /*"),
@@ -43,24 +46,32 @@ ALTERED = (
     (LIMITS, "ipxr_limit pings;          /*", "ipxr_meter pings;          /*"),
     (LIMITS, "ipxr_fair pieces;", "ipxr_meter pieces;"),
     (LIMITS, "uint32_t users[256]", "uint32_t users[255]"),
+    (CABLE, "ipxr_kind_bucket buckets[64]", "ipxr_kind_bucket buckets[63]"),
+    (CABLE, "uint16_t left;", "uint8_t left;"),
+    (CABLE, "uint64_t sent, uint64_t now", "uint64_t sent, uint32_t now"),
+    (CABLE, "const ipxr_range *ranges, size_t count", "const ipxr_range *ranges"),
+    (CABLE, "uint64_t between; /*", "uint32_t between; /*"),
 )
 STANDARDS = {
     "c": (("gcc", "clang"), ("c89", "c99", "c11", "c17", "c2x")),
     "c++": (("g++", "clang++"), ("c++98", "c++11", "c++14", "c++17", "c++20", "c++2b")),
 }
-PROGRAMS = ("every_standard", "every_standard_tunnel", "every_standard_segment", "every_standard_plan", "every_standard_fair",
-            "every_standard_limits")
+PROGRAMS = ("every_standard", "every_standard_tunnel", "every_standard_segment", "every_standard_plan", "every_standard_settings",
+            "every_standard_fair", "every_standard_limits", "every_standard_cable")
 # What those programs show, where they run.
 SHOWN = ("an empty handle, a text and a router of one port", "an empty handle of a tunnel, and a tunnel",
-         "an empty handle of a segment, and a segment", "a plan", "a receiver of zeros, a receiver and a meter",
-         "limits, and what they let pass")
+         "an empty handle of a segment, and a segment", "a plan", "a line of a configuration",
+         "a receiver of zeros, a receiver and a meter", "limits, and what they let pass",
+         "kinds of frames, two links that are one cable, a range, and a pace")
 
 BEGIN = """\
 #include <stdio.h>
 #include "ipxr_tunnel.h"
 #include "ipxr_segment.h"
 #include "ipxr_plan.h"
+#include "ipxr_settings.h"
 #include "ipxr_limits.h"
+#include "ipxr_cable.h"
 typedef void call(void);
 call *const calls[] = {
 """

@@ -29,8 +29,11 @@ pub mod SegmentReads
 -- the plan of a reload: structs, and the call
 pub mod PlanValues
 pub mod Plans
+-- the lines of a configuration: structs and numbers
+pub mod SettingsValues
 -- a gateway's limits: numbers
 pub mod LimitValues
+pub mod CableValues
 -- broadcasts that are copied to another network
 pub mod Extends
 -- nothing that a public contract says

@@ -1,5 +1,5 @@
--- The numbers by which C knows links, kinds of packets, and what becomes of them.
-use Rattle.std.specs.Prelude.{ℕ, ◌==◌, if◌then◌else◌}
+-- The numbers by which C knows links, kinds of packets, what becomes of them, and which come first on a narrow line.
+use Rattle.std.specs.Prelude.{ℕ, ◌==◌, if◌then◌else◌, Option, None, Some}
 use Rattle.ipx_limits.specs.declared.decision.Decision.{Decision}
 use Rattle.ipx_limits.specs.declared.decision.Decision.TheVariants.{Passes, TooManyPings, TooManyQuestions, TooManyAdvertisements, TooMuchForRouter, TooMuchForClient, TooMuchForAddress, TooMuchForLink, TooManyAnswers, TooMuchForStrangers}
 use Rattle.ipx_limits.specs.declared.kind.Kind.{Kind}
@@ -7,6 +7,8 @@ use Rattle.ipx_limits.specs.declared.kind.Kind.TheVariants.{Ping, Answer, Questi
 use Rattle.ipx_limits.specs.declared.network.Link.{Link}
 use Rattle.ipx_limits.specs.declared.network.Link.TheVariants.{Tunnel, Frames}
 use Rattle.ipx_limits.specs.declared.network.NetworkSetting.{NetworkSetting}
+use Rattle.ipx_limits.specs.declared.rank.Rank.{Rank}
+use Rattle.ipx_limits.specs.declared.rank.Rank.TheVariants.{Beyond, OfAddress, OfSpeaker, Little, Within}
 
 -- any other number than a tunnel's is a link with frames
 abbrev pub link_of : ℕ → Link
@@ -43,3 +45,21 @@ decision_number TooMuchForAddress = 6
 decision_number TooMuchForLink = 7
 decision_number TooManyAnswers = 8
 decision_number TooMuchForStrangers = 9
+
+-- any other number than these is beyond all parts
+abbrev pub rank_at : ℕ → Rank
+rank_at number =
+    if number == 2 then OfAddress
+    else if number == 3 then OfSpeaker
+    else if number == 4 then Little
+    else if number == 5 then Within
+    else Beyond
+
+-- 0 where there is no room
+abbrev pub room_number : Option Rank → ℕ
+room_number None = 0
+room_number (Some Beyond) = 1
+room_number (Some OfAddress) = 2
+room_number (Some OfSpeaker) = 3
+room_number (Some Little) = 4
+room_number (Some Within) = 5

@@ -1,5 +1,5 @@
 //! The router for C, and for whatever can call C: a static library, whose headers are `ipxr.h`, `ipxr_tunnel.h`, `ipxr_segment.h`,
-//! `ipxr_plan.h`, `ipxr_fair.h` and `ipxr_limits.h` in `include/`.
+//! `ipxr_plan.h`, `ipxr_settings.h`, `ipxr_fair.h`, `ipxr_limits.h` and `ipxr_cable.h` in `include/`.
 //!
 //! - C holds a router by a `RouterHandle`: a flag and a pointer. All bytes 0 are a handle without a router.
 //! - `Handle` and `Cell` serve any machine, and are proved once. What crosses to C may have no type parameter, so each kind of machine
@@ -14,9 +14,11 @@
 //!   one (`Extends`).
 //! - A network over several links is the third: `SegmentMachine` has the segment of `ipx_segment` and the links that get the packet of
 //!   its last event (`SegmentMakes`, `SegmentEvents`, `SegmentReads`).
-//! - The plan of a reload is made of values and written to values (`Plans`), by `ipx_plan`.
+//! - The plan of a reload is made of values and written to values (`Plans`), by `ipx_plan`; and the lines of a configuration are read to
+//!   values (`SettingsValues`), by `ipx_settings`.
 //! - Fair queueing and meters are no machines: C keeps them in memory of its own, where all bytes 0 are one, and lends them. Each call's
-//!   clause is that of `ipx_fair`. So are a gateway's limits, by `ipx_limits`, whose kinds and reasons have numbers (`LimitValues`).
+//!   clause is that of `ipx_fair`. So are a gateway's limits, by `ipx_limits`, whose kinds, reasons and ranks have numbers
+//!   (`LimitValues`), and a narrow line; and what a gateway decides about its cables, by `ipx_cable` (`CableValues`).
 //! - Frames of Ethernet are read and written as `ipx_capture` does, by the numbers of their kinds (`Kinds`).
 //! - Packets are written by the writers of `ipx_wire`, of values that C gives (`Writes`).
 //! - `cell` is the only place with a raw pointer; its proofs, and those alone, are walks by hand.
@@ -25,6 +27,7 @@
 //!   tunnels it is one in `tunnel_making`, for segments one in `segment_making`.
 #![tactic(auto)]
 
+pub mod cable;
 mod cell;
 mod code;
 mod events;
@@ -36,6 +39,7 @@ mod handle;
 mod item;
 mod limit_values;
 pub mod limits;
+pub mod line;
 mod machine;
 mod making;
 mod plan_values;
@@ -47,6 +51,8 @@ mod segment_making;
 mod segment_reading;
 mod segment_values;
 mod sending;
+pub mod settings;
+mod settings_values;
 mod sizes;
 mod tunnel_events;
 mod tunnel_machine;
@@ -87,6 +93,7 @@ pub use crate::segment_reading::{
 };
 pub use crate::segment_values::{LinkValues, SegmentSetting, StationRecord};
 pub use crate::sending::{ipxr_clear, ipxr_get, ipxr_sent};
+pub use crate::settings_values::{HostValues, LineSaid, LinkSaid, NetworkSaid};
 pub use crate::tunnel_events::{ipxr_tunnel_hear, ipxr_tunnel_second, ipxr_tunnel_send};
 pub use crate::tunnel_machine::TunnelMachine;
 pub use crate::tunnel_making::{ipxr_tunnel_free, ipxr_tunnel_make};

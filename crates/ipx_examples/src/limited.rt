@@ -3,8 +3,8 @@
 use anyhow::Result;
 use ipx_fair::{Meter, Receiver256};
 use ipx_limits::{
-    Address, Client, Decision, HouseholdLimits, Kind, Limits, Link, NetworkSetting, Queues, Reader,
-    StrangersLimits, told_on_links,
+    Address, Client, Decision, HouseholdLimits, Kind, Limits, Line, LineAddress, Link,
+    NetworkSetting, Queues, Reader, StrangersLimits, told_on_links,
 };
 
 /// A client pings too much.
@@ -31,7 +31,8 @@ pub fn limits(rt: &HostRuntime, bytes: &[u8]) -> Result<()> {
     handed(rt, &limits, bytes)?;
     received(rt, &limits)?;
     queues(rt)?;
-    strangers(rt)
+    strangers(rt)?;
+    line(rt)
 }
 
 /// Who begins to speak gets a queue of his own.
@@ -99,7 +100,7 @@ fn received(rt: &HostRuntime, limits: &Limits) -> Result<()> {
     println!(rt;
         "heard: {}; in two frames: {}",
         alone == Decision::Passes,
-        link == Decision::TooMuchForLink
+        link == Decision::Passes
     )?;
     at_address(rt, limits, &mut client)
 }
@@ -133,5 +134,24 @@ fn strangers(rt: &HostRuntime) -> Result<()> {
         answered == Decision::Passes,
         address.used
     )?;
+    Ok(())
+}
+
+/// Copies by a narrow line.
+fn line(rt: &HostRuntime) -> Result<()> {
+    let mut line = Line::zeros();
+    line.kilobits = 1000;
+    let (mut from, mut to) = (LineAddress::zeros(), LineAddress::zeros());
+    line.join(&mut to);
+    let number = line.speak(&mut from);
+    let (now, mut said) = (0, 0);
+    let first = line.room(now, number, 1424, &mut said, &mut to);
+    println!(rt; "a long packet goes out: {first:?}")?;
+    line.used = 100_000_000;
+    let router = line.room(now, 0, 1424, &mut said, &mut to);
+    let short = line.room(now, number, 50, &mut said, &mut to);
+    println!(rt; "the line is full: {router:?}, but a speaker's: {short:?}")?;
+    // prints a long packet goes out: Some(Within)
+    // prints the line is full: None, but a speaker's: Some(Within)
     Ok(())
 }

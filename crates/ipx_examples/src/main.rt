@@ -5,6 +5,7 @@
 #![tactic(auto)]
 
 mod addresses;
+mod cables;
 mod captures;
 mod ends;
 mod internets;
@@ -17,6 +18,7 @@ mod routes;
 mod runs;
 mod segments;
 mod services;
+mod settings;
 mod shares;
 mod tunnels;
 
@@ -239,7 +241,7 @@ fn port(network: u32, node: u8) -> Result<Port, PortFault> {
     Port::new(Network(network), Node([0, 0, 0, 0, 0, node]), 1, 576)
 }
 
-/// The examples of a tunnel, of a plan, of a segment, of receivers and meters, and of limits.
+/// The examples of a tunnel, of a plan, of a line of a configuration, of a segment, of receivers and meters, and of limits.
 fn serve(rt: &HostRuntime) -> Result<()> {
     let cookies = Cookies {
         current: Node([2, 0x11, 0x22, 0x33, 0x44, 0x55]),
@@ -252,8 +254,13 @@ fn serve(rt: &HostRuntime) -> Result<()> {
     };
     tunnels::tunnel(rt, from, &REGISTRATION, &ANSWER)?;
     plans::plan(rt)?;
+    settings::line(rt)?;
     segments::segment(rt, Node([0, 0, 0, 0, 0, 2]), Node([0, 0, 0, 0, 0, 0xAA]))?;
     shares::receivers(rt)?;
     shares::meters(rt)?;
-    limited::limits(rt, &ROUTES)
+    limited::limits(rt, &ROUTES)?;
+    cables::kinds(rt)?;
+    cables::loops(rt)?;
+    cables::ranges(rt)?;
+    cables::paces(rt)
 }

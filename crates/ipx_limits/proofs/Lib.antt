@@ -6,4 +6,7 @@ pub mod OneClient
 pub mod OfFrames
 pub mod Settings
 pub mod ToStrangers
+pub mod NarrowLine
+pub mod WithinParts
+pub mod SentParts
 pub mod examples

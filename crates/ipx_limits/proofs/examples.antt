@@ -6,3 +6,4 @@ pub mod Kinds
 pub mod Deciding
 pub mod Receiving
 pub mod Strangers
+pub mod Line

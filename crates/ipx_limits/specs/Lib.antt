@@ -11,6 +11,11 @@ pub mod Kinds
 pub mod Deciding
 pub mod Receiving
 pub mod Strangers
+-- a narrow line
+pub mod LineParts
+pub mod LineMembers
+pub mod LineRoom
 -- what follows
 pub mod Metered
 pub mod ClientEvents
+pub mod LineLaws

@@ -1,5 +1,5 @@
 -- The numbers of the limits that mean something, each under one name (own; measured with DOSBox, and with Linux' virtual cards).
-use Rattle.std.specs.Prelude.{ℕ}
+use Rattle.std.specs.Prelude.{ℕ, ◌*◌}
 
 -- nanoseconds of a second
 abbrev pub second : ℕ
@@ -156,3 +156,80 @@ services_asked = 1
 
 abbrev pub nearest_asked : ℕ
 nearest_asked = 3
+
+-- ---- a narrow line
+
+-- bytes in front of a packet there: the headers of UDP and IP, and as many as Ethernet has with its checksum; the longest packet, and a short
+-- one
+abbrev pub line_headers : ℕ
+line_headers = 46
+
+abbrev pub line_longest : ℕ
+line_longest = 1500
+
+abbrev pub line_short : ℕ
+line_short = 154
+
+-- nanoseconds that a byte takes by a line of one kilobit a second; of a line so many tenths are used
+abbrev pub byte_by_kilobit : ℕ
+byte_by_kilobit = 8000000
+
+abbrev pub tenths : ℕ
+tenths = 10
+
+abbrev pub tenths_used : ℕ
+tenths_used = 9
+
+abbrev pub millisecond : ℕ
+millisecond = 1000000
+
+-- for how long the line may be busy when a copy goes out: one beyond the part of its address; one within that; one within what a speaker may
+-- say to the address at once; and one within his part of that, or of one who says little to all together
+abbrev pub room_beyond : ℕ
+room_beyond = 20 * millisecond
+
+abbrev pub room_of_address : ℕ
+room_of_address = 40 * millisecond
+
+abbrev pub room_of_speaker : ℕ
+room_of_speaker = 80 * millisecond
+
+abbrev pub room_within : ℕ
+room_within = 310 * millisecond
+
+-- how much of its part an address may receive at once; and how much may be used at once of a speaker's part, and of what he says to all
+abbrev pub received_at_once : ℕ
+received_at_once = 250 * millisecond
+
+abbrev pub at_once : ℕ
+at_once = 150 * millisecond
+
+abbrev pub said_at_once : ℕ
+said_at_once = 1000 * millisecond
+
+-- there are so many parts at most
+abbrev pub most_parts : ℕ
+most_parts = 4096
+
+-- of so many parts of the line all but three are the speakers' parts of the addresses' parts; of the others one is what speakers say to all, one
+-- for the gateway's own datagrams, and one for those to strangers
+abbrev pub own_parts : ℕ
+own_parts = 32
+
+abbrev pub pair_parts : ℕ
+pair_parts = 29
+
+-- of what goes to strangers one address gets one part in so many
+abbrev pub stranger_parts : ℕ
+stranger_parts = 8
+
+-- and how much of each of these at once
+abbrev pub own_at_once : ℕ
+own_at_once = 1000 * millisecond
+
+-- who speaks has one of so many numbers from 1 on, and keeps it for so many seconds of silence
+abbrev pub line_numbers : ℕ
+line_numbers = 64
+
+abbrev pub quiet_seconds : ℕ
+quiet_seconds = 10

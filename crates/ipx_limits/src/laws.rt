@@ -1,5 +1,5 @@
 //! What follows from the definitions alone, for every state and every list of events, so for every stretch of time.
-ghost use Rattle.std.specs.Prelude.{◌≡◌, ℕ, ◌+◌, ◌-◌, ◌*◌, ◌^◌, ◌<◌, ◌≤◌, true, List, length};
+ghost use Rattle.std.specs.Prelude.{◌≡◌, ℕ, ◌+◌, ◌-◌, ◌*◌, ◌^◌, ◌<◌, ◌≤◌, ◌==◌, nat_le, true, not, if◌then◌else◌, Some, List, length, get_or};
 ghost use Rattle.ipx_fair.specs.Hearing.{queue_of};
 ghost use Rattle.ipx_fair.specs.States.{State};
 ghost use Rattle.ipx_fair.specs.Events.{Runs as RunsOfOne};
@@ -11,7 +11,15 @@ ghost use Rattle.ipx_limits.specs.declared.limits.HouseholdLimits.{HouseholdLimi
 ghost use Rattle.ipx_limits.specs.declared.limits.Limit.{Limit};
 ghost use Rattle.ipx_limits.specs.declared.limits.Limits.{Limits};
 ghost use Rattle.ipx_limits.specs.declared.network.NetworkSetting.{NetworkSetting};
+ghost use Rattle.ipx_limits.specs.declared.line.Line.{Line};
+ghost use Rattle.ipx_limits.specs.declared.line.LineAddress.{LineAddress};
+ghost use Rattle.ipx_limits.specs.declared.line_room.LineUse.{LineUse};
 ghost use Rattle.ipx_limits.specs.declared.queues.Queues.{Queues};
+ghost use Rattle.ipx_limits.specs.declared.rank.Rank.{Rank};
+ghost use Rattle.ipx_limits.specs.declared.rank.Rank.TheVariants.{Little, Within};
+ghost use Rattle.ipx_limits.specs.LineParts.{ahead, from_now, longest, pair_cost, said_cost, most_within};
+ghost use Rattle.ipx_limits.specs.LineRoom.{place_of, rank_of, most_room, room_of, room_for, has_room, most_used, is_little, is_of_part, LineSent, own_cost, own_after, lets_stranger, stranger_after};
+ghost use Rattle.ipx_limits.specs.LineLaws.{Busy, quiet, busy_then, Event as OnLine, Runs as LineRuns, elapsed as time_on_line, copied, own_fill, fill_by, room_behind, HasParts, IsWide, Saying, SayingRuns, said_fill, Stranger, StrangersRun, waited, sent as sent_on_line};
 ghost use Rattle.ipx_limits.specs.declared.uses.Address.{Address};
 ghost use Rattle.ipx_limits.specs.declared.uses.Client.{Client};
 ghost use Rattle.ipx_limits.specs.Queues.{users_of, Taken, speakers};
@@ -24,7 +32,7 @@ ghost use Rattle.ipx_limits.specs.Metered.{Use, Runs as UsesRun, elapsed as time
 ghost use Rattle.ipx_limits.specs.declared.decision.Decision.{Decision};
 ghost use Rattle.ipx_limits.specs.declared.decision.Decision.TheVariants.{Passes};
 ghost use Rattle.ipx_limits.specs.declared.strangers.StrangersLimits.{StrangersLimits};
-ghost use Rattle.ipx_limits.specs.Numbers.{most_rate};
+ghost use Rattle.ipx_limits.specs.Numbers.{most_rate, own_at_once, line_short};
 ghost use Rattle.ipx_limits.specs.Strangers.{registration, strangers_at, Sent, Event as ToStrangers, AllRuns, OneRuns, sent, time_of as time_to_strangers};
 
 /// What happens to one of several receivers that all have to hear a packet is what happens to a receiver, so all that `ipx_fair` promises
@@ -203,4 +211,73 @@ pub fn newcomer_is_answered()
     ensures { (rate : ℕ) (decision : Decision) (address address_then all all_then : Meter)
         → Sent (strangers_at rate) registration decision address address_then all all_then → address.used ≡ 0
         → all.used + registration * (strangers_at rate).all.each ≤ (strangers_at rate).all.burst → decision ≡ Passes }
+{}
+
+/// What a narrow line keeps are moments: as long as a clock doesn't reach its end, what is used ends when it should.
+pub fn moments_last()
+    ensures later { (now moment nanoseconds : ℕ) → ahead (now + nanoseconds) moment ≡ ahead now moment - nanoseconds }
+    ensures set { (now nanoseconds : ℕ) → now + nanoseconds < 2 ^ 64 → ahead now (from_now now nanoseconds) ≡ nanoseconds }
+{}
+
+/// What goes out by a narrow line takes its part of what is used then, and nothing else: so the steps of which these laws speak are the calls'.
+pub fn sent_takes_its_part()
+    ensures line { (now number bytes : ℕ) (rank : Rank) (old new : Line) (said said_then : ℕ) (to to_then : LineAddress)
+        → LineSent now number bytes rank old new said said_then to to_then → now + most_used old < 2 ^ 64
+        → ahead now new.used ≡ busy_then old bytes (ahead now old.used) }
+    ensures said { (now number bytes : ℕ) (rank : Rank) (old new : Line) (said said_then : ℕ) (to to_then : LineAddress)
+        → LineSent now number bytes rank old new said said_then to to_then → now + (ahead now said + said_cost old bytes) < 2 ^ 64
+        → ahead now said_then ≡ (if is_little rank then ahead now said + said_cost old bytes else ahead now said) }
+    ensures within { (now number bytes : ℕ) (rank : Rank) (old new : Line) (said said_then : ℕ) (to to_then : LineAddress)
+        → LineSent now number bytes rank old new said said_then to to_then → place_of number < length to.within
+        → now + (ahead now (get_or to.within (place_of number) 0) + pair_cost old to bytes) < 2 ^ 64
+        → ahead now (get_or to_then.within (place_of number) 0)
+        ≡ (if is_of_part rank then ahead now (get_or to.within (place_of number) 0) + pair_cost old to bytes else ahead now (get_or to.within (place_of number) 0)) }
+    ensures own { (now bytes : ℕ) (line : Line) → now + most_used line < 2 ^ 64 → ahead now (own_after now line bytes).used ≡ busy_then line bytes (ahead now line.used) }
+    ensures strangers { (now bytes address : ℕ) (line : Line) → lets_stranger now line address ≡ true → now + (ahead now line.to_strangers + own_cost line bytes) < 2 ^ 64
+        → (nat_le (ahead now line.to_strangers) own_at_once ≡ true) × (nat_le (ahead now address) own_at_once ≡ true)
+        × (ahead now (stranger_after now line bytes).to_strangers ≡ ahead now line.to_strangers + own_cost line bytes) }
+{}
+
+/// Copies take no more of a narrow line in any time than that time, its room, and one of the longest packets: whatever else goes out, and
+/// however busy the line is before.
+pub fn line_is_bound()
+    ensures { (line : Line) (speak_to : List ℕ) (old new : Busy) (events : List OnLine) → LineRuns line speak_to old events new
+        → copied line events ≤ time_on_line events + most_room line + longest line }
+{}
+
+/// Those who are no clients get no more in any time than their part of a narrow line, and what it may have at once; nor does one address of them
+/// than its part of that.
+pub fn strangers_have_a_part()
+    ensures { (line : Line) (parts old new : ℕ) (events : List Stranger) → StrangersRun line parts old events new → old ≤ own_at_once
+        → parts * sent_on_line line events ≤ waited events + own_at_once + parts * longest line }
+{}
+
+/// On a narrow line copies of a rank, and those that come first, don't wait for others: as long as these alone, with the gateway's own
+/// datagrams, wait no longer than the room that their rank has beyond the next, and one of the longest packets, all of them find room.
+pub fn better_goes_first()
+    ensures busy { (line : Line) (speak_to : List ℕ) (rank : Rank) (new : Busy) (speak : ℕ) (events : List OnLine)
+        → LineRuns line speak_to (quiet speak speak_to) events new → new.line ≤ room_behind rank + longest line + fill_by line rank 0 events }
+    ensures heard { (line : Line) (speak_to : List ℕ) (rank : Rank) (new : Busy) (speak : ℕ) (events : List OnLine) (used : LineUse)
+        → LineRuns line speak_to (quiet speak speak_to) events new → used.line ≡ new.line
+        → room_behind rank + longest line + fill_by line rank 0 events ≤ room_of line rank → has_room line rank used ≡ true }
+{}
+
+/// Whoever says no more than his parts finds room on a narrow line, whatever others say: as long as the line is wide enough for all who are on it,
+/// and the gateway's own datagrams keep to their part, too.
+pub fn within_is_heard()
+    ensures within { (line : Line) (speak : ℕ) (speak_to : List ℕ) (new : Busy) (events : List OnLine) (to : LineAddress) (number bytes : ℕ) (used : LineUse)
+        → LineRuns line speak_to (quiet speak speak_to) events new → HasParts line speak speak_to → IsWide line
+        → own_fill line 0 events ≤ own_at_once + own_cost line line_short → used.line ≡ new.line → rank_of line to number bytes used ≡ Within
+        → room_for line to number bytes used ≡ Some Within }
+    ensures little { (line : Line) (speak : ℕ) (speak_to : List ℕ) (new : Busy) (events : List OnLine) (to : LineAddress) (number bytes : ℕ) (used : LineUse)
+        → LineRuns line speak_to (quiet speak speak_to) events new → HasParts line speak speak_to → IsWide line
+        → own_fill line 0 events ≤ own_at_once + own_cost line line_short → used.line ≡ new.line → rank_of line to number bytes used ≡ Little
+        → room_for line to number bytes used ≡ Some Little }
+{}
+
+/// And who says no more to an address than the part of the line that he has there, and at once what it lets him, is within it.
+pub fn part_is_within()
+    ensures { (line : Line) (to : LineAddress) (number bytes : ℕ) (old new : ℕ) (sayings : List Saying) (used : LineUse)
+        → not (number == 0) ≡ true → SayingRuns line to old sayings new → used.within ≤ new
+        → said_fill line to old sayings + pair_cost line to bytes ≤ most_within line to → rank_of line to number bytes used ≡ Within }
 {}

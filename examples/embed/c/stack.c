@@ -8,6 +8,7 @@
 #include <stdlib.h>
 #include <string.h>
 
+#include "ipxr_cable.h"
 #include "ipxr_limits.h"
 #include "ipxr_segment.h"
 #include "ipxr_tunnel.h"
@@ -30,6 +31,7 @@ static ipxr_limits limits;
 static ipxr_household_limits household;
 static ipxr_strangers_limits strangers;
 static ipxr_reader reader;
+static ipxr_kinds kinds;
 static ipxr_sender sender;
 static unsigned char *stack;
 static uint8_t packet[LONGEST];
@@ -233,6 +235,32 @@ static void read_all(void)
     ipxr_reader_look(&reader, &clock, IPXR_MOST_TIME);
     if (reader.packets.total != 0 || reader.pieces.total != 0)
         answer = -1;
+}
+
+/* ---- Cables ---- */
+
+/* As many stations as there is room for, and one more of each bucket. */
+static void hear_kinds(void)
+{
+    uint8_t node[6] = {2};
+    for (unsigned k = 0; k < 64 * 9; k++) {
+        put_number(node + 1, 4, k);
+        if (!ipxr_kinds_hear(&kinds, k, node, IPXR_FRAME_RAW, true) || !ipxr_kinds_speaks(&kinds, k, node, IPXR_FRAME_RAW))
+            answer = -1;
+    }
+}
+
+static void second_of_cables(void)
+{
+    ipxr_loop first = {0}, later = {0};
+    ipxr_pace pace = {0, 0};
+    const ipxr_range all = {{0}, 0};
+    ipxr_kinds_second(&kinds);
+    ipxr_pace_more_wait(&pace, 2, 1, 1);
+    answer = ipxr_loop_probe(1, 0, 0, 0, &later, &first) == IPXR_PROBE_HERE && !ipxr_loop_second(&later) &&
+                     ipxr_ranges_have(&all, 1, NEIGHBOUR) && ipxr_range_is_first(&all) && ipxr_pace_lets_go(&pace, 2, 1)
+                 ? 0
+                 : -1;
 }
 
 /* Whatever reads the router, and the packets that it sends. */
@@ -474,6 +502,12 @@ static void play_limits(void)
     measure("all of it is read", read_all, MOST);
 }
 
+static void play_cables(void)
+{
+    measure("stations of any kind are heard", hear_kinds, MOST);
+    measure("a second for cables", second_of_cables, MOST);
+}
+
 int main(int count, char **words)
 {
     in_figures = count > 1 && strcmp(words[1], "figures") == 0;
@@ -492,6 +526,7 @@ int main(int count, char **words)
     play_segment();
     play_receiver();
     play_limits();
+    play_cables();
     free(stack);
     printf("faults: %d\n", faults);
     return 0;

@@ -47,11 +47,6 @@ static address of_system(const struct sockaddr_in *at)
     return it;
 }
 
-bool six_of_words(const char *digits, uint8_t six[16])
-{
-    return inet_pton(AF_INET6, digits, six) == 1;
-}
-
 void six_words(const uint8_t six[16], char digits[SIX_ROOM])
 {
     if (inet_ntop(AF_INET6, six, digits, SIX_ROOM) == NULL)

@@ -3,6 +3,9 @@
 #include "inside.h"
 #include "play.h"
 
+/* Numbers of those who speak by the line. */
+enum { NUMBERS = 64 };
+
 /* The addresses that are met on the way through all lists of clients, each once. */
 static bool is_met_first(gateway *it, size_t network_number, size_t client)
 {
@@ -28,34 +31,35 @@ static size_t by_line(gateway *it, const speaker *of)
 }
 
 /* Adds what the addresses of a network are to what was counted of all. */
-static void count(gateway *it, size_t number, size_t *addresses, size_t users[MOST_APART], size_t *speaking)
+static void count(gateway *it, size_t number, size_t *addresses, size_t users[NUMBERS], size_t *speaking)
 {
     const roster *of = &it->networks[number].roster;
     for (size_t c = 0; c < of->count; c++) {
         const speaker *one = of->list[c].speaks;
         if (!is_met_first(it, number, c))
             continue;
-        if (one->line.clients != by_line(it, one))
-            wrong("address 10.0.0.%u has %zu clients by the line, and %zu are listed", one->host[3], one->line.clients, by_line(it, one));
-        *addresses += one->line.clients > 0;
-        *speaking += one->line.number > 0;
-        users[one->line.number]++;
+        if (one->line.at.clients != by_line(it, one))
+            wrong("address 10.0.0.%u has %u clients by the line, and %zu are listed", one->host[3], (unsigned)one->line.at.clients, by_line(it, one));
+        *addresses += one->line.at.clients > 0;
+        *speaking += one->line.at.number > 0;
+        users[one->line.at.number]++;
     }
 }
 
 void line_is_well(gateway *it)
 {
-    size_t addresses = 0, speaking = 0, users[MOST_APART] = {0};
+    size_t addresses = 0, speaking = 0, users[NUMBERS] = {0};
     for (size_t k = 0; k < it->count; k++)
         count(it, k, &addresses, users, &speaking);
-    if (addresses != the.addresses || speaking != the.speakers)
-        wrong("the line has %zu addresses, of which %zu speak, and counts %zu and %zu", addresses, speaking, the.addresses, the.speakers);
-    for (size_t k = 1; k < MOST_APART; k++)
-        if (users[k] != the.numbers.users[k])
-            wrong("%zu addresses have the number %zu on the line, and %zu are counted", users[k], k, the.numbers.users[k]);
+    if (addresses != line.addresses || speaking != line.speakers)
+        wrong("the line has %zu addresses, of which %zu speak, and counts %u and %u", addresses, speaking, (unsigned)line.addresses,
+              (unsigned)line.speakers);
+    for (size_t k = 1; k < NUMBERS; k++)
+        if (users[k] != line.numbers.users[k])
+            wrong("%zu addresses have the number %zu on the line, and %u are counted", users[k], k, (unsigned)line.numbers.users[k]);
 }
 
 bool line_is_unused(void)
 {
-    return the.addresses == 0 && the.speakers == 0;
+    return line.addresses == 0 && line.speakers == 0;
 }

@@ -1,0 +1,12 @@
+pub mod Lists
+pub mod Filters
+pub mod Nodes
+pub mod Places
+pub mod Buckets
+pub mod Alone
+pub mod Staying
+pub mod Using
+pub mod examples
+pub mod Fronts
+pub mod Probes
+pub mod InTime

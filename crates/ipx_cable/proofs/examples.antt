@@ -1,0 +1,5 @@
+-- Worked examples: each is checked by computing it.
+pub mod Kinds
+pub mod Loops
+pub mod Ranges
+pub mod Paces

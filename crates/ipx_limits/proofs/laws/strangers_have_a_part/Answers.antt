@@ -1,0 +1,5 @@
+use Rattle.ipx_limits.proofs.NarrowLine.{strangers_most}
+use Rattle.ipx_limits.proofs.laws.strangers_have_a_part.Goals as goal
+
+pub returns : goal.returns
+returns c = λ line parts old new events run few. strangers_most line parts old new events run few

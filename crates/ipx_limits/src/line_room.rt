@@ -1,0 +1,238 @@
+//! Which copies find room on a narrow line.
+ghost use Rattle.std.specs.Prelude.{◌≡◌, ◌≤◌, ◌^◌, true};
+ghost use Rattle.ipx_limits.specs.LineParts.{owed};
+ghost use Rattle.ipx_limits.specs.LineRoom.{place_of, use_at, is_within, has_part, is_alone, says_little, rank_of, most_room, room_of, address_owed, LineAsked, most_used, line_after, LineSent, taken, is_little, is_of_part, is_spoken, is_received, own_cost, lets_own, own_after, stranger_cost, lets_stranger, strangers_owed, stranger_owed, stranger_after};
+
+use crate::limits::SECOND;
+use crate::line::{Line, LineAddress};
+use crate::line_parts::{LONGEST, MILLISECOND, ahead, from_now, owed, times};
+use crate::rank::Rank;
+
+/// For how long the line may be busy when a copy goes out, by its rank.
+const BEYOND: u64 = 20 * MILLISECOND;
+
+const OF_ADDRESS: u64 = 40 * MILLISECOND;
+
+const OF_SPEAKER: u64 = 80 * MILLISECOND;
+
+const WITHIN: u64 = 310 * MILLISECOND;
+
+/// How much of its part an address may receive at once.
+const RECEIVED_AT_ONCE: u64 = 250 * MILLISECOND;
+
+/// How many numbers are told apart.
+const NUMBERS: u8 = 64;
+
+/// What is used now: of the line; by the speaker, of what he may say to all; by the address; by the speaker, of his part of the address' part,
+/// and beyond that.
+#[derive(Clone, Copy, Debug)]
+pub(crate) struct LineUse {
+    pub(crate) line: u64,
+    pub(crate) said: u64,
+    pub(crate) received: u64,
+    pub(crate) within: u64,
+    pub(crate) spoken: u64,
+}
+
+impl Line {
+    /// Whether there is room for a copy of a packet of so many bytes to an address, and with which rank it goes out: ask, and then send. The
+    /// speaker has a number, or 0 if it is the router or a network of another kind; `said` is the moment until which his part of what is said
+    /// to all is used. (whoever used parts while they were smaller owes no more for it than one of the longest packets takes of them now)
+    pub fn room(
+        &self,
+        now: u64,
+        number: u8,
+        bytes: usize,
+        said: &mut u64,
+        to: &mut LineAddress,
+    ) -> Option<Rank>
+        ensures { LineAsked now self.now number bytes said.old said.new result to.old to.new }
+    {
+        *said = self.said_owed(now, *said);
+        self.hold(now, number, to);
+        let place = usize::from(number % NUMBERS);
+        let used = LineUse {
+            line: ahead(now, self.used),
+            said: ahead(now, *said),
+            received: ahead(now, to.received),
+            within: ahead(now, to.within[place]),
+            spoken: ahead(now, to.spoken[place]),
+        };
+        let rank = self.rank(to, number, bytes, used);
+        if used.line <= self.room_of(rank) {
+            Some(rank)
+        } else {
+            None
+        }
+    }
+
+    /// A copy goes out that found room with that rank.
+    pub fn send(
+        &mut self,
+        now: u64,
+        number: u8,
+        bytes: usize,
+        rank: Rank,
+        said: &mut u64,
+        to: &mut LineAddress,
+    )
+        ensures { LineSent now number bytes rank self.old self.new said.old said.new to.old to.new }
+    {
+        let cost = self.cost(bytes);
+        let place = usize::from(number % NUMBERS);
+        match rank {
+            Rank::Within => {
+                let of_part = self.pair_cost(to, bytes);
+                to.within[place] = further(now, to.within[place], of_part);
+            }
+            Rank::Little => *said = further(now, *said, self.said_cost(bytes)),
+            Rank::OfSpeaker => {
+                let of_pair = times(cost, self.pairs(to));
+                to.spoken[place] = further(now, to.spoken[place], of_pair);
+            }
+            _ => (),
+        }
+        if rank != Rank::Beyond {
+            to.received = further(now, to.received, times(cost, self.receivers()));
+        }
+        self.goes(now, bytes);
+    }
+
+    /// Whether an answer of the gateway's own goes out to a client.
+    pub fn lets_own(&self, now: u64) -> bool
+        ensures { result ≡ lets_own now self.now }
+    {
+        let is_within = ahead(now, self.own) <= SECOND && ahead(now, self.used) <= self.most_room();
+        is_within || ahead(now, self.used) <= BEYOND
+    }
+
+    /// It goes out; or a ping, for which there is always room, since by it clients stay.
+    pub fn send_own(&mut self, now: u64, bytes: usize)
+        ensures { self.new ≡ own_after now self.old bytes }
+    {
+        let used = further(now, self.own, self.own_cost(bytes));
+        self.own = owed(now, SECOND, self.own_cost(LONGEST), used);
+        self.goes(now, bytes);
+    }
+
+    /// Whether there is room for what the gateway says to one who is no client. `address` is the moment until which the part of that is used
+    /// which his address has.
+    pub fn lets_stranger(&mut self, now: u64, address: &mut u64) -> bool
+        ensures room { result ≡ lets_stranger now self.new address.new }
+        ensures line { self.new ≡ strangers_owed now self.old }
+        ensures address { address.new ≡ stranger_owed now self.old address.old }
+    {
+        *address = owed(now, SECOND, self.stranger_cost(LONGEST), *address);
+        self.to_strangers = owed(now, SECOND, self.own_cost(LONGEST), self.to_strangers);
+        ahead(now, self.to_strangers) <= SECOND
+            && ahead(now, *address) <= SECOND
+            && ahead(now, self.used) <= self.most_room()
+    }
+
+    /// It goes out.
+    pub fn send_to_stranger(&mut self, now: u64, bytes: usize, address: &mut u64)
+        ensures line { self.new ≡ stranger_after now self.old bytes }
+        ensures address { address.new ≡ taken now true (stranger_cost self.old bytes) address.old }
+    {
+        *address = further(now, *address, self.stranger_cost(bytes));
+        self.to_strangers = further(now, self.to_strangers, self.own_cost(bytes));
+        self.goes(now, bytes);
+    }
+
+    /// Nanoseconds from a ping of so many bytes to the next, so that those of many clients keep to the part of the gateway's own datagrams.
+    pub fn between_pings(&self, bytes: usize) -> u64
+        ensures { result ≡ own_cost self.now bytes }
+    {
+        self.own_cost(bytes)
+    }
+}
+
+impl Line {
+    /// Something goes out.
+    fn goes(&mut self, now: u64, bytes: usize)
+        ensures { self.new ≡ line_after now self.old bytes }
+    {
+        let busy = ahead(now, self.used).saturating_add(self.cost(bytes));
+        self.used = from_now(now, busy.min(self.most_used()));
+    }
+
+    fn most_room(&self) -> u64
+        ensures value { result ≡ most_room self.now }
+        ensures most { result ≤ 2 ^ 37 }
+    {
+        WITHIN + self.longest() + 2 * self.short()
+    }
+
+    fn most_used(&self) -> u64
+        ensures value { result ≡ most_used self.now }
+        ensures most { result ≤ 2 ^ 38 }
+    {
+        SECOND.max(self.most_room() + self.longest())
+    }
+
+    /// What is used of the parts that a copy to an address takes, as far as it is owed.
+    fn hold(&self, now: u64, number: u8, to: &mut LineAddress)
+        ensures { to.new ≡ address_owed now self.now to.old number }
+    {
+        let place = usize::from(number % NUMBERS);
+        let within = self.within_owed(now, to, to.within[place]);
+        let of_pair = times(self.longest(), self.pairs(to));
+        let spoken = owed(now, self.most_spoken(to), of_pair, to.spoken[place]);
+        let of_address = times(self.longest(), self.receivers());
+        to.received = owed(now, RECEIVED_AT_ONCE, of_address, to.received);
+        to.within[place] = within;
+        to.spoken[place] = spoken;
+    }
+
+    fn rank(&self, to: &LineAddress, number: u8, bytes: usize, used: LineUse) -> Rank
+        ensures { result ≡ rank_of self.now to.now number bytes used }
+    {
+        if self.is_within(to, number, bytes, used) {
+            Rank::Within
+        } else if self.says_little(number, bytes, used) {
+            Rank::Little
+        } else if used.spoken <= self.most_spoken(to) {
+            Rank::OfSpeaker
+        } else if used.received <= RECEIVED_AT_ONCE {
+            Rank::OfAddress
+        } else {
+            Rank::Beyond
+        }
+    }
+
+    fn is_within(&self, to: &LineAddress, number: u8, bytes: usize, used: LineUse) -> bool
+        ensures { result ≡ is_within self.now to.now number bytes used }
+    {
+        let most = self.most_within(to);
+        number != 0 && used.within <= most && self.pair_cost(to, bytes) <= most - used.within
+    }
+
+    fn says_little(&self, number: u8, bytes: usize, used: LineUse) -> bool
+        ensures { result ≡ says_little self.now number bytes used }
+    {
+        let most = self.most_said();
+        let is_alone = self.numbers.users[usize::from(number)] <= 1;
+        number != 0
+            && (used.received <= RECEIVED_AT_ONCE || !is_alone)
+            && used.said <= most
+            && self.said_cost(bytes) <= most - used.said
+    }
+
+    fn room_of(&self, rank: Rank) -> u64
+        ensures { result ≡ room_of self.now rank }
+    {
+        match rank {
+            Rank::Beyond => BEYOND,
+            Rank::OfAddress => OF_ADDRESS,
+            Rank::OfSpeaker => OF_SPEAKER,
+            Rank::Little | Rank::Within => self.most_room(),
+        }
+    }
+}
+
+/// The moment until which something is used, after so many nanoseconds more.
+fn further(now: u64, moment: u64, nanoseconds: u64) -> u64
+    ensures { result ≡ taken now true nanoseconds moment }
+{
+    from_now(now, ahead(now, moment).saturating_add(nanoseconds))
+}

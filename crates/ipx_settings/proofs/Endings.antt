@@ -1,0 +1,176 @@
+use Rattle.std.proofs.Common.{◌≡◌, ℕ, ◌≤◌, nat_le, true, false, List, [], ◌∷◌, refl, arith, Some, None}
+use Rattle.std.specs.Prelude.{codes}
+use Rattle.ipx_settings.specs.Addresses.{own_host, four_at, six_at}
+use Rattle.ipx_settings.specs.Names.{padded, name_room}
+use Rattle.ipx_settings.specs.Beginnings.{said_by}
+use Rattle.ipx_settings.specs.Lines.{line_step, line_ends, fault_of}
+use Rattle.ipx_settings.specs.declared.addresses.Address.{Address}
+use Rattle.ipx_settings.specs.declared.addresses.Host.{Host}
+use Rattle.ipx_settings.specs.declared.addresses.Host.TheVariants.{Four, Six}
+use Rattle.ipx_settings.specs.declared.addresses.Place.TheVariants.{At}
+use Rattle.ipx_settings.specs.declared.expected.Expected.{Expected}
+use Rattle.ipx_settings.specs.declared.expected.Expected.TheVariants as expected
+use Rattle.ipx_settings.specs.declared.line.ClientsBegun.TheVariants as clients
+use Rattle.ipx_settings.specs.declared.line.Context.{Context}
+use Rattle.ipx_settings.specs.declared.line.Line.{Line}
+use Rattle.ipx_settings.specs.declared.line.Line.TheVariants as line
+use Rattle.ipx_settings.specs.declared.line.RateBegun.TheVariants as rate
+use Rattle.ipx_settings.specs.declared.link.End.{End}
+use Rattle.ipx_settings.specs.declared.link.End.TheVariants as ends
+use Rattle.ipx_settings.specs.declared.link.Frames.TheVariants.{Raw}
+use Rattle.ipx_settings.specs.declared.link.Link.TheVariants as link
+use Rattle.ipx_settings.specs.declared.link.LinkBegun.{LinkBegun}
+use Rattle.ipx_settings.specs.declared.link.LinkBegun.TheVariants as begun
+use Rattle.ipx_settings.specs.declared.network.Head.{Head}
+use Rattle.ipx_settings.specs.declared.network.NetworkBegun.TheVariants as network
+
+-- words that make it a line
+abbrev pub CanEnd : Context → Line → Type 0
+CanEnd c l = (more : List (List ℕ)) × ((m : Line) × ((said_by c l more ≡ Some m) × (line_ends m ≡ true)))
+
+ends_now : (c : Context) (l : Line) → line_ends l ≡ true → CanEnd c l
+ends_now c l is = ([], (l, (refl, is)))
+
+-- ---- links
+
+abbrev own : Address
+own = four_at own_host 1
+
+abbrev framed : End → LinkBegun
+framed end = begun.Whole (link.Framed end Raw)
+
+abbrev whole_tunnel : LinkBegun
+whole_tunnel = begun.Whole (link.Tunnel own)
+
+abbrev one_six : List ℕ
+one_six = 0 ∷ 0 ∷ 0 ∷ 0 ∷ 0 ∷ 0 ∷ 0 ∷ 1 ∷ []
+
+from_link_can_end : (c : Context) (host : Host) (port : ℕ) → CanEnd c (line.Link (begun.UdpFrom (record { host = host; port = port })))
+from_link_can_end c (Four four) port = (codes "1" ∷ codes "raw" ∷ [], (line.Link (framed (ends.Udp (four_at four port) (At own))), (refl, refl)))
+from_link_can_end c (Six six) port = (codes "[::1]:1" ∷ codes "raw" ∷ [], (line.Link (framed (ends.Udp (six_at six port) (At (six_at one_six 1)))), (refl, refl)))
+
+link_can_end : (c : Context) (b : LinkBegun) → CanEnd c (line.Link b)
+link_can_end c begun.Nothing = (codes "dosbox" ∷ codes "1" ∷ [], (line.Link (whole_tunnel), (refl, refl)))
+link_can_end c begun.Tunnel = (codes "1" ∷ [], (line.Link (whole_tunnel), (refl, refl)))
+link_can_end c begun.Udp = (codes "1" ∷ codes "1" ∷ codes "raw" ∷ [], (line.Link (framed (ends.Udp own (At own))), (refl, refl)))
+link_can_end c begun.Tcp = (codes "listen" ∷ codes "1" ∷ codes "raw" ∷ [], (line.Link (framed (ends.Listen own)), (refl, refl)))
+link_can_end c begun.Listen = (codes "1" ∷ codes "raw" ∷ [], (line.Link (framed (ends.Listen own)), (refl, refl)))
+link_can_end c begun.Connect = (codes "1" ∷ codes "raw" ∷ [], (line.Link (framed (ends.Connect (At own))), (refl, refl)))
+link_can_end c begun.Tap = (codes "a" ∷ codes "raw" ∷ [], (line.Link (framed (ends.Tap (padded name_room (codes "a")))), (refl, refl)))
+link_can_end c begun.Interface = (codes "a" ∷ codes "raw" ∷ [], (line.Link (framed (ends.Interface (padded name_room (codes "a")))), (refl, refl)))
+link_can_end c (begun.UdpFrom a) = from_link_can_end c a.host a.port
+link_can_end c (begun.End end) = (codes "raw" ∷ [], (line.Link (framed end), (refl, refl)))
+link_can_end c (begun.Whole whole) = ends_now c (line.Link (begun.Whole whole)) refl
+
+from_network_can_end : (c : Context) (head : Head) (host : Host) (port : ℕ) → CanEnd c (line.Network (network.Link head (begun.UdpFrom (record { host = host; port = port }))))
+from_network_can_end c head (Four four) port = (codes "1" ∷ codes "raw" ∷ [], (line.Network (network.Link head (framed (ends.Udp (four_at four port) (At own)))), (refl, refl)))
+from_network_can_end c head (Six six) port = (codes "[::1]:1" ∷ codes "raw" ∷ [], (line.Network (network.Link head (framed (ends.Udp (six_at six port) (At (six_at one_six 1))))), (refl, refl)))
+
+network_can_end : (c : Context) (head : Head) (b : LinkBegun) → CanEnd c (line.Network (network.Link head b))
+network_can_end c head begun.Nothing = (codes "dosbox" ∷ codes "1" ∷ [], (line.Network (network.Link head (whole_tunnel)), (refl, refl)))
+network_can_end c head begun.Tunnel = (codes "1" ∷ [], (line.Network (network.Link head (whole_tunnel)), (refl, refl)))
+network_can_end c head begun.Udp = (codes "1" ∷ codes "1" ∷ codes "raw" ∷ [], (line.Network (network.Link head (framed (ends.Udp own (At own)))), (refl, refl)))
+network_can_end c head begun.Tcp = (codes "listen" ∷ codes "1" ∷ codes "raw" ∷ [], (line.Network (network.Link head (framed (ends.Listen own))), (refl, refl)))
+network_can_end c head begun.Listen = (codes "1" ∷ codes "raw" ∷ [], (line.Network (network.Link head (framed (ends.Listen own))), (refl, refl)))
+network_can_end c head begun.Connect = (codes "1" ∷ codes "raw" ∷ [], (line.Network (network.Link head (framed (ends.Connect (At own)))), (refl, refl)))
+network_can_end c head begun.Tap = (codes "a" ∷ codes "raw" ∷ [], (line.Network (network.Link head (framed (ends.Tap (padded name_room (codes "a"))))), (refl, refl)))
+network_can_end c head begun.Interface = (codes "a" ∷ codes "raw" ∷ [], (line.Network (network.Link head (framed (ends.Interface (padded name_room (codes "a"))))), (refl, refl)))
+network_can_end c head (begun.UdpFrom a) = from_network_can_end c head a.host a.port
+network_can_end c head (begun.End end) = (codes "raw" ∷ [], (line.Network (network.Link head (framed end)), (refl, refl)))
+network_can_end c head (begun.Whole whole) = ends_now c (line.Network (network.Link head (begun.Whole whole))) refl
+
+-- ---- lines
+
+abbrev a_head : ℕ → ℕ → Head
+a_head number cost = record { number = number; cost = cost; longest = 1424; shares = None }
+
+-- whatever was said may be made a line, if a network may have a client
+pub can_end : (c : Context) (l : Line) → 1 ≤ c.most_clients → CanEnd c l
+can_end c line.Nothing some = ends_now c line.Nothing refl
+can_end c (line.Network network.Nothing) some =
+    (codes "1" ∷ codes "1" ∷ codes "1424" ∷ [], (line.Network (network.Head (a_head 1 1)), (refl, refl)))
+can_end c (line.Network (network.Number number)) some =
+    (codes "1" ∷ codes "1424" ∷ [], (line.Network (network.Head (a_head number 1)), (refl, refl)))
+can_end c (line.Network (network.Cost number cost)) some =
+    (codes "1424" ∷ [], (line.Network (network.Head (a_head number cost)), (refl, refl)))
+can_end c (line.Network (network.Head head)) some = ends_now c (line.Network (network.Head head)) refl
+can_end c (line.Network (network.Routes head routes)) some =
+    (codes "1" ∷ [], (line.Network (network.Head (record { number = head.number; cost = head.cost; longest = head.longest; shares = Some (record { routes = routes; services = 1 }) })), (refl, refl)))
+can_end c (line.Network (network.Link head b)) some = network_can_end c head b
+can_end c (line.Network (network.Node head whole)) some =
+    (codes "020000000001" ∷ [], (line.Network (network.Whole head whole (2 ∷ 0 ∷ 0 ∷ 0 ∷ 0 ∷ 1 ∷ [])), (refl, refl)))
+can_end c (line.Network (network.Whole head whole node)) some = ends_now c (line.Network (network.Whole head whole node)) refl
+can_end c (line.Link b) some = link_can_end c b
+can_end c (line.Extend has_some) some = (codes "1" ∷ [], (line.Extend true, (refl, refl)))
+can_end c (line.Clients clients.Nothing) some =
+    let fits : nat_le 1 c.most_clients ≡ true = grind (arith, some) in
+    (codes "1" ∷ [], (line.Clients (clients.All 1), (rw fits refl, refl)))
+can_end c (line.Clients (clients.All n)) some = ends_now c (line.Clients (clients.All n)) refl
+can_end c (line.Clients (clients.OfAddress n m)) some = ends_now c (line.Clients (clients.OfAddress n m)) refl
+can_end c (line.Allow has_some) some = (codes "1.1.1.1" ∷ [], (line.Allow true, (refl, refl)))
+can_end c (line.Trust has_some) some = (codes "1.1.1.1" ∷ [], (line.Trust true, (refl, refl)))
+can_end c (line.Rate rate.Nothing) some = (codes "none" ∷ [], (line.Rate (rate.Rate 0), (refl, refl)))
+can_end c (line.Rate (rate.Rate r)) some = ends_now c (line.Rate (rate.Rate r)) refl
+can_end c (line.Rate (rate.Share r share)) some = ends_now c (line.Rate (rate.Share r share)) refl
+can_end c (line.Rate (rate.Household r share household)) some = ends_now c (line.Rate (rate.Household r share household)) refl
+can_end c (line.Strangers None) some = (codes "none" ∷ [], (line.Strangers (Some 0), (refl, refl)))
+can_end c (line.Strangers (Some r)) some = ends_now c (line.Strangers (Some r)) refl
+can_end c (line.Kilobits None) some = (codes "1" ∷ [], (line.Kilobits (Some 1), (refl, refl)))
+can_end c (line.Kilobits (Some n)) some = ends_now c (line.Kilobits (Some n)) refl
+
+-- ---- what doesn't end says what was expected
+
+abbrev Refuses : Context → Line → Type 0
+Refuses c l = (e : Expected) × (fault_of (line_step c l []) ≡ Some e)
+
+link_refuses : (c : Context) (b : LinkBegun) → line_ends (line.Link b) ≡ false → Refuses c (line.Link b)
+link_refuses c begun.Nothing open_still = (expected.Link, refl)
+link_refuses c begun.Tunnel open_still = (expected.Address, refl)
+link_refuses c begun.Udp open_still = (expected.Address, refl)
+link_refuses c (begun.UdpFrom a) open_still = (expected.Remote, refl)
+link_refuses c begun.Tcp open_still = (expected.Connection, refl)
+link_refuses c begun.Listen open_still = (expected.Address, refl)
+link_refuses c begun.Connect open_still = (expected.Remote, refl)
+link_refuses c begun.Tap open_still = (expected.Tap, refl)
+link_refuses c begun.Interface open_still = (expected.Interface, refl)
+link_refuses c (begun.End end) open_still = (expected.Frames, refl)
+link_refuses c (begun.Whole whole) open_still = absurd cc
+
+network_refuses : (c : Context) (head : Head) (b : LinkBegun) → line_ends (line.Network (network.Link head b)) ≡ false → Refuses c (line.Network (network.Link head b))
+network_refuses c head begun.Nothing open_still = (expected.Link, refl)
+network_refuses c head begun.Tunnel open_still = (expected.Address, refl)
+network_refuses c head begun.Udp open_still = (expected.Address, refl)
+network_refuses c head (begun.UdpFrom a) open_still = (expected.Remote, refl)
+network_refuses c head begun.Tcp open_still = (expected.Connection, refl)
+network_refuses c head begun.Listen open_still = (expected.Address, refl)
+network_refuses c head begun.Connect open_still = (expected.Remote, refl)
+network_refuses c head begun.Tap open_still = (expected.Tap, refl)
+network_refuses c head begun.Interface open_still = (expected.Interface, refl)
+network_refuses c head (begun.End end) open_still = (expected.Frames, refl)
+network_refuses c head (begun.Whole whole) open_still = absurd cc
+
+pub refuses : (c : Context) (l : Line) → line_ends l ≡ false → Refuses c l
+refuses c line.Nothing open_still = absurd cc
+refuses c (line.Network network.Nothing) open_still = (expected.Network, refl)
+refuses c (line.Network (network.Number number)) open_still = (expected.Cost, refl)
+refuses c (line.Network (network.Cost number cost)) open_still = (expected.Longest, refl)
+refuses c (line.Network (network.Head head)) open_still = absurd cc
+refuses c (line.Network (network.Routes head routes)) open_still = (expected.Services, refl)
+refuses c (line.Network (network.Link head b)) open_still = network_refuses c head b open_still
+refuses c (line.Network (network.Node head whole)) open_still = (expected.Node, refl)
+refuses c (line.Network (network.Whole head whole node)) open_still = absurd cc
+refuses c (line.Link b) open_still = link_refuses c b open_still
+refuses c (line.Extend has_some) open_still = (expected.Socket, refl)
+refuses c (line.Clients clients.Nothing) open_still = (expected.Clients, refl)
+refuses c (line.Clients (clients.All n)) open_still = absurd cc
+refuses c (line.Clients (clients.OfAddress n m)) open_still = absurd cc
+refuses c (line.Allow has_some) open_still = (expected.Range, refl)
+refuses c (line.Trust has_some) open_still = (expected.Range, refl)
+refuses c (line.Rate rate.Nothing) open_still = (expected.Rate, refl)
+refuses c (line.Rate (rate.Rate r)) open_still = absurd cc
+refuses c (line.Rate (rate.Share r share)) open_still = absurd cc
+refuses c (line.Rate (rate.Household r share household)) open_still = absurd cc
+refuses c (line.Strangers None) open_still = (expected.Strangers, refl)
+refuses c (line.Strangers (Some r)) open_still = absurd cc
+refuses c (line.Kilobits None) open_still = (expected.Kilobits, refl)
+refuses c (line.Kilobits (Some n)) open_still = absurd cc

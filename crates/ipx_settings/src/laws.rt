@@ -1,0 +1,23 @@
+//! What follows from the definitions alone, for every line.
+ghost use Rattle.std.specs.Prelude.{◌≡◌, ℕ, ◌+◌, ◌<◌, ◌≤◌, List, length, take, None, Some};
+ghost use Rattle.ipx_settings.specs.Beginnings.{IsLine, BeginLine};
+ghost use Rattle.ipx_settings.specs.Lines.{read_from};
+ghost use Rattle.ipx_settings.specs.declared.expected.Expected.{Expected};
+ghost use Rattle.ipx_settings.specs.declared.line.Context.{Context};
+ghost use Rattle.ipx_settings.specs.declared.line.Line.{Line};
+ghost use Rattle.ipx_settings.specs.declared.line.Line.TheVariants.{Nothing};
+
+/// A reading without a fault is a line, and what it says is what the line says; each line is read so.
+pub fn lines_are_read()
+    ensures right { (c : Context) (words : List (List ℕ)) → (read_from c Nothing 0 words).fault ≡ None → IsLine c (read_from c Nothing 0 words).line words }
+    ensures read { (c : Context) (l : Line) (words : List (List ℕ)) → IsLine c l words → ((read_from c Nothing 0 words).fault ≡ None) × ((read_from c Nothing 0 words).line ≡ l) }
+{}
+
+/// The words before a fault begin a line. With the wrong word they begin none: it is the first one. Where no word is wrong but the end, the
+/// words are no line. (a network may have a client)
+pub fn faults_are_first()
+    ensures before { (c : Context) (words : List (List ℕ)) → 1 ≤ c.most_clients → BeginLine c (take (read_from c Nothing 0 words).read words) }
+    ensures wrong { (c : Context) (e : Expected) (words : List (List ℕ)) → (read_from c Nothing 0 words).fault ≡ Some e → (read_from c Nothing 0 words).read < length words
+        → BeginLine c (take ((read_from c Nothing 0 words).read + 1) words) → ⊥ }
+    ensures ended { (c : Context) (e : Expected) (l : Line) (words : List (List ℕ)) → (read_from c Nothing 0 words).fault ≡ Some e → IsLine c l words → ⊥ }
+{}

@@ -1,0 +1,33 @@
+//! What a gateway's configuration says, line by line.
+//!
+//! - A line is cut into words; each word is a number, an address, a node, a name, or one of a list, and goes on with what the words before it
+//!   said. So a line that is wrong has one word that is wrong, the first behind which it could go on no more, and one thing that was expected
+//!   there.
+//! - `Reading::of` reads a line: what its words say, how many of them could be read, and what was expected where they couldn't be. Its contract
+//!   is exact, by the definitions in `specs/`, one word after the other.
+//! - It stands on nothing, takes no memory, and knows no other line.
+#![tactic(auto)]
+
+mod addresses;
+mod cutting;
+mod expected;
+mod hosts;
+pub mod laws;
+mod line;
+mod link;
+mod names;
+mod network;
+mod nodes;
+mod numbers;
+mod reading;
+mod words;
+
+pub use crate::addresses::{Address, Host, HostRange, Place, read_range};
+pub use crate::expected::Expected;
+pub use crate::line::{ClientsBegun, Context, Line, RateBegun, socket};
+pub use crate::link::{End, Frames, Link, LinkBegun};
+pub use crate::network::{Head, NetworkBegun, Shares};
+pub use crate::nodes::node_bytes;
+pub use crate::numbers::hexadecimal;
+pub use crate::reading::{Reading, word_of};
+pub use crate::words::Span;

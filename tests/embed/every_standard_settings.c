@@ -1,0 +1,25 @@
+/* Uses what the header of settings has, in the C of 1989, which is also the C++ of 1998: it is read by each standard of both without a
+ * warning. Run, it ends with 0 where a line of a network, a wrong one and a range say what they should. */
+#include "ipxr_settings.h"
+
+#include <string.h>
+
+static const char RIGHT[] = "network 10 1 1424 dosbox 2130 # a remark", WRONG[] = "clients 10 11", RANGE[] = "192.168.1.0/24";
+
+static uint8_t reads(const char *text, ipxr_setting *said)
+{
+    return ipxr_settings_line((const uint8_t *)text, strlen(text), 1, 0, 4096, said);
+}
+
+int main(void)
+{
+    ipxr_setting said;
+    ipxr_setting_range range;
+    size_t start = 0;
+    int is_right = reads(RIGHT, &said) == 0 && said.kind == IPXR_SETTING_NETWORK && said.read == 6 && said.network.number == 0x10;
+    is_right = is_right && said.link.carrier == IPXR_OVER_TUNNEL && said.link.local.port == 2130 && said.link.local.four[0] == 127;
+    is_right = is_right && reads(WRONG, &said) == IPXR_EXPECTED_OF_ADDRESS && said.read == 2 && said.numbers[0] == 10;
+    is_right = is_right && ipxr_settings_word((const uint8_t *)WRONG, strlen(WRONG), said.read, &start) == 2 && start == 11;
+    is_right = is_right && ipxr_settings_range((const uint8_t *)RANGE, strlen(RANGE), &range) == 1 && range.bits == 24;
+    return is_right && ipxr_settings_socket((const uint8_t *)"4003", 4) == 0x4003 ? 0 : 1;
+}
