@@ -48,8 +48,8 @@ IPXR_CALL void ipxr_kinds_second(ipxr_kinds *kinds);
 
 /* A station, whose node has that hash, says a packet in a kind, to a node or to all. Returns whether that counts: not where it is for all
  * and the station spoke in another kind less than five seconds ago, since it is a copy then, or comes from somebody else with its node. If
- * there is no such kind, or it doesn't count, nothing changes. */
-IPXR_CALL ipxr_flag ipxr_kinds_hear(ipxr_kinds *kinds, uint64_t hash, const uint8_t node[6], uint8_t kind, ipxr_flag is_for_all);
+ * there is no such kind, or it doesn't count, nothing changes. `is_for_all` is 0 or another number. */
+IPXR_CALL ipxr_flag ipxr_kinds_hear(ipxr_kinds *kinds, uint64_t hash, const uint8_t node[6], uint8_t kind, uint8_t is_for_all);
 
 /* The kind that a station uses, or IPXR_NO_FRAME if it isn't known. */
 IPXR_CALL uint8_t ipxr_kinds_of(const ipxr_kinds *kinds, uint64_t hash, const uint8_t node[6]);

@@ -138,7 +138,7 @@ typedef struct ipxr_setting_range {
 /* Reads a line, with its end or without. `has_cards` is whether this system has TAPs and interfaces; `is_below_tunnel`, whether the line
  * stands below that of a link of DOSBox, and `most_clients`, how many clients a network may have. Returns one of IPXR_EXPECTED_.., and
  * then the word with the number `said->read` is wrong, or the line's end; or 0, and then the whole line is right. */
-IPXR_CALL uint8_t ipxr_settings_line(const uint8_t *text, size_t length, ipxr_flag has_cards, ipxr_flag is_below_tunnel,
+IPXR_CALL uint8_t ipxr_settings_line(const uint8_t *text, size_t length, uint8_t has_cards, uint8_t is_below_tunnel,
                                      uint16_t most_clients, ipxr_setting *said);
 
 /* Where the word of a line with that number stands. Returns how many bytes it has; 0 if there is none, and `start` stays as it was. */

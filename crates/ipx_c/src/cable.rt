@@ -6,6 +6,7 @@ ghost use Rattle.ipx_cable.specs.Loops.{opens, probed, left_here, left_there};
 ghost use Rattle.ipx_cable.specs.Paces.{paced, goes, gone};
 ghost use Rattle.ipx_cable.specs.Ranges.{Begins, IsFirst};
 ghost use Rattle.ipx_c.specs.CableValues.{probed_number};
+ghost use Rattle.ipx_c.specs.Writes.{is_yes};
 
 use ipx_cable::{Kinds, Loop, Pace, Probed, Range, any_has, probe};
 
@@ -26,12 +27,12 @@ pub extern "C" fn ipxr_kinds_hear(
     hash: u64,
     node: &[u8; 6],
     kind: u8,
-    is_for_all: bool,
+    is_for_all: u8,
 ) -> bool
-    ensures heard { result ≡ is_heard hash node.now kind is_for_all kinds.old }
-    ensures kinds { kinds.new ≡ word hash node.now kind is_for_all kinds.old }
+    ensures heard { result ≡ is_heard hash node.now kind (is_yes is_for_all) kinds.old }
+    ensures kinds { kinds.new ≡ word hash node.now kind (is_yes is_for_all) kinds.old }
 {
-    kinds.hear(hash, *node, kind, is_for_all)
+    kinds.hear(hash, *node, kind, is_for_all != 0)
 }
 
 /// The kind that a station uses, or 0.

@@ -7,6 +7,7 @@ ghost use Rattle.ipx_settings.specs.Nodes.{node_bytes_of};
 ghost use Rattle.ipx_settings.specs.Numbers.{hexadecimal_of};
 ghost use Rattle.ipx_settings.specs.Words.{words, before_mark};
 ghost use Rattle.ipx_c.specs.SettingsValues.{context_of, line_said, expected_number, most_u32};
+ghost use Rattle.ipx_c.specs.Writes.{is_yes};
 
 use crate::settings_values::{
     LineSaid, bits_of, expected_number, line_number, link_of_line, network_of_line, numbers_of,
@@ -19,19 +20,19 @@ use ipx_settings::{
 #[unsafe(no_mangle)]
 pub extern "C" fn ipxr_settings_line(
     text: &[u8],
-    has_cards: bool,
-    is_below_tunnel: bool,
+    has_cards: u8,
+    is_below_tunnel: u8,
     most_clients: u16,
     said: &mut LineSaid,
 ) -> u8
-    ensures said { said.new ≡ line_said (reading_of (context_of has_cards is_below_tunnel most_clients) text.now) }
-    ensures fault { result ≡ expected_number (reading_of (context_of has_cards is_below_tunnel most_clients) text.now).fault }
+    ensures said { said.new ≡ line_said (reading_of (context_of (is_yes has_cards) (is_yes is_below_tunnel) most_clients) text.now) }
+    ensures fault { result ≡ expected_number (reading_of (context_of (is_yes has_cards) (is_yes is_below_tunnel) most_clients) text.now).fault }
 {
     let reading = Reading::of(
         text,
         Context {
-            has_cards,
-            is_below_tunnel,
+            has_cards: has_cards != 0,
+            is_below_tunnel: is_below_tunnel != 0,
             most_clients,
         },
     );
