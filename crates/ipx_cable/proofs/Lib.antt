@@ -10,3 +10,5 @@ pub mod examples
 pub mod Fronts
 pub mod Probes
 pub mod InTime
+pub mod Watched
+pub mod Questions

@@ -14,3 +14,9 @@ pub mod Ranges
 -- what goes out one by one
 pub mod Paces
 pub mod Pacing
+-- two machines with one node
+pub mod Twins
+pub mod Watching
+-- who is asked again
+pub mod Asking
+pub mod Questions

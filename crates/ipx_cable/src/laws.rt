@@ -10,6 +10,10 @@ ghost use Rattle.ipx_cable.specs.Loops.{shut_now, is_late, left_here, left_there
 ghost use Rattle.ipx_cable.specs.Ranges.{number, Begins, IsFirst, behind};
 ghost use Rattle.ipx_cable.specs.Paces.{most_wait, largest, least};
 ghost use Rattle.ipx_cable.specs.Pacing.{More, State as Waiting, History as Paced, nothing as nothing_waits, after as waits, state_after, left_since, goes_at, IsShown, latest, GoesOn, HaveRoom, SomeWait};
+ghost use Rattle.ipx_cable.specs.Twins.{many, counted, between as between_lines};
+ghost use Rattle.ipx_cable.specs.Watching.{Hear, History as Watching, IsTold, is_of_zeros, StaysAt, GoesOn as SecondsGoOn, moves_since};
+ghost use Rattle.ipx_cable.specs.Asking.{least_wait, spread, moment, is_due, are_due};
+ghost use Rattle.ipx_cable.specs.Questions.{History as Questions, state_after as asked_after, asked_at, next_of};
 ghost use Rattle.ipx_cable.specs.Probing.{History as Probing, seconds as passed, left_at, both, left_after, Unshut, CameLately, IsCable};
 
 /// A station that is known is spoken to in its kind alone, and that is one of the four. It spoke in it less than 300 seconds ago, and it is the
@@ -127,4 +131,36 @@ pub fn none_goes_too_early()
         0 < count → 0 < begin → apart ≤ least count between → HaveRoom apart state history → SomeWait state history → GoesOn begin history
         → latest begin history ≤ later → later < largest → goes_at later (state_after state history)
         → begin + left_since state history * apart ≤ later }
+{}
+
+/// Of a node that is heard on one link alone nobody is told, whatever other nodes do.
+pub fn who_stays_is_not_told()
+    ensures { (node : List ℕ) (link second before : ℕ) (history : Watching) → is_of_zeros node ≡ false → StaysAt node link history
+        → IsTold node link second before history → ⊥ }
+{}
+
+/// A node is told of only if it was heard on another link than before at least five times within a minute.
+pub fn who_is_told_moves()
+    ensures { (node : List ℕ) (link second before : ℕ) (history : Watching) → SecondsGoOn (Hear node link second ∷ history)
+        → IsTold node link second before history
+        → (begin : ℕ) × (second ≤ begin + counted) × (many ≤ moves_since begin node (Hear node link second ∷ history)) }
+{}
+
+/// From one time that somebody is told to the next, a minute passes.
+pub fn told_once_a_minute()
+    ensures { (first then : List ℕ) (at link from second before last : ℕ) (later earlier : Watching) → 0 < from
+        → IsTold first at from before earlier → IsTold then link second last (later ++ Hear first at from ∷ earlier)
+        → from + between_lines ≤ second }
+{}
+
+/// Whoever hasn't answered is asked again once his moment has come, at the next look: he is due then, and so it is time for all to be looked at.
+pub fn nobody_is_forgotten()
+    ensures { (count who now : ℕ) (history : Questions) → is_due now (asked_at who (asked_after count history)) ≡ true
+        → are_due now (next_of (asked_after count history).next) ≡ true }
+{}
+
+/// The next time is a quarter of a second to three quarters away, as far as numbers go.
+pub fn asked_again_in_time()
+    ensures early { (now number : ℕ) → now + (least_wait + spread) ≤ largest → now + least_wait ≤ moment now number }
+    ensures late { (now number : ℕ) → moment now number < now + (least_wait + spread) }
 {}

@@ -13,6 +13,7 @@
 //! It stands on nothing. A gateway can stand on this crate.
 #![tactic(auto)]
 
+mod asked;
 mod bucket;
 mod kinds;
 pub mod laws;
@@ -20,10 +21,15 @@ mod loops;
 mod pace;
 mod range;
 mod station;
+mod twin;
+mod twins;
 
+pub use crate::asked::{Asked, Asks};
 pub use crate::bucket::Bucket;
 pub use crate::kinds::Kinds;
 pub use crate::loops::{Loop, Probed, probe};
 pub use crate::pace::Pace;
 pub use crate::range::{Range, any_has};
 pub use crate::station::Station;
+pub use crate::twin::Twin;
+pub use crate::twins::Twins;
