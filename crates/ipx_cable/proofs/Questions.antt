@@ -38,7 +38,6 @@ itself_known when next some = elim (cases_Bool (next == 0)) [
     positive zero is = absurd (both_ways true is refl)
     positive (suc n) is = omega arith
 
-
 -- ---- a look at all
 
 one_later : (now number : ℕ) (asked : Asked) (next again : ℕ) → Known next again → Known (one_next now number asked next) again

@@ -24,7 +24,7 @@ Placed : (node other : List ℕ) (link second : ℕ) (twins : Twins) → Type 0
 Placed node other link second twins =
     (twin_at node (twins_after other link second twins) ≡ twin_at node twins)
     ⊎ ((twin_at other twins ≡ twin_at node twins)
-       × (twin_at node (twins_after other link second twins) ≡ twin_after link second twins.told (twin_known other link twins)))
+    × (twin_at node (twins_after other link second twins) ≡ twin_after link second twins.told (twin_known other link twins)))
 
 placed : (node other : List ℕ) (link second : ℕ) (history : History) → Placed node other link second (watched_after history)
 unfolding Placed
@@ -46,16 +46,19 @@ After : (link second told : ℕ) (twin : Twin) → Type 0
 After link second told twin =
     ((moves_to link second twin ≡ false) × (twin_after link second told twin ≡ twin))
     ⊎ ((moves_to link second twin ≡ true)
-       × ((twin_after link second told twin ≡ moved_to link second twin) ⊎ (twin_after link second told twin ≡ told_of (moved_to link second twin))))
+    × ((twin_after link second told twin ≡ moved_to link second twin) ⊎ (twin_after link second told twin ≡ told_of (moved_to link second twin))))
 
 after : (link second told : ℕ) (twin : Twin) → After link second told twin
 unfolding After
 after link second told twin = elim (cases_Bool (moves_to link second twin)) [
   | inr stays ↦ inl (stays, rw stays refl)
-  | inl moves ↦ inr (moves, elim (cases_Bool (is_due second told (moved_to link second twin))) [
-    | inl due ↦ inr (rw (moves, due) refl)
-    | inr not_due ↦ inl (rw (moves, not_due) refl)
-  ])
+  | inl moves ↦ inr (
+    moves,
+    elim (cases_Bool (is_due second told (moved_to link second twin))) [
+      | inl due ↦ inr (rw (moves, due) refl)
+      | inr not_due ↦ inl (rw (moves, not_due) refl)
+    ],
+  )
 ]
 
 known_node : (node : List ℕ) (link : ℕ) (twin : Twin) → (known_of node link twin).node ≡ node

@@ -20,3 +20,5 @@ pub mod Watching
 -- who is asked again
 pub mod Asking
 pub mod Questions
+-- the gateway's own node
+pub mod OwnNodes

@@ -14,6 +14,7 @@ ghost use Rattle.ipx_cable.specs.Twins.{many, counted, between as between_lines}
 ghost use Rattle.ipx_cable.specs.Watching.{Hear, History as Watching, IsTold, is_of_zeros, StaysAt, GoesOn as SecondsGoOn, moves_since};
 ghost use Rattle.ipx_cable.specs.Asking.{least_wait, spread, moment, is_due, are_due};
 ghost use Rattle.ipx_cable.specs.Questions.{History as Questions, state_after as asked_after, asked_at, next_of};
+ghost use Rattle.ipx_cable.specs.OwnNodes.{is_no_node, own_node};
 ghost use Rattle.ipx_cable.specs.Probing.{History as Probing, seconds as passed, left_at, both, left_after, Unshut, CameLately, IsCable};
 
 /// A station that is known is spoken to in its kind alone, and that is one of the four. It spoke in it less than 300 seconds ago, and it is the
@@ -163,4 +164,12 @@ pub fn nobody_is_forgotten()
 pub fn asked_again_in_time()
     ensures early { (now number : ℕ) → now + (least_wait + spread) ≤ largest → now + least_wait ≤ moment now number }
     ensures late { (now number : ℕ) → moment now number < now + (least_wait + spread) }
+{}
+
+/// The gateway's node means one station: neither all nor none, unless the card's address or what is said does.
+pub fn own_node_is_one()
+    ensures everybody { (is_tunnel is_of_several : Bool) (card : List ℕ) (said : Option (List ℕ)) (hash : ℕ) → is_everybody card ≡ false
+        → ((node : List ℕ) → said ≡ Some node → is_everybody node ≡ false) → is_everybody (own_node is_tunnel is_of_several card said hash) ≡ false }
+    ensures nobody { (is_tunnel is_of_several : Bool) (card : List ℕ) (said : Option (List ℕ)) (hash : ℕ)
+        → ((node : List ℕ) → said ≡ Some node → is_no_node node ≡ false) → is_no_node (own_node is_tunnel is_of_several card said hash) ≡ false }
 {}
