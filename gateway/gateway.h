@@ -14,7 +14,6 @@
 #include "links/cable.h"
 #include "links/kinds.h"
 #include "links/loop.h"
-#include "links/twins.h"
 #include "monitoring/counts.h"
 #include "siphash.h"
 #include "tunnel/outgoing.h"
@@ -66,7 +65,7 @@ typedef struct port {
     size_t first, count;  /* in the list of networks on links */
     bool is_up;           /* one of them is */
     ipxr_segment segment; /* says which of several links get a packet; */
-    twins twins;          /* and two machines with one node are told */
+    ipxr_twins twins;     /* and two machines with one node are told */
 } port;
 
 typedef struct gateway {

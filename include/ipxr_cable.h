@@ -1,7 +1,7 @@
 /* ipxr_cable.h: what a gateway decides about its cables, for C and for whatever can call C. It belongs to ipxr.h and is in the same
- * library: in which kinds of frames it speaks to whom, which of two links that are one cable it shuts, which addresses are in a range, and
- * how fast things go out that wait for each other. What each call does is proved from its code, and so is what follows; docs/CABLE.md has
- * both.
+ * library: in which kinds of frames it speaks to whom, which of two links that are one cable it shuts, which addresses are in a range, how
+ * fast things go out that wait for each other, which node two machines seem to have, who is asked again, and which node is its own. What each
+ * call does is proved from its code, and so is what follows; docs/CABLE.md has both.
  *
  *     ipxr_kinds kinds = {{0}};
  *     if (!ipxr_kinds_hear(&kinds, hash(source), source, kind, is_for_all)) ...;     -- a frame came: drop it
@@ -10,8 +10,8 @@
  *     ...
  *     ipxr_kinds_second(&kinds);                                                     -- each second
  *
- * WHAT C HAS TO PROMISE. All values are your own, with nothing to free. They begin with all bytes 0, and `ipxr_kinds`, `ipxr_loop` and
- * `ipxr_pace` are changed by these calls alone, or made zeros again; you may read them. A node has the same hash each time; if strangers
+ * WHAT C HAS TO PROMISE. All values are your own, with nothing to free. They begin with all bytes 0, and all but
+ * `ipxr_range` are changed by these calls alone, or made zeros again; you may read them. A node has the same hash each time; if strangers
  * may make up nodes, they should not know how. What ipxr.h says of pointers and threads holds here too. Everything else is answered: any
  * node, any number of a kind or a link, any second. No call takes memory. */
 #ifndef IPXR_CABLE_H
@@ -110,6 +110,65 @@ IPXR_CALL void ipxr_pace_more_wait(ipxr_pace *pace, uint64_t waiting, uint64_t b
 
 /* Whether the first of so many that wait goes now. If so, it waits no more. */
 IPXR_CALL ipxr_flag ipxr_pace_lets_go(ipxr_pace *pace, uint64_t waiting, uint64_t now);
+
+/* ---- Two machines with one node, on two links of a network ---- */
+
+/* A node that is watched. */
+typedef struct ipxr_twin {
+    uint8_t node[6];
+    uint8_t link;      /* where it was heard last */
+    uint8_t moves;     /* in how many seconds it was heard on another link than before, */
+    uint64_t began;    /* from this second on, */
+    uint64_t moved;    /* and the last of them */
+    ipxr_flag is_told; /* whether somebody has been told */
+} ipxr_twin;
+
+/* The nodes of a network that are watched. With all bytes 0 none was heard. */
+typedef struct ipxr_twins {
+    ipxr_twin list[64]; /* each at a place of its own, which whoever comes there next takes */
+    uint64_t told;      /* the second in which somebody was told last, or 0 */
+} ipxr_twins;
+
+/* A node is heard on a link in a second. Returns whether it must be told that it moves to and fro, and then its link before: it moved in
+ * five seconds of a minute, nobody was told of it, and nobody of another for a minute. If not, `before` stays as it was. */
+IPXR_CALL ipxr_flag ipxr_twins_hear(ipxr_twins *twins, const uint8_t node[6], uint8_t link, uint64_t second, uint8_t *before);
+
+/* ---- Who is asked again until he answers ---- */
+
+/* The clocks of these calls are nanoseconds that begin anywhere. */
+
+/* Somebody who was asked. With all bytes 0 he wasn't, or has answered. */
+typedef struct ipxr_asked {
+    uint64_t again; /* the nanosecond from which on he is asked again, or 0 */
+} ipxr_asked;
+
+/* When the next of many is asked again. With all bytes 0 nobody is. */
+typedef struct ipxr_asks {
+    uint64_t next; /* the nanosecond from which on somebody may have to be, or 0 */
+} ipxr_asks;
+
+/* He is asked now, and again 250 ms later and up to 500 more, as the number says: one that nobody else can tell, so that nobody can fill his
+ * buffer just then. */
+IPXR_CALL void ipxr_asked_ask(ipxr_asked *asked, ipxr_asks *all, uint64_t now, uint64_t number);
+
+/* He answers. */
+IPXR_CALL void ipxr_asked_answer(ipxr_asked *asked);
+
+/* Whether he is to be asked again now. If it is later, the next moment of all is no later than his. */
+IPXR_CALL ipxr_flag ipxr_asked_is_due(const ipxr_asked *asked, ipxr_asks *all, uint64_t now);
+
+/* Whether somebody may have to be asked now: then ask of each whether he is due. So nobody is forgotten. */
+IPXR_CALL ipxr_flag ipxr_asks_are_due(ipxr_asks *asks, uint64_t now);
+
+/* Milliseconds until then, at most so many. */
+IPXR_CALL uint64_t ipxr_asks_patience(const ipxr_asks *asks, uint64_t most, uint64_t now);
+
+/* ---- The gateway's own node on a network ---- */
+
+/* Of DOSBox' tunnel it is one from which no datagram comes; of a card its address, which is zeros where it isn't known; else what is said, if
+ * something is, also where a network has several links. If none of these is known it is made of a hash. */
+IPXR_CALL void ipxr_node_choose(uint8_t is_tunnel, uint8_t is_of_several, uint8_t has_said, const uint8_t said[6], const uint8_t card[6],
+                                uint64_t hash, uint8_t node[6]);
 
 #ifdef __cplusplus
 }

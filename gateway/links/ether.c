@@ -143,7 +143,7 @@ static void look_for_twins(gateway *it, network *on, const uint8_t *node)
     char words[WORDS], link[LINK_ROOM], other[LINK_ROOM];
     uint8_t before;
     port *router_port = port_of(it, on);
-    if (!twins_hear(&router_port->twins, node, on->link, it->seconds, &before))
+    if (!ipxr_twins_hear(&router_port->twins, node, on->link, it->seconds, &before))
         return;
     const network *with = first_of(it, router_port) + before;
     event("network %08" PRIX32 " hears node %s by turns on %s and on %s: each machine needs a node of its own", on->set->network,

@@ -4,6 +4,7 @@
 #include <string.h>
 
 #include "ipx.h"
+#include "ipxr_cable.h"
 #include "siphash.h"
 #include "systems/machine.h"
 
@@ -23,28 +24,17 @@ static const char *machine(void)
     return words;
 }
 
-static void make_up(const network_setting *set, uint8_t node[6])
+static uint64_t hash_of(const network_setting *set)
 {
     char link[LINK_ROOM], words[MACHINE_ROOM + LINK_ROOM + 16];
     int length = snprintf(words, sizeof words, "%s %08" PRIX32 " %s", machine(), set->network,
                           set->is_of_several ? "" : link_words(set, link));
-    uint64_t hash = siphash(KEY, (const uint8_t *)words, (size_t)length);
-    node[0] = LOCAL_NODE;
-    for (int k = 1; k < NODE; k++)
-        node[k] = (uint8_t)(hash >> 8 * k);
+    return siphash(KEY, (const uint8_t *)words, (size_t)length);
 }
 
 void node_choose(const network_setting *set, const uint8_t card[6], uint8_t node[6])
 {
-    static const uint8_t of_tunnel[NODE] = {0, 0, 0, 0, 0, 1};
-    if (set->type == LINK_DOSBOX && !set->is_of_several)
-        memcpy(node, of_tunnel, NODE);
-    else if (!is_no_node(card) && !set->is_of_several)
-        memcpy(node, card, NODE);
-    else if (set->has_node)
-        memcpy(node, set->node, NODE);
-    else
-        make_up(set, node);
+    ipxr_node_choose(set->type == LINK_DOSBOX, set->is_of_several, set->has_node, set->node, card, hash_of(set), node);
 }
 
 ipxr_port node_port(const network_setting *first, const uint8_t card[6])

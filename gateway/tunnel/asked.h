@@ -6,20 +6,20 @@
 #include <stdbool.h>
 #include <stdint.h>
 
+#include "ipxr_cable.h"
 #include "ipxr_tunnel.h"
 #include "siphash.h"
 
 /* What a client was asked. */
 typedef struct asked {
-    ipxr_own ping;  /* the last one, */
-    bool waits;     /* which it hasn't answered; */
-    uint64_t again; /* and nanoseconds of the clock from which on it goes once more */
+    ipxr_own ping;      /* the last one, */
+    ipxr_asked moment; /* and when it goes once more, unless it is answered */
 } asked;
 
 /* When the next of a network's clients is asked again. */
 typedef struct asks {
-    uint64_t next;  /* nanoseconds of the clock, or 0; */
-    uint64_t count; /* and how many moments were chosen */
+    ipxr_asks moments;
+    uint64_t count; /* how many moments were chosen */
 } asks;
 
 /* A client gets a ping, or gets the last once more. A moment for the next is chosen by a hash whose key nobody knows. */

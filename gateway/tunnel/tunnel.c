@@ -377,7 +377,8 @@ static void hear(gateway *it, network *on, const ipxr_sender *sender, const uint
     member *from = roster_find(&on->roster, sender->place);
     reason why = why_lost(on, from != NULL, said, has_length(bytes, length));
     if (from != NULL) {
-        from->ping.waits = from->ping.waits && !has_replied(from, said);
+        if (has_replied(from, said))
+            ipxr_asked_answer(&from->ping.moment);
         if (said != IPXR_SAID_NOTHING)
             segment_client(on, from->place, true); /* (it may be a client at another link of the network, too) */
         answer_client(on, from);

@@ -1,6 +1,7 @@
 /* Uses what the header of cables has, in the C of 1989, which is also the C++ of 1998: it is read by each standard of both without a
  * warning. Run, it ends with 0 where a station is spoken to in its kind, the later of two links that are one cable is shut for six seconds,
- * a range has the addresses that begin as it does, and of two that wait one goes a second after the other. */
+ * a range has the addresses that begin as it does, of two that wait one goes a second after the other, a node that moves five times is told,
+ * and whoever doesn't answer is asked again. */
 #include "ipxr_cable.h"
 
 static ipxr_kinds kinds;
@@ -35,11 +36,34 @@ static int are_apart(void)
            ipxr_pace_lets_go(&pace, 1, 1000001000u) && pace.between == 0;
 }
 
+static int is_told(void)
+{
+    static const uint8_t node[6] = {2, 0, 0, 0, 0, 1};
+    static ipxr_twins twins;
+    uint8_t before = 0;
+    unsigned second = 1;
+    while (second < 60 && !ipxr_twins_hear(&twins, node, (uint8_t)(second % 2 + 1), second, &before))
+        second++;
+    return second == 6 && before == 2;
+}
+
+static int is_asked_again(void)
+{
+    static const uint8_t card[6] = {2, 0, 0, 0, 0, 1}, said[6] = {2, 0, 0, 0, 0, 2};
+    ipxr_asked asked = {0};
+    ipxr_asks all = {0};
+    uint8_t node[6];
+    ipxr_asked_ask(&asked, &all, 1000, 0);
+    ipxr_node_choose(0, 1, 1, said, card, 7, node);
+    return ipxr_asks_patience(&all, 1000, 1000) == 250 && ipxr_asks_are_due(&all, 250001000u) &&
+           ipxr_asked_is_due(&asked, &all, 250001000u) && node[5] == 2;
+}
+
 int main(void)
 {
     static const ipxr_range range = {{192, 168, 1, 0}, 24};
     static const uint8_t inside[4] = {192, 168, 1, 7}, outside[4] = {192, 168, 2, 7};
-    int is_right = are_known() && is_shut() && are_apart() && ipxr_range_is_first(&range) && ipxr_ranges_have(&range, 1, inside) &&
-                   !ipxr_ranges_have(&range, 1, outside);
+    int are_right = are_known() && is_shut() && are_apart() && is_told() && is_asked_again();
+    int is_right = are_right && ipxr_range_is_first(&range) && ipxr_ranges_have(&range, 1, inside) && !ipxr_ranges_have(&range, 1, outside);
     return is_right ? 0 : 1;
 }

@@ -1237,6 +1237,67 @@ static void a_pace(void)
     WROTE(0, pace.between);
 }
 
+/* A node is on link 2 in odd seconds, on link 7 in even ones: it is told once, in its fifth second with a move. */
+static void twins(void)
+{
+    static const uint8_t NODE[6] = {0xA1, 0xA2, 0xA3, 0xA4, 0xA5, 0xA6};
+    ipxr_twins it;
+    uint8_t before = 99;
+    memset(&it, 0, sizeof it);
+    for (uint64_t second = 1001; second < 1006; second++)
+        ANSWERS(0, ipxr_twins_hear(&it, NODE, second % 2 ? 2 : 7, second, &before));
+    WROTE(99, before);
+    ANSWERS(1, ipxr_twins_hear(&it, NODE, 7, 1006, &before));
+    WROTE(2, before);
+    WROTE(1006, it.told);
+    WROTE_BYTES("A1A2A3A4A5A6", it.list[(0xA5 + 0xA6) % 64].node);
+    WROTE(7, it.list[(0xA5 + 0xA6) % 64].link);
+    WROTE(5, it.list[(0xA5 + 0xA6) % 64].moves);
+    WROTE(1002, it.list[(0xA5 + 0xA6) % 64].began);
+    WROTE(1006, it.list[(0xA5 + 0xA6) % 64].moved);
+    WROTE(1, it.list[(0xA5 + 0xA6) % 64].is_told);
+}
+
+static void who_is_asked_again(void)
+{
+    const uint64_t now = 1000000007u, number = 1100000000u; /* 350 ms later */
+    ipxr_asked one = {0}, other = {0};
+    ipxr_asks all = {0};
+    ANSWERS(0, ipxr_asks_are_due(&all, now));
+    ANSWERS(77, ipxr_asks_patience(&all, 77, now));
+    CALLS(ipxr_asked_ask(&one, &all, now, number));
+    WROTE(1350000007, one.again);
+    CALLS(ipxr_asked_ask(&other, &all, now, number + 1));
+    WROTE(1350000008, other.again);
+    WROTE(1350000007, all.next);
+    ANSWERS(350, ipxr_asks_patience(&all, 1000, now));
+    ANSWERS(349, ipxr_asks_patience(&all, 349, now));
+    ANSWERS(0, ipxr_asks_are_due(&all, now + 349999999));
+    ANSWERS(1, ipxr_asks_are_due(&all, now + 350000000));
+    WROTE(0, all.next);
+    ANSWERS(1, ipxr_asked_is_due(&one, &all, now + 350000000));
+    ANSWERS(0, ipxr_asked_is_due(&other, &all, now + 350000000));
+    WROTE(1350000008, all.next);
+    CALLS(ipxr_asked_answer(&one));
+    WROTE(0, one.again);
+    ANSWERS(0, ipxr_asked_is_due(&one, &all, now + 350000000));
+}
+
+static void own_nodes(void)
+{
+    static const uint8_t CARD[6] = {0xA1, 0xA2, 0xA3, 0xA4, 0xA5, 0xA6}, NO_CARD[6] = {0}, SAID[6] = {0xB1, 0xB2, 0xB3, 0xB4, 0xB5, 0xB6};
+    const uint64_t hash = 0x1122334455667788u;
+    uint8_t node[6];
+    CALLS(ipxr_node_choose(1, 0, 1, SAID, CARD, hash, node));
+    WROTE_BYTES("000000000001", node);
+    CALLS(ipxr_node_choose(0, 0, 1, SAID, CARD, hash, node));
+    WROTE_BYTES("A1A2A3A4A5A6", node);
+    CALLS(ipxr_node_choose(1, 1, 1, SAID, CARD, hash, node));
+    WROTE_BYTES("B1B2B3B4B5B6", node);
+    CALLS(ipxr_node_choose(0, 0, 0, SAID, NO_CARD, hash, node));
+    WROTE_BYTES("027766554433", node);
+}
+
 /* ---- Lines of a configuration ---- */
 
 #define READS(text) (const uint8_t *)(text), sizeof(text) - 1
@@ -1347,6 +1408,9 @@ int main(void)
     loops();
     ranges();
     a_pace();
+    twins();
+    who_is_asked_again();
+    own_nodes();
     a_line();
     return 0;
 }

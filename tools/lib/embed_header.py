@@ -51,6 +51,8 @@ ALTERED = (
     (CABLE, "uint64_t sent, uint64_t now", "uint64_t sent, uint32_t now"),
     (CABLE, "const ipxr_range *ranges, size_t count", "const ipxr_range *ranges"),
     (CABLE, "uint64_t between; /*", "uint32_t between; /*"),
+    (CABLE, "uint8_t moves; ", "uint16_t moves; "),
+    (CABLE, "ipxr_asked *asked, ipxr_asks *all, uint64_t now, uint64_t number", "ipxr_asked *asked, ipxr_asks *all, uint64_t now"),
 )
 STANDARDS = {
     "c": (("gcc", "clang"), ("c89", "c99", "c11", "c17", "c2x")),
@@ -62,7 +64,7 @@ PROGRAMS = ("every_standard", "every_standard_tunnel", "every_standard_segment",
 SHOWN = ("an empty handle, a text and a router of one port", "an empty handle of a tunnel, and a tunnel",
          "an empty handle of a segment, and a segment", "a plan", "a line of a configuration",
          "a receiver of zeros, a receiver and a meter", "limits, and what they let pass",
-         "kinds of frames, two links that are one cable, a range, and a pace")
+         "kinds of frames, two links that are one cable, a range, a pace, a node that moves, and who is asked again")
 
 BEGIN = """\
 #include <stdio.h>

@@ -1,14 +1,18 @@
 //! What a gateway decides about its cables, as C asks for it. What is known lies in memory of C's own, and needs no handle.
-ghost use Rattle.std.specs.Prelude.{◌≡◌, ◌↔◌, ◌-◌, true};
+ghost use Rattle.std.specs.Prelude.{◌≡◌, ◌↔◌, ◌-◌, if◌then◌else◌, true, None, Some};
+ghost use Rattle.std.specs.Option.{is_some, unwrap_or};
 ghost use Rattle.std.specs.List.{Any};
 ghost use Rattle.ipx_cable.specs.Kinds.{is_heard, word, second, kind_at, is_used, speaks};
 ghost use Rattle.ipx_cable.specs.Loops.{opens, probed, left_here, left_there};
 ghost use Rattle.ipx_cable.specs.Paces.{paced, goes, gone};
 ghost use Rattle.ipx_cable.specs.Ranges.{Begins, IsFirst};
+ghost use Rattle.ipx_cable.specs.Twins.{told_link, twins_after};
+ghost use Rattle.ipx_cable.specs.Asking.{moment, no_later, is_due, next_after_look, are_due, next_after_asking, patience};
+ghost use Rattle.ipx_cable.specs.OwnNodes.{own_node};
 ghost use Rattle.ipx_c.specs.CableValues.{probed_number};
 ghost use Rattle.ipx_c.specs.Writes.{is_yes};
 
-use ipx_cable::{Kinds, Loop, Pace, Probed, Range, any_has, probe};
+use ipx_cable::{Asked, Asks, Kinds, Loop, Pace, Probed, Range, Twins, any_has, own_node, probe};
 
 // ---- Kinds of frames
 
@@ -136,4 +140,92 @@ pub extern "C" fn ipxr_pace_lets_go(pace: &mut Pace, waiting: u64, now: u64) -> 
     ensures pace { pace.new ≡ gone waiting now pace.old }
 {
     pace.lets_go(waiting, now)
+}
+
+// ---- Two machines with one node
+
+/// A node is heard on a link in a second. Returns whether that must be told, and then the link before.
+#[unsafe(no_mangle)]
+pub extern "C" fn ipxr_twins_hear(
+    twins: &mut Twins,
+    node: &[u8; 6],
+    link: u8,
+    second: u64,
+    before: &mut u8,
+) -> bool
+    ensures told { result ≡ is_some (told_link node.now link second twins.old) }
+    ensures before { before.new ≡ unwrap_or (told_link node.now link second twins.old) before.old }
+    ensures twins { twins.new ≡ twins_after node.now link second twins.old }
+{
+    match twins.hear(*node, link, second) {
+        Some(other) => {
+            *before = other;
+            true
+        }
+        None => false,
+    }
+}
+
+// ---- Who is asked again
+
+/// Somebody is asked now, and again at a moment that the number chooses.
+#[unsafe(no_mangle)]
+pub extern "C" fn ipxr_asked_ask(asked: &mut Asked, all: &mut Asks, now: u64, number: u64)
+    ensures asked { asked.new.again ≡ moment now number }
+    ensures all { all.new.next ≡ no_later (moment now number) all.old.next }
+{
+    asked.ask(all, now, number);
+}
+
+/// He answers.
+#[unsafe(no_mangle)]
+pub extern "C" fn ipxr_asked_answer(asked: &mut Asked)
+    ensures { asked.new.again ≡ 0 }
+{
+    asked.answer();
+}
+
+/// Whether he is to be asked again now.
+#[unsafe(no_mangle)]
+pub extern "C" fn ipxr_asked_is_due(asked: &Asked, all: &mut Asks, now: u64) -> bool
+    ensures due { result ≡ is_due now asked.now }
+    ensures all { all.new.next ≡ next_after_look now asked.now all.old }
+{
+    asked.is_due(all, now)
+}
+
+/// Whether somebody may have to be asked now.
+#[unsafe(no_mangle)]
+pub extern "C" fn ipxr_asks_are_due(asks: &mut Asks, now: u64) -> bool
+    ensures due { result ≡ are_due now asks.old }
+    ensures next { asks.new.next ≡ next_after_asking now asks.old }
+{
+    asks.are_due(now)
+}
+
+/// Milliseconds until then, at most so many.
+#[unsafe(no_mangle)]
+pub extern "C" fn ipxr_asks_patience(asks: &Asks, most: u64, now: u64) -> u64
+    ensures { result ≡ patience most now asks.now }
+{
+    asks.patience(most, now)
+}
+
+// ---- The gateway's own node
+
+/// The gateway's node on a network.
+#[unsafe(no_mangle)]
+pub extern "C" fn ipxr_node_choose(
+    is_tunnel: u8,
+    is_of_several: u8,
+    has_said: u8,
+    said: &[u8; 6],
+    card: &[u8; 6],
+    hash: u64,
+    node: &mut [u8; 6],
+)
+    ensures { node.new ≡ own_node (is_yes is_tunnel) (is_yes is_of_several) card.now (if is_yes has_said then Some said.now else None) hash }
+{
+    let said = if has_said != 0 { Some(*said) } else { None };
+    *node = own_node(is_tunnel != 0, is_of_several != 0, *card, said, hash);
 }

@@ -23,9 +23,11 @@ const MILLISECOND: u64 = 1_000_000;
 /// println!(rt; "asked again in {} ms", all.patience(1000, now))?;
 /// let later = now + 350_000_000;
 /// let (early, late) = (all.are_due(later - 1), all.are_due(later));
-/// println!(rt; "before that: {early}, then: {late}, and he: {}", client.is_due(&mut all, later))?;
+/// let is_due = client.is_due(&mut all, later);
+/// println!(rt; "before that: {early}, then: {late}, and he: {is_due}")?;
 /// client.answer();
-/// println!(rt; "once he has answered: {}", client.is_due(&mut all, later))?;
+/// let is_due = client.is_due(&mut all, later);
+/// println!(rt; "once he has answered: {is_due}")?;
 /// // prints asked again in 350 ms
 /// // prints before that: false, then: true, and he: true
 /// // prints once he has answered: false

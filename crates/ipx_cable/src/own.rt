@@ -15,12 +15,13 @@ const LOCAL: u8 = 2;
 /// ```
 /// let (card, nowhere) = ([0x52, 0x54, 0, 0x12, 0x34, 0x56], [0; 6]);
 /// let said = Some([2, 0, 0, 0, 0, 9]);
-/// println!(rt; "a card's: {:02x?}", own_node(false, false, card, said, 7))?;
-/// println!(rt; "of several links: {:02x?}", own_node(false, true, card, said, 7))?;
-/// println!(rt; "made up: {:02x?}", own_node(false, false, nowhere, None, 0x070605040302_01))?;
-/// // prints a card's: [52, 54, 00, 12, 34, 56]
-/// // prints of several links: [02, 00, 00, 00, 00, 09]
-/// // prints made up: [02, 02, 03, 04, 05, 06]
+/// let of_card = own_node(false, false, card, said, 7);
+/// let of_several = own_node(false, true, card, said, 7);
+/// println!(rt; "{of_card:?}, of several links: {of_several:?}")?;
+/// let made_up = own_node(false, false, nowhere, None, 0x0605_0403_0201);
+/// println!(rt; "made up: {made_up:?}")?;
+/// // prints [82, 84, 0, 18, 52, 86], of several links: [2, 0, 0, 0, 0, 9]
+/// // prints made up: [2, 2, 3, 4, 5, 6]
 /// ```
 pub fn own_node(
     is_tunnel: bool,

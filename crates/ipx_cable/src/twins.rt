@@ -14,14 +14,13 @@ const WATCHED: usize = 64;
 /// let node = [0x52, 0x54, 0, 0x12, 0x34, 0x56];
 /// let mut twins = Twins::zeros();
 /// let mut told = None;
-/// for second in 1..8 {
-///     let link = (second % 2) as u8;
-///     if let Some(other) = twins.hear(node, link, second) {
-///         told = Some((second, link, other));
+/// for second in 1..8_u8 {
+///     if let Some(other) = twins.hear(node, second % 2, u64::from(second)) {
+///         told = Some((second, other));
 ///     }
 /// }
-/// println!(rt; "told in second, of links: {told:?}")?;
-/// // prints told in second, of links: Some((6, 0, 1))
+/// println!(rt; "told in this second, with the link before: {told:?}")?;
+/// // prints told in this second, with the link before: Some((6, 1))
 /// ```
 #[repr(C)]
 #[derive(Clone, Copy, Debug)]

@@ -1,7 +1,7 @@
 //! Cables of a gateway.
 
 use anyhow::Result;
-use ipx_cable::{Kinds, Loop, Pace, Range, any_has, probe};
+use ipx_cable::{Asked, Asks, Kinds, Loop, Pace, Range, Twins, any_has, own_node, probe};
 
 /// A station is spoken to in its kind of frames.
 pub fn kinds(rt: &HostRuntime) -> Result<()> {
@@ -71,5 +71,53 @@ pub fn paces(rt: &HostRuntime) -> Result<()> {
     // prints eight wait, 500000000 ns apart
     // prints the first goes: true, the next at once: false
     // prints half a second later: true
+    Ok(())
+}
+
+/// A node is heard by turns on two links.
+pub fn twins(rt: &HostRuntime) -> Result<()> {
+    let node = [0x52, 0x54, 0, 0x12, 0x34, 0x56];
+    let mut twins = Twins::zeros();
+    let mut told = None;
+    for second in 1..8_u8 {
+        if let Some(other) = twins.hear(node, second % 2, u64::from(second)) {
+            told = Some((second, other));
+        }
+    }
+    println!(rt; "told in this second, with the link before: {told:?}")?;
+    // prints told in this second, with the link before: Some((6, 1))
+    Ok(())
+}
+
+/// Somebody is asked again until he answers.
+pub fn asked(rt: &HostRuntime) -> Result<()> {
+    let (mut all, mut client) = (Asks::default(), Asked::default());
+    let (now, number) = (1_000_000_000, 100_000_000);
+    client.ask(&mut all, now, number);
+    println!(rt; "asked again in {} ms", all.patience(1000, now))?;
+    let later = now + 350_000_000;
+    let (early, late) = (all.are_due(later - 1), all.are_due(later));
+    let is_due = client.is_due(&mut all, later);
+    println!(rt; "before that: {early}, then: {late}, and he: {is_due}")?;
+    client.answer();
+    let is_due = client.is_due(&mut all, later);
+    println!(rt; "once he has answered: {is_due}")?;
+    // prints asked again in 350 ms
+    // prints before that: false, then: true, and he: true
+    // prints once he has answered: false
+    Ok(())
+}
+
+/// The gateway's own node on a card, on several links, and where nothing is known.
+pub fn own_nodes(rt: &HostRuntime) -> Result<()> {
+    let (card, nowhere) = ([0x52, 0x54, 0, 0x12, 0x34, 0x56], [0; 6]);
+    let said = Some([2, 0, 0, 0, 0, 9]);
+    let of_card = own_node(false, false, card, said, 7);
+    let of_several = own_node(false, true, card, said, 7);
+    println!(rt; "{of_card:?}, of several links: {of_several:?}")?;
+    let made_up = own_node(false, false, nowhere, None, 0x0605_0403_0201);
+    println!(rt; "made up: {made_up:?}")?;
+    // prints [82, 84, 0, 18, 52, 86], of several links: [2, 0, 0, 0, 0, 9]
+    // prints made up: [2, 2, 3, 4, 5, 6]
     Ok(())
 }

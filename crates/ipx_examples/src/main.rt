@@ -262,5 +262,8 @@ fn serve(rt: &HostRuntime) -> Result<()> {
     cables::kinds(rt)?;
     cables::loops(rt)?;
     cables::ranges(rt)?;
-    cables::paces(rt)
+    cables::paces(rt)?;
+    cables::twins(rt)?;
+    cables::asked(rt)?;
+    cables::own_nodes(rt)
 }
