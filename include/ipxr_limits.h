@@ -259,6 +259,10 @@ IPXR_CALL uint8_t ipxr_household_receives_of_router(const ipxr_household_limits 
  * gets one that nobody has. If the last isn't behind the first, the first is given. */
 IPXR_CALL uint8_t ipxr_queues_take(ipxr_queues *queues, uint8_t first, uint8_t last);
 
+/* Somebody who shares his queue gets one of those from the first to the last that nobody has, if there is one: as when those have left for
+ * whom there were none. Returns the number that he has then. */
+IPXR_CALL uint8_t ipxr_queues_unshare(ipxr_queues *queues, uint8_t queue, uint8_t first, uint8_t last);
+
 /* Somebody who has that queue speaks no more. A queue that nobody has stays so. */
 IPXR_CALL void ipxr_queues_give_back(ipxr_queues *queues, uint8_t queue);
 
@@ -275,19 +279,25 @@ IPXR_CALL void ipxr_line_join(ipxr_line *line, ipxr_line_address *address);
 IPXR_CALL void ipxr_line_leave(ipxr_line *line, ipxr_line_address *address);
 
 /* An address speaks, with clients there or elsewhere. Returns the number that it has then, one from 1 to 63. It has it until a second finds it
- * silent for ten; or until it is silenced, since it is gone. If more speak than there are numbers, some share one. */
+ * silent for ten; or until it is silenced, since it is gone. If more speak than there are numbers, some share one; in a second after which there is one for
+ * them, they have their own again. */
 IPXR_CALL uint8_t ipxr_line_speak(ipxr_line *line, ipxr_line_address *address);
 IPXR_CALL void ipxr_line_second(ipxr_line *line, ipxr_line_address *address);
 IPXR_CALL void ipxr_line_silence(ipxr_line *line, ipxr_line_address *address);
 
 /* Whether there is room for a copy of a packet of so many bytes to an address: its rank, or IPXR_LINE_FULL. The speaker has that number, or 0
  * if it is the router or a network of another kind; `said` is the moment until which his part of what he says to all is used, 0 at first.
- * Nothing is used yet but that debts of the parts are held to what is owed now. */
+ * Nothing is used yet but that debts of the parts are held to what is owed now. What an address says to its only client there is never
+ * IPXR_LINE_WITHIN. */
 IPXR_CALL uint8_t ipxr_line_room(const ipxr_line *line, uint64_t now, uint8_t number, size_t bytes, uint64_t *said, ipxr_line_address *to);
 
 /* It goes out with that rank. */
 IPXR_CALL void ipxr_line_send(ipxr_line *line, uint64_t now, uint8_t number, size_t bytes, uint8_t rank, uint64_t *said,
                               ipxr_line_address *to);
+
+/* Whether there is room for a copy beyond all parts, which goes out as IPXR_LINE_BEYOND: for what clients answer to pings, so that nobody fills
+ * the line with that. */
+IPXR_CALL ipxr_flag ipxr_line_lets_beyond(const ipxr_line *line, uint64_t now);
 
 /* Whether an answer of your own goes out to a client; and it does, or a ping, for which there is always room: by it clients stay. */
 IPXR_CALL ipxr_flag ipxr_line_lets_own(const ipxr_line *line, uint64_t now);

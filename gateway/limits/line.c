@@ -13,6 +13,7 @@ static struct {
     uint64_t *said;
     size_t length;
     uint8_t rank;
+    bool is_of_pings;
 } copies;
 
 /* What is used of nobody's part. */
@@ -52,10 +53,21 @@ void line_begin(line_use *from, size_t length)
     copies.number = is_address ? ipxr_line_speak(&line, &from->at) : 0;
     copies.said = is_address ? &from->said : &nobody;
     copies.length = length;
+    copies.is_of_pings = false;
+}
+
+void line_begin_ping(size_t length)
+{
+    line_begin(NULL, length);
+    copies.is_of_pings = true;
 }
 
 bool line_has_room(line_use *to)
 {
+    if (copies.is_of_pings) {
+        copies.rank = IPXR_LINE_BEYOND;
+        return ipxr_line_lets_beyond(&line, limit_clock());
+    }
     copies.rank = ipxr_line_room(&line, limit_clock(), copies.number, copies.length, copies.said, &to->at);
     return copies.rank != IPXR_LINE_FULL;
 }

@@ -30,8 +30,9 @@ void line_second(line_use *it);
 void line_end(line_use *it);
 
 /* Copies of a packet of so many bytes are to go out: an address says it, which has clients there or on another network; or the router
- * itself, or a network of another kind, or it belongs to pings, where that is NULL. */
+ * itself, or a network of another kind, where that is NULL. If it belongs to pings, it goes out beyond all parts. */
 void line_begin(line_use *from, size_t length);
+void line_begin_ping(size_t length);
 
 /* Whether there is room for a copy to an address; and it is sent. */
 bool line_has_room(line_use *to);

@@ -124,6 +124,8 @@ static void second(speaker *it)
     line_second(&it->line);
     if (it->quiet++ == QUIET)
         be_quiet(it);
+    else if (it->queue != 0)
+        it->queue = ipxr_queues_unshare(&queues, it->queue, OF_ADDRESSES, IPXR_SPEAKERS - 1);
 }
 
 void speakers_second(void)

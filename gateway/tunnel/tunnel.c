@@ -103,8 +103,10 @@ static size_t send_carried(network *on, const origin *by, const uint8_t *packet,
     if (ipxr_tunnel_receivers(&on->tunnel) == 0)
         return 0;
     uint8_t queue = throttle_queue(by);
-    if (on->set->kilobits > 0)
-        line_begin(by != NULL && queue != OF_PINGS ? &by->speaks->line : NULL, length);
+    if (on->set->kilobits > 0 && queue == OF_PINGS)
+        line_begin_ping(length);
+    else if (on->set->kilobits > 0)
+        line_begin(by != NULL ? &by->speaks->line : NULL, length);
     outgoing_begin(on, packet, length);
     for (size_t k = 0; ipxr_tunnel_receiver(&on->tunnel, k, place) == 0; k++) {
         if (why_not(on, place, queue, length) == REASONS)

@@ -884,6 +884,11 @@ static void queues(void)
     ANSWERS(22, ipxr_queues_take(&given, 21, 23));
     ANSWERS(23, ipxr_queues_take(&given, 21, 23));
     WROTE(23, given.last);
+    ANSWERS(21, ipxr_queues_unshare(&given, 21, 21, 23));
+    ANSWERS(22, ipxr_queues_unshare(&given, 22, 21, 24));
+    ANSWERS(24, ipxr_queues_unshare(&given, 21, 21, 24));
+    WROTE(1, given.users[21]);
+    WROTE(1, given.users[24]);
 }
 
 static void strangers(void)
@@ -1005,8 +1010,27 @@ static void line_ranks(void)
     ANSWERS(IPXR_LINE_BEYOND, ipxr_line_room(&line, NOW, SPOKE, SHORT_BYTES, &said, &to));
     line.used = 20000900;
     ANSWERS(IPXR_LINE_BEYOND, ipxr_line_room(&line, NOW, SPOKE, SHORT_BYTES, &said, &to));
+    ANSWERS(1, ipxr_line_lets_beyond(&line, NOW));
     line.used = 20001001;
+    ANSWERS(0, ipxr_line_lets_beyond(&line, NOW));
     ANSWERS(IPXR_LINE_FULL, ipxr_line_room(&line, NOW, SPOKE, SHORT_BYTES, &said, &to));
+}
+
+/* What an address says to its only client there has no part, as long as nobody else has its number. */
+static void line_itself(void)
+{
+    ipxr_line line = LINE;
+    ipxr_line_address to;
+    uint64_t said = 0;
+    memset(&to, 0, sizeof to);
+    to.clients = 2;
+    to.number = SPOKE;
+    ANSWERS(IPXR_LINE_WITHIN, ipxr_line_room(&line, NOW, SPOKE, SHORT_BYTES, &said, &to));
+    to.clients = 1;
+    ANSWERS(IPXR_LINE_LITTLE, ipxr_line_room(&line, NOW, SPOKE, SHORT_BYTES, &said, &to));
+    ANSWERS(IPXR_LINE_WITHIN, ipxr_line_room(&line, NOW, SPOKE + 1, SHORT_BYTES, &said, &to));
+    line.numbers.users[SPOKE] = 2;
+    ANSWERS(IPXR_LINE_WITHIN, ipxr_line_room(&line, NOW, SPOKE, SHORT_BYTES, &said, &to));
 }
 
 static void line_own(void)
@@ -1055,6 +1079,7 @@ static void limits(void)
     line_members();
     line_copies();
     line_ranks();
+    line_itself();
     line_own();
 }
 

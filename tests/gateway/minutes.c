@@ -11,6 +11,9 @@
  *     minutes narrow             one says the longest packets by a line of 8 kbit/s: in ten minutes no more than nine tenths of it are used
  *     minutes silent             60 silent clients of one address, which came first, and four players by a line of 1 Mbit/s, with pings
  *     minutes crowds             three addresses with 20 silent clients each flood five players by a line of 1 Mbit/s
+ *     minutes itself             two addresses with a client each flood a third, and themselves, by a line of 1 Mbit/s
+ *     minutes pings              somebody floods four players with answers to pings by a line of 1 Mbit/s, beside a PC of QEMU
+ *     minutes numbers            126 addresses speak to four players by a line once, and then those who got the players' numbers flood
  *     minutes router             clients and a link say to the router what it limits: for ten minutes it hears as much as it is to
  *     minutes links              eleven links tell the router as much as each may, for a minute: it hears no more than of one, and a twelfth
  *                                whole that tells its tables twice, at once
@@ -479,6 +482,96 @@ static void crowds(void)
     expect(lost == 0 && all > 0, "beside addresses that flood and have silent clients players within their parts of a line lose nothing");
 }
 
+/* Some addresses with a client each are on the line, and begin to speak. */
+static void begin_on_line(size_t count, uint32_t kilobits)
+{
+    use_line_of(kilobits);
+    join(count);
+    for (size_t k = 0; k < count; k++) {
+        line_join(&speakers[k]->line);
+        line_begin(&speakers[k]->line, SHORT);
+    }
+}
+
+/* Two addresses say as much as they can to a third and to themselves. */
+static void itself(void)
+{
+    enum { FLOOD = 2, ALL = 3, GAME = 35, KILOBITS = 1000, LASTS = 2 * MINUTE };
+    uint64_t said = 0, lost = 0;
+    begin_on_line(ALL, KILOBITS);
+    for (uint64_t at = 1; at <= LASTS; at++) {
+        pass_millisecond(at);
+        for (size_t who = 0; who < FLOOD; who++) {
+            line_begin(&speakers[who]->line, 30 + draw(130));
+            for (size_t k = 0; k < ALL; k++)
+                (void)goes_to(k);
+        }
+        for (; said < said_by(GAME, at); said++) {
+            line_begin(&speakers[FLOOD]->line, SHORT);
+            for (size_t k = 0; k < FLOOD; k++)
+                lost += !goes_to(k);
+        }
+    }
+    printf("%" PRIu64 " of %" PRIu64 " copies of the player are lost\n", lost, FLOOD * said);
+    expect(lost == 0 && said > 0, "beside addresses that flood themselves, too, a player within his parts of a line loses nothing");
+}
+
+/* A PC of QEMU says something to four players, whom somebody floods with what looks like answers to pings. */
+static void pings(void)
+{
+    enum { ALL = 5, GAME = 10, LONG = 1400, KILOBITS = 1000, LASTS = 2 * MINUTE };
+    uint64_t said = 0, lost = 0;
+    begin_on_line(ALL, KILOBITS);
+    for (uint64_t at = 1; at <= LASTS; at++) {
+        pass_millisecond(at);
+        line_begin_ping(LONG);
+        for (size_t k = 0; k < ALL; k++)
+            (void)goes_to(k);
+        for (; said < said_by(GAME, at); said++) {
+            line_begin(NULL, SHORT);
+            for (size_t k = 0; k < ALL; k++)
+                lost += !goes_to(k);
+        }
+    }
+    printf("%" PRIu64 " of %" PRIu64 " copies of the PC are lost\n", lost, ALL * said);
+    expect(lost == 0 && said > 0, "beside a flood of answers to pings a PC of QEMU is heard by a line");
+}
+
+/* More addresses than there are numbers speak once; of those who share a number with a player each speaks again, so that it keeps its own. From
+ * the 40th second on they flood. Players say less than their part, and from the 60th on nothing of it is lost. */
+static void numbers(void)
+{
+    enum { PLAY = 4, ALL = PLAY + 126, GAME = 10, LONG = 1400, KILOBITS = 3000, LASTS = 2 * MINUTE, SPEAKS = 5 * SECOND };
+    uint64_t said[PLAY] = {0}, lost = 0;
+    bool is_one[ALL] = {false};
+    size_t count = 0;
+    begin_on_line(ALL, KILOBITS);
+    for (size_t k = PLAY; k < ALL; k++) {
+        for (size_t who = 0; who < PLAY; who++)
+            is_one[k] = is_one[k] || speakers[k]->line.at.number == speakers[who]->line.at.number;
+        count += is_one[k];
+        line_leave(&speakers[k]->line); /* (its client is on another network) */
+    }
+    expect(count > 0, "players share their numbers at first");
+    for (uint64_t at = 1; at <= LASTS; at++) {
+        pass_millisecond(at);
+        for (size_t k = PLAY; k < ALL; k++)
+            if (is_one[k] && (at > 40 * SECOND || at % SPEAKS == 0)) {
+                line_begin(&speakers[k]->line, LONG);
+                for (size_t to = 0; to < PLAY; to++)
+                    (void)goes_to(to);
+            }
+        for (size_t who = 0; who < PLAY; who++)
+            for (; said[who] < said_by(GAME, at + 20 * who); said[who]++) {
+                line_begin(&speakers[who]->line, SHORT);
+                for (size_t k = 0; k < PLAY; k++)
+                    lost += k != who && !goes_to(k) && at > MINUTE;
+            }
+    }
+    printf("%zu shared, %" PRIu64 " copies of the players are lost\n", count, lost);
+    expect(lost == 0, "whoever shared a number of a line has his own again once there is one");
+}
+
 /* ---- What the router hears ---- */
 
 enum { MOST_CLIENTS = 5 };
@@ -799,6 +892,7 @@ static const struct {
     void (*does)(void);
 } WORDS_ALONE[] = {
     {"once", once}, {"two", two}, {"address", of_address}, {"narrow", narrow}, {"silent", silent}, {"crowds", crowds},
+    {"itself", itself}, {"pings", pings}, {"numbers", numbers},
     {"router", router}, {"links", links}, {"accounts", accounts}, {"none", none}, {"gateway", gateway},
 };
 

@@ -9,7 +9,7 @@ ghost use Rattle.ipx_limits.specs.Deciding.{account, later, Pinged, PingedInFram
 ghost use Rattle.ipx_limits.specs.Kinds.{kind_of};
 ghost use Rattle.ipx_limits.specs.Limits.{limits_at, household_at, told_on_links};
 ghost use Rattle.ipx_limits.specs.Numbers.{most_rate};
-ghost use Rattle.ipx_limits.specs.Queues.{Taken, GivenBack};
+ghost use Rattle.ipx_limits.specs.Queues.{Taken, GivenBack, Unshared};
 ghost use Rattle.ipx_limits.specs.Receiving.{reads_of, Received, ReceivedAtAddress, HeardOfRouter, ReceivedOfRouter, Carried};
 ghost use Rattle.ipx_limits.specs.Strangers.{strangers_at, Sent};
 ghost use Rattle.ipx_c.specs.LimitValues.{setting_of, kind_at, kind_number, decision_number};
@@ -295,6 +295,14 @@ pub extern "C" fn ipxr_queues_take(queues: &mut Queues, first: u8, last: u8) -> 
     ensures { Taken first last result queues.old queues.new }
 {
     queues.take(first, last)
+}
+
+/// Somebody who shares a queue gets one that nobody has, if there is one. Returns the one that he has then.
+#[unsafe(no_mangle)]
+pub extern "C" fn ipxr_queues_unshare(queues: &mut Queues, queue: u8, first: u8, last: u8) -> u8
+    ensures { Unshared first last queue result queues.old queues.new }
+{
+    queues.unshare(queue, first, last)
 }
 
 /// Somebody who has a queue speaks no more.

@@ -1,7 +1,7 @@
 //! A narrow line, as C asks for it. It and its addresses lie in memory of C's own, and need no handle.
 ghost use Rattle.std.specs.Prelude.{◌≡◌, true};
 ghost use Rattle.ipx_limits.specs.LineMembers.{LineJoined, LineLeft, LineSpoken, LineSilent, LineSecond, is_silent};
-ghost use Rattle.ipx_limits.specs.LineRoom.{LineAsked, LineSent, lets_own, own_after, taken, own_cost, stranger_cost, lets_stranger, strangers_owed, stranger_owed, stranger_after};
+ghost use Rattle.ipx_limits.specs.LineRoom.{LineAsked, LineSent, lets_beyond, lets_own, own_after, taken, own_cost, stranger_cost, lets_stranger, strangers_owed, stranger_owed, stranger_after};
 ghost use Rattle.ipx_limits.specs.declared.rank.Rank.{Rank};
 ghost use Rattle.std.specs.Prelude.{Option};
 ghost use Rattle.ipx_c.specs.LimitValues.{rank_at, room_number};
@@ -83,6 +83,14 @@ pub extern "C" fn ipxr_line_send(
     ensures { LineSent now number bytes (rank_at rank) line.old line.new said.old said.new to.old to.new }
 {
     line.send(now, number, bytes, rank_at(rank), said, to);
+}
+
+/// Whether there is room for a copy beyond all parts.
+#[unsafe(no_mangle)]
+pub extern "C" fn ipxr_line_lets_beyond(line: &Line, now: u64) -> bool
+    ensures { result ≡ lets_beyond now line.now }
+{
+    line.lets_beyond(now)
 }
 
 // ---- What the gateway says itself

@@ -2,7 +2,7 @@
 use Rattle.std.proofs.Common.{◌≡◌, ◌∙◌, refl, sym, ap, ap₂, subst, arith, ℕ, zero, suc, ◌+◌, ◌-◌, ◌*◌, ◌<◌, ◌≤◌, ◌⊎◌, inl, inr, ◌==◌, Bool, true, false, ◌&&◌, ◌||◌, not, nat_le, if◌then◌else◌, None, Some, List, [], ◌∷◌, length, map, get_or, set, replicate}
 use Rattle.std.specs.List.{AllByRecursion}
 use Rattle.std.proofs.Math.Nat.{mul-le-mul_left, mul-le-mul_right, mul-sub, le_of_mul-le-mul_left}
-use Rattle.std.proofs.lemmas.Bool.{and_parts, leb-true, le-leb}
+use Rattle.std.proofs.lemmas.Bool.{and_parts, and_from, both_ways, not-true, not_from_false, leb-true, le-leb}
 use Rattle.ipx_fair.specs.Queues.{total, lowered}
 use Rattle.ipx_fair.specs.Hearing.{queue_of}
 use Rattle.ipx_fair.proofs.Queues.{total-set, length-lowered}
@@ -13,7 +13,7 @@ use Rattle.ipx_limits.specs.declared.rank.Rank.{Rank}
 use Rattle.ipx_limits.specs.declared.rank.Rank.TheVariants.{Beyond, OfAddress, OfSpeaker, Little, Within}
 use Rattle.ipx_limits.specs.Numbers.{line_short, room_of_speaker, at_once, said_at_once, own_parts, own_at_once}
 use Rattle.ipx_limits.specs.LineParts.{cost, longest, receivers, speakers, sharers, pairs, more, pair_cost, said_cost, most_within, most_said, most_spoken}
-use Rattle.ipx_limits.specs.LineRoom.{is_within, has_part, is_alone, says_little, rank_of, most_room, room_of, has_room, room_for, is_little, is_of_part, own_cost}
+use Rattle.ipx_limits.specs.LineRoom.{is_within, has_part, is_alone, speaks_to_itself, says_little, rank_of, most_room, room_of, has_room, room_for, is_little, is_of_part, own_cost}
 use Rattle.ipx_limits.specs.LineLaws.{Busy, none_to, quiet, Event, Passing, Copies, Own, ToStranger, busy_then, said_to, within_after, Copied, SentOut, Runs, own_fill, IsWide, HasParts, Saying, Later, Says, SayingRuns, said_fill}
 use Rattle.ipx_limits.proofs.NarrowLine.{cost_less, cost_most, found}
 
@@ -182,11 +182,10 @@ later m busy time rest parts parts_then little own strangers count few less part
     omega (arith, mul-sub m busy time, mul-sub m little time, mul-sub m own time, mul-sub m strangers time, less, parts_less, all)
 
 -- what a rank says
-is_within_says : (line : Line) (to : LineAddress) (number bytes : ℕ) (used : LineUse) → rank_of line to number bytes used ≡ Within
-    → used.within + pair_cost line to bytes ≤ most_within line to
-is_within_says line to number bytes used is =
-    leb-true (used.within + pair_cost line to bytes) (most_within line to)
-    (and_parts (not (number == 0)) (nat_le (used.within + pair_cost line to bytes) (most_within line to))
+is_within_parts : (line : Line) (to : LineAddress) (number bytes : ℕ) (used : LineUse) → rank_of line to number bytes used ≡ Within
+    → (not (speaks_to_itself line to number) && nat_le (used.within + pair_cost line to bytes) (most_within line to)) ≡ true
+is_within_parts line to number bytes used is =
+    (and_parts (not (number == 0)) (not (speaks_to_itself line to number) && nat_le (used.within + pair_cost line to bytes) (most_within line to))
     (says (is_within line to number bytes used) (says_little line number bytes used) (nat_le used.spoken (most_spoken line to)) (has_part used) is)).1
   where
     says : (within little spoken part : Bool)
@@ -196,6 +195,20 @@ is_within_says line to number bytes used is =
     says false false true part e = ap is_of_part e
     says false false false true e = ap is_of_part e
     says false false false false e = ap is_of_part e
+
+is_within_says : (line : Line) (to : LineAddress) (number bytes : ℕ) (used : LineUse) → rank_of line to number bytes used ≡ Within
+    → used.within + pair_cost line to bytes ≤ most_within line to
+is_within_says line to number bytes used is =
+    leb-true (used.within + pair_cost line to bytes) (most_within line to)
+    (and_parts (not (speaks_to_itself line to number)) (nat_le (used.within + pair_cost line to bytes) (most_within line to))
+    (is_within_parts line to number bytes used is)).1
+
+pub never_itself : (line : Line) (to : LineAddress) (number bytes : ℕ) (used : LineUse) → speaks_to_itself line to number ≡ true
+    → rank_of line to number bytes used ≡ Within → ⊥
+never_itself line to number bytes used itself is =
+    both_ways (speaks_to_itself line to number)
+    (not-true (speaks_to_itself line to number) (and_parts (not (speaks_to_itself line to number)) (nat_le (used.within + pair_cost line to bytes) (most_within line to))
+    (is_within_parts line to number bytes used is)).0) itself
 
 little_says : (line : Line) (to : LineAddress) (number bytes : ℕ) (used : LineUse) → rank_of line to number bytes used ≡ Little
     → used.said + said_cost line bytes ≤ most_said line
@@ -464,12 +477,12 @@ fills line to old new (Says bytes ∷ sayings) bucket run less =
     fills line to run.0 new sayings (bucket + pair_cost line to bytes) run.2 (omega (arith, less, run.1))
 
 pub keeps_within : (line : Line) (to : LineAddress) (number bytes : ℕ) (old new : ℕ) (sayings : List Saying) (used : LineUse) → not (number == 0) ≡ true
-    → SayingRuns line to old sayings new → used.within ≤ new → said_fill line to old sayings + pair_cost line to bytes ≤ most_within line to
+    → speaks_to_itself line to number ≡ false → SayingRuns line to old sayings new → used.within ≤ new → said_fill line to old sayings + pair_cost line to bytes ≤ most_within line to
     → rank_of line to number bytes used ≡ Within
-keeps_within line to number bytes old new sayings used is_address run less fits =
+keeps_within line to number bytes old new sayings used is_address another run less fits =
     let filled = fills line to old new sayings old run (omega arith) in
     let room : nat_le (used.within + pair_cost line to bytes) (most_within line to) ≡ true =
     le-leb (used.within + pair_cost line to bytes) (most_within line to) (omega (arith, less, filled, fits)) in
     ap (λ (b : Bool). if b then Within else if says_little line number bytes used then Little else if nat_le used.spoken (most_spoken line to) then OfSpeaker
     else if has_part used then OfAddress else Beyond)
-    (ap₂ (λ (a b : Bool). a && b) is_address room)
+    (and_from (not (number == 0)) _ is_address (and_from (not (speaks_to_itself line to number)) _ (not_from_false (speaks_to_itself line to number) another) room))

@@ -3,7 +3,8 @@ use Rattle.std.specs.Prelude.{◌≡◌, ℕ, ◌+◌, ◌-◌, ◌^◌, ◌==�
 use Rattle.ipx_limits.specs.declared.line.Line.{Line}
 use Rattle.ipx_limits.specs.declared.line.LineAddress.{LineAddress}
 use Rattle.ipx_limits.specs.Numbers.{line_numbers, quiet_seconds}
-use Rattle.ipx_limits.specs.Queues.{Taken, GivenBack}
+use Rattle.ipx_limits.specs.declared.queues.Queues.{Queues}
+use Rattle.ipx_limits.specs.Queues.{Taken, GivenBack, Unshared}
 
 -- one more, as far as a number goes
 abbrev pub one_more : ℕ → ℕ
@@ -44,10 +45,19 @@ pub record LineSilent (old new : Line) (to to_then : LineAddress) : Type 0 where
   pub taken : NumberTaken (not (to.number == 0)) old new to.number
   pub of_address : to_then ≡ record to { number = 0 }
 
--- a second passes: who was silent for long has none
+-- a second passes: who was silent for long has none, and who shares one gets one of his own
+abbrev pub NumberUnshared : Bool → Queues → Queues → ℕ → ℕ → Type 0
+NumberUnshared true old new number number_then = Unshared 1 (line_numbers - 1) number number_then old new
+NumberUnshared false old new number number_then = (new ≡ old) × (number_then ≡ number)
+
+pub record StillSpeaks (old new : Line) (to to_then : LineAddress) : Type 0 where
+  pub unshared : NumberUnshared (not (to.number == 0)) old.numbers new.numbers to.number to_then.number
+  pub of_line : new ≡ record old { numbers = new.numbers }
+  pub of_address : to_then ≡ record to { number = to_then.number; quiet = to.quiet + 1 }
+
 abbrev pub LineSecond : Bool → Line → Line → LineAddress → LineAddress → Type 0
 LineSecond true old new to to_then = LineSilent old new to to_then
-LineSecond false old new to to_then = (new ≡ old) × (to_then ≡ record to { quiet = to.quiet + 1 })
+LineSecond false old new to to_then = StillSpeaks old new to to_then
 
 abbrev pub is_silent : LineAddress → Bool
 is_silent to = nat_le quiet_seconds to.quiet

@@ -26,9 +26,18 @@ use_at now line said to number = record {
 
 -- ---- which copies come first
 
+-- nobody else has a number
+abbrev pub is_alone : Line → ℕ → Bool
+is_alone line number = nat_le (users_of line.numbers number) 1
+
+-- an address says something to its only client there, for which it has no part
+abbrev pub speaks_to_itself : Line → LineAddress → ℕ → Bool
+speaks_to_itself line to number = number == to.number && to.clients == 1 && is_alone line number
+
 -- a speaker within his part of the address' part. (the number 0 is the router's and that of networks of other kinds, which have none)
 abbrev pub is_within : Line → LineAddress → ℕ → ℕ → LineUse → Bool
-is_within line to number bytes used = not (number == 0) && nat_le (used.within + pair_cost line to bytes) (most_within line to)
+is_within line to number bytes used =
+    not (number == 0) && (not (speaks_to_itself line to number) && nat_le (used.within + pair_cost line to bytes) (most_within line to))
 
 -- an address within its part
 abbrev pub has_part : LineUse → Bool
@@ -36,9 +45,6 @@ has_part used = nat_le used.received received_at_once
 
 -- one who says so little to all that it doesn't matter to whom, as long as the address has its part; where others have his number, too, they
 -- may have used that up
-abbrev pub is_alone : Line → ℕ → Bool
-is_alone line number = nat_le (users_of line.numbers number) 1
-
 abbrev pub says_little : Line → ℕ → ℕ → LineUse → Bool
 says_little line number bytes used =
     not (number == 0) && (has_part used || not (is_alone line number)) && nat_le (used.said + said_cost line bytes) (most_said line)
@@ -124,15 +130,17 @@ pub record LineSent (now : ℕ) (number bytes : ℕ) (rank : Rank) (old new : Li
     spoken = set to.spoken (place_of number) (taken now (is_spoken rank) (pairs old to * cost old bytes) (get_or to.spoken (place_of number) 0));
   }
 
+-- what goes out beyond all parts waits for nobody
+abbrev pub lets_beyond : ℕ → Line → Bool
+lets_beyond now line = nat_le (ahead now line.used) room_beyond
+
 -- ---- datagrams of the gateway's own: answers and pings to clients, and those to strangers, each with a part
 
 abbrev pub own_cost : Line → ℕ → ℕ
 own_cost line bytes = own_parts * cost line bytes
 
--- what goes beyond that part waits for nobody
 abbrev pub lets_own : ℕ → Line → Bool
-lets_own now line =
-    (nat_le (ahead now line.own) own_at_once && nat_le (ahead now line.used) (most_room line)) || nat_le (ahead now line.used) room_beyond
+lets_own now line = (nat_le (ahead now line.own) own_at_once && nat_le (ahead now line.used) (most_room line)) || lets_beyond now line
 
 abbrev pub own_after : ℕ → Line → ℕ → Line
 own_after now line bytes = record (line_after now line bytes) { own = owed now own_at_once (own_cost line line_longest) (taken now true (own_cost line bytes) line.own) }

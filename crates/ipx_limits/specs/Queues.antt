@@ -1,5 +1,5 @@
 -- Which queue somebody gets who begins to speak: where there are more speakers than queues, some share one.
-use Rattle.std.specs.Prelude.{◌≡◌, ℕ, ◌+◌, ◌-◌, ◌*◌, ◌≤◌, ◌^◌, min, max, nat_lt, if◌then◌else◌, List, [], ◌∷◌, take, drop, get_or, set}
+use Rattle.std.specs.Prelude.{◌≡◌, ◌⊎◌, ℕ, ◌+◌, ◌-◌, ◌*◌, ◌<◌, ◌≤◌, ◌^◌, min, max, nat_lt, if◌then◌else◌, List, [], ◌∷◌, take, drop, get_or, set}
 use Rattle.ipx_limits.specs.declared.queues.Queues.{Queues}
 
 -- how many have a queue
@@ -29,6 +29,29 @@ pub record Taken (first last number : ℕ) (old new : Queues) : Type 0 where
 pub record GivenBack (number : ℕ) (old new : Queues) : Type 0 where
   pub users : new.users ≡ set old.users number (users_of old number - 1)
   pub same : new.last ≡ old.last
+
+-- nobody has one of the queues from the first to the last
+pub record HasFree (first last : ℕ) (queues : Queues) : Type 0 where
+  pub other : ℕ
+  pub not_before : first ≤ other
+  pub not_behind : other ≤ last
+  pub free : users_of queues other ≡ 0
+
+-- somebody who shares his gets one that is free; who doesn't, or if there is none, keeps his
+pub record MovesTo (first last number number_then : ℕ) (old new : Queues) : Type 0 where
+  pub shares : 1 < users_of old number
+  pub between : Queues
+  pub given_back : GivenBack number old between
+  pub taken : Taken first last number_then between new
+  pub alone : users_of new number_then ≡ 1
+
+pub record Stays (first last number number_then : ℕ) (old new : Queues) : Type 0 where
+  pub why : (users_of old number ≤ 1) ⊎ (HasFree first last old → ⊥)
+  pub same : new ≡ old
+  pub keeps : number_then ≡ number
+
+abbrev pub Unshared : (first last number number_then : ℕ) (old new : Queues) → Type 0
+Unshared first last number number_then old new = MovesTo first last number number_then old new ⊎ Stays first last number number_then old new
 
 -- ---- how many have the queues from the first to the last
 

@@ -1,5 +1,5 @@
 //! What follows from the definitions alone, for every state and every list of events, so for every stretch of time.
-ghost use Rattle.std.specs.Prelude.{◌≡◌, ℕ, ◌+◌, ◌-◌, ◌*◌, ◌^◌, ◌<◌, ◌≤◌, ◌==◌, nat_le, true, not, if◌then◌else◌, Some, List, length, get_or};
+ghost use Rattle.std.specs.Prelude.{◌≡◌, ℕ, ◌+◌, ◌-◌, ◌*◌, ◌^◌, ◌<◌, ◌≤◌, ◌==◌, nat_le, true, false, not, if◌then◌else◌, Some, List, length, get_or};
 ghost use Rattle.ipx_fair.specs.Hearing.{queue_of};
 ghost use Rattle.ipx_fair.specs.States.{State};
 ghost use Rattle.ipx_fair.specs.Events.{Runs as RunsOfOne};
@@ -18,7 +18,7 @@ ghost use Rattle.ipx_limits.specs.declared.queues.Queues.{Queues};
 ghost use Rattle.ipx_limits.specs.declared.rank.Rank.{Rank};
 ghost use Rattle.ipx_limits.specs.declared.rank.Rank.TheVariants.{Little, Within};
 ghost use Rattle.ipx_limits.specs.LineParts.{ahead, from_now, longest, pair_cost, said_cost, most_within};
-ghost use Rattle.ipx_limits.specs.LineRoom.{place_of, rank_of, most_room, room_of, room_for, has_room, most_used, is_little, is_of_part, LineSent, own_cost, own_after, lets_stranger, stranger_after};
+ghost use Rattle.ipx_limits.specs.LineRoom.{place_of, speaks_to_itself, rank_of, most_room, room_of, room_for, has_room, most_used, is_little, is_of_part, LineSent, own_cost, own_after, lets_stranger, stranger_after};
 ghost use Rattle.ipx_limits.specs.LineLaws.{Busy, quiet, busy_then, Event as OnLine, Runs as LineRuns, elapsed as time_on_line, copied, own_fill, fill_by, room_behind, HasParts, IsWide, Saying, SayingRuns, said_fill, Stranger, StrangersRun, waited, sent as sent_on_line};
 ghost use Rattle.ipx_limits.specs.declared.uses.Address.{Address};
 ghost use Rattle.ipx_limits.specs.declared.uses.Client.{Client};
@@ -275,9 +275,12 @@ pub fn within_is_heard()
         → room_for line to number bytes used ≡ Some Little }
 {}
 
-/// And who says no more to an address than the part of the line that he has there, and at once what it lets him, is within it.
+/// And who says no more to an address than the part of the line that he has there, and at once what it lets him, is within it. An address has
+/// none for what it says to its own client there, if that is its only one.
 pub fn part_is_within()
-    ensures { (line : Line) (to : LineAddress) (number bytes : ℕ) (old new : ℕ) (sayings : List Saying) (used : LineUse)
-        → not (number == 0) ≡ true → SayingRuns line to old sayings new → used.within ≤ new
+    ensures part { (line : Line) (to : LineAddress) (number bytes : ℕ) (old new : ℕ) (sayings : List Saying) (used : LineUse)
+        → not (number == 0) ≡ true → speaks_to_itself line to number ≡ false → SayingRuns line to old sayings new → used.within ≤ new
         → said_fill line to old sayings + pair_cost line to bytes ≤ most_within line to → rank_of line to number bytes used ≡ Within }
+    ensures itself { (line : Line) (to : LineAddress) (number bytes : ℕ) (used : LineUse) → speaks_to_itself line to number ≡ true
+        → rank_of line to number bytes used ≡ Within → ⊥ }
 {}

@@ -130,15 +130,22 @@ impl Line {
         address.number = 0;
     }
 
-    /// A second passes: an address that was silent for ten has no number any more.
+    /// A second passes: an address that was silent for ten has no number any more; one that shares its number has one of its own from then on,
+    /// if there is one.
     pub fn second(&mut self, address: &mut LineAddress)
         ensures { LineSecond (is_silent address.old) self.old self.new address.old address.new }
     {
         if address.quiet >= QUIET_SECONDS {
             self.silence(address);
-        } else {
-            address.quiet += 1;
+            return;
         }
+        if address.number != 0 {
+            let own = self
+                .numbers
+                .unshare(address.number, FIRST_NUMBER, LAST_NUMBER);
+            address.number = own;
+        }
+        address.quiet += 1;
     }
 }
 

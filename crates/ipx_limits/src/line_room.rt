@@ -1,7 +1,7 @@
 //! Which copies find room on a narrow line.
 ghost use Rattle.std.specs.Prelude.{◌≡◌, ◌≤◌, ◌^◌, true};
 ghost use Rattle.ipx_limits.specs.LineParts.{owed};
-ghost use Rattle.ipx_limits.specs.LineRoom.{place_of, use_at, is_within, has_part, is_alone, says_little, rank_of, most_room, room_of, address_owed, LineAsked, most_used, line_after, LineSent, taken, is_little, is_of_part, is_spoken, is_received, own_cost, lets_own, own_after, stranger_cost, lets_stranger, strangers_owed, stranger_owed, stranger_after};
+ghost use Rattle.ipx_limits.specs.LineRoom.{place_of, use_at, is_alone, speaks_to_itself, is_within, has_part, says_little, rank_of, most_room, room_of, address_owed, LineAsked, most_used, line_after, LineSent, lets_beyond, taken, is_little, is_of_part, is_spoken, is_received, own_cost, lets_own, own_after, stranger_cost, lets_stranger, strangers_owed, stranger_owed, stranger_after};
 
 use crate::limits::SECOND;
 use crate::line::{Line, LineAddress};
@@ -98,12 +98,20 @@ impl Line {
         self.goes(now, bytes);
     }
 
+    /// Whether there is room for a copy beyond all parts, which is sent as `Beyond`: for what clients answer to pings, so that nobody fills the
+    /// line with that.
+    pub fn lets_beyond(&self, now: u64) -> bool
+        ensures { result ≡ lets_beyond now self.now }
+    {
+        ahead(now, self.used) <= BEYOND
+    }
+
     /// Whether an answer of the gateway's own goes out to a client.
     pub fn lets_own(&self, now: u64) -> bool
         ensures { result ≡ lets_own now self.now }
     {
         let is_within = ahead(now, self.own) <= SECOND && ahead(now, self.used) <= self.most_room();
-        is_within || ahead(now, self.used) <= BEYOND
+        is_within || self.lets_beyond(now)
     }
 
     /// It goes out; or a ping, for which there is always room, since by it clients stay.
@@ -204,16 +212,30 @@ impl Line {
         ensures { result ≡ is_within self.now to.now number bytes used }
     {
         let most = self.most_within(to);
-        number != 0 && used.within <= most && self.pair_cost(to, bytes) <= most - used.within
+        number != 0
+            && !self.speaks_to_itself(to, number)
+            && used.within <= most
+            && self.pair_cost(to, bytes) <= most - used.within
+    }
+
+    fn speaks_to_itself(&self, to: &LineAddress, number: u8) -> bool
+        ensures { result ≡ speaks_to_itself self.now to.now number }
+    {
+        number == to.number && to.clients == 1 && self.is_alone(number)
+    }
+
+    fn is_alone(&self, number: u8) -> bool
+        ensures { result ≡ is_alone self.now number }
+    {
+        self.numbers.users[usize::from(number)] <= 1
     }
 
     fn says_little(&self, number: u8, bytes: usize, used: LineUse) -> bool
         ensures { result ≡ says_little self.now number bytes used }
     {
         let most = self.most_said();
-        let is_alone = self.numbers.users[usize::from(number)] <= 1;
         number != 0
-            && (used.received <= RECEIVED_AT_ONCE || !is_alone)
+            && (used.received <= RECEIVED_AT_ONCE || !self.is_alone(number))
             && used.said <= most
             && self.said_cost(bytes) <= most - used.said
     }

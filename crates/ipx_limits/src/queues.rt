@@ -1,6 +1,6 @@
 //! Which queue somebody gets who begins to speak.
 ghost use Rattle.std.specs.Prelude.{◌≡◌, replicate};
-ghost use Rattle.ipx_limits.specs.Queues.{rank, Taken, GivenBack};
+ghost use Rattle.ipx_limits.specs.Queues.{rank, Taken, GivenBack, Unshared};
 
 /// Queues that have numbers, and how many speakers have each: where more speak than there are queues, some share one. All bytes 0, nobody has
 /// one.
@@ -50,6 +50,24 @@ impl Queues {
     {
         let index = usize::from(number);
         self.users[index] = self.users[index].saturating_sub(1);
+    }
+
+    /// Somebody who shares a queue gets one of those from the first to the last that nobody has, if there is one: as when those have left for
+    /// whom there were none. Returns the one that he has then.
+    pub fn unshare(&mut self, number: u8, first: u8, last: u8) -> u8
+        ensures { Unshared first last number result self.old self.new }
+    {
+        if self.users[usize::from(number)] <= 1 {
+            return number;
+        }
+        let mut after = *self;
+        after.give_back(number);
+        let other = after.take(first, last);
+        if after.users[usize::from(other)] > 1 {
+            return number;
+        }
+        *self = after;
+        other
     }
 
     /// The one with the least is given next.
