@@ -72,24 +72,24 @@ module _ (line : Line) (speak_to : List ℕ) where
 parts_more : (parts one others : ℕ) → parts * (one + others) ≡ parts * one + parts * others
 parts_more parts one others = omega arith
 
-module _ (line : Line) (parts : ℕ) where
-  strangers_used : (old new : ℕ) (events : List Stranger) → StrangersRun line parts old events new → old ≤ own_at_once + parts * longest line
-      → (parts * sent line events + old ≤ waited events + new) × (new ≤ own_at_once + parts * longest line)
+module _ (line : Line) (parts most : ℕ) where
+  strangers_used : (old new : ℕ) (events : List Stranger) → StrangersRun line parts most old events new → old ≤ most + parts * longest line
+      → (parts * sent line events + old ≤ waited events + new) × (new ≤ most + parts * longest line)
   strangers_used old new [] run few = (omega (arith, run), omega (arith, run, few))
   strangers_used old new (Waits ns ∷ events) run few =
       let rest = strangers_used run.0 new events run.2 (omega (arith, run.1, few)) in
       (omega (arith, rest.0, run.1), rest.1)
   strangers_used old new (Sends bytes true ∷ events) run few =
-      let room : old ≤ own_at_once = leb-true old own_at_once (run.1.room refl) in
-      let most = mul-le-mul_left parts (cost_most line bytes) in
-      let rest = strangers_used run.0 new events run.2 (omega (arith, run.1.used, room, most)) in
+      let room : old ≤ most = leb-true old most (run.1.room refl) in
+      let cost_of = mul-le-mul_left parts (cost_most line bytes) in
+      let rest = strangers_used run.0 new events run.2 (omega (arith, run.1.used, room, cost_of)) in
       (omega (arith, rest.0, run.1.used, parts_more parts (cost line bytes) (sent line events)), rest.1)
   strangers_used old new (Sends bytes false ∷ events) run few =
       let rest = strangers_used run.0 new events run.2 (omega (arith, run.1.used, few)) in
       (omega (arith, rest.0, run.1.used), rest.1)
 
-  pub strangers_most : (old new : ℕ) (events : List Stranger) → StrangersRun line parts old events new → old ≤ own_at_once
-      → parts * sent line events ≤ waited events + own_at_once + parts * longest line
+  pub strangers_most : (old new : ℕ) (events : List Stranger) → StrangersRun line parts most old events new → old ≤ most
+      → parts * sent line events ≤ waited events + most + parts * longest line
   strangers_most old new events run few =
       let used = strangers_used old new events run (omega (arith, few)) in
       omega (arith, used.0, used.1)

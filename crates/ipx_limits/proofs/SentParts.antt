@@ -7,7 +7,7 @@ use Rattle.ipx_limits.specs.declared.line.LineAddress.{LineAddress}
 use Rattle.ipx_limits.specs.declared.rank.Rank.{Rank}
 use Rattle.ipx_limits.specs.Numbers.{own_at_once}
 use Rattle.ipx_limits.specs.LineParts.{ahead, from_now, cost, pair_cost, said_cost}
-use Rattle.ipx_limits.specs.LineRoom.{place_of, most_room, most_used, line_after, taken, is_little, is_of_part, LineSent, own_cost, lets_stranger, stranger_after}
+use Rattle.ipx_limits.specs.LineRoom.{place_of, most_room, most_used, line_after, taken, is_little, is_of_part, LineSent, own_cost, lets_stranger, most_of_stranger, stranger_after}
 use Rattle.ipx_limits.specs.LineLaws.{busy_then}
 
 -- a moment so many nanoseconds from now on
@@ -42,9 +42,9 @@ module _ (now number bytes : ℕ) (rank : Rank) (old new : Line) (said said_then
       ∙ taken_then now (is_of_part rank) (pair_cost old to bytes) moment small
 
 pub of_strangers : (now bytes address : ℕ) (line : Line) → lets_stranger now line address ≡ true → now + (ahead now line.to_strangers + own_cost line bytes) < 2 ^ 64
-    → (nat_le (ahead now line.to_strangers) own_at_once ≡ true) × (nat_le (ahead now address) own_at_once ≡ true)
+    → (nat_le (ahead now line.to_strangers) own_at_once ≡ true) × (nat_le (ahead now address) (most_of_stranger line) ≡ true)
     × (ahead now (stranger_after now line bytes).to_strangers ≡ ahead now line.to_strangers + own_cost line bytes)
 of_strangers now bytes address line lets small =
-    let both = (and_parts (nat_le (ahead now line.to_strangers) own_at_once && nat_le (ahead now address) own_at_once) (nat_le (ahead now line.used) (most_room line)) lets).0 in
-    let each = and_parts (nat_le (ahead now line.to_strangers) own_at_once) (nat_le (ahead now address) own_at_once) both in
+    let both = (and_parts (nat_le (ahead now line.to_strangers) own_at_once && nat_le (ahead now address) (most_of_stranger line)) (nat_le (ahead now line.used) (most_room line)) lets).0 in
+    let each = and_parts (nat_le (ahead now line.to_strangers) own_at_once) (nat_le (ahead now address) (most_of_stranger line)) both in
     (each.0, each.1, taken_then now true (own_cost line bytes) line.to_strangers small)

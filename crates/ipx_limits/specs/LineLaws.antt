@@ -186,18 +186,18 @@ pub data Stranger : Type 0 where
   Waits : ℕ → Stranger
   Sends : (bytes : ℕ) (goes : Bool) → Stranger
 
--- each takes so many times its cost of the part
-pub record SentToStranger (line : Line) (parts bytes : ℕ) (goes : Bool) (old new : ℕ) : Type 0 where
-  pub room : goes ≡ true → nat_le old own_at_once ≡ true
+-- each takes so many times its cost of the part, of which so much may be used at once
+pub record SentToStranger (line : Line) (parts most bytes : ℕ) (goes : Bool) (old new : ℕ) : Type 0 where
+  pub room : goes ≡ true → nat_le old most ≡ true
   pub used : new ≡ (if goes then old + parts * cost line bytes else old)
 
-abbrev pub StrangersStep : Line → ℕ → Stranger → ℕ → ℕ → Type 0
-StrangersStep line parts (Waits nanoseconds) old new = new ≡ old - nanoseconds
-StrangersStep line parts (Sends bytes goes) old new = SentToStranger line parts bytes goes old new
+abbrev pub StrangersStep : Line → ℕ → ℕ → Stranger → ℕ → ℕ → Type 0
+StrangersStep line parts most (Waits nanoseconds) old new = new ≡ old - nanoseconds
+StrangersStep line parts most (Sends bytes goes) old new = SentToStranger line parts most bytes goes old new
 
-abbrev pub StrangersRun : Line → ℕ → ℕ → List Stranger → ℕ → Type 0
-StrangersRun line parts old [] new = new ≡ old
-StrangersRun line parts old (event ∷ events) new = (next : ℕ) × StrangersStep line parts event old next × StrangersRun line parts next events new
+abbrev pub StrangersRun : Line → ℕ → ℕ → ℕ → List Stranger → ℕ → Type 0
+StrangersRun line parts most old [] new = new ≡ old
+StrangersRun line parts most old (event ∷ events) new = (next : ℕ) × StrangersStep line parts most event old next × StrangersRun line parts most next events new
 
 abbrev pub waited : List Stranger → ℕ
 waited [] = 0

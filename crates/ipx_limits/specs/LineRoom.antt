@@ -149,15 +149,19 @@ own_after now line bytes = record (line_after now line bytes) { own = owed now o
 abbrev pub stranger_cost : Line → ℕ → ℕ
 stranger_cost line bytes = stranger_parts * own_cost line bytes
 
+-- of which so much may be used at once, or a short packet: by a narrow line somebody may register, and another of his house at once
+abbrev pub most_of_stranger : Line → ℕ
+most_of_stranger line = max own_at_once (stranger_cost line line_short)
+
 abbrev pub lets_stranger : ℕ → Line → ℕ → Bool
 lets_stranger now line address =
-    nat_le (ahead now line.to_strangers) own_at_once && nat_le (ahead now address) own_at_once && nat_le (ahead now line.used) (most_room line)
+    nat_le (ahead now line.to_strangers) own_at_once && nat_le (ahead now address) (most_of_stranger line) && nat_le (ahead now line.used) (most_room line)
 
 abbrev pub strangers_owed : ℕ → Line → Line
 strangers_owed now line = record line { to_strangers = owed now own_at_once (own_cost line line_longest) line.to_strangers }
 
 abbrev pub stranger_owed : ℕ → Line → ℕ → ℕ
-stranger_owed now line address = owed now own_at_once (stranger_cost line line_longest) address
+stranger_owed now line address = owed now (most_of_stranger line) (stranger_cost line line_longest) address
 
 abbrev pub stranger_after : ℕ → Line → ℕ → Line
 stranger_after now line bytes = record (line_after now line bytes) { to_strangers = taken now true (own_cost line bytes) line.to_strangers }

@@ -18,7 +18,7 @@ ghost use Rattle.ipx_limits.specs.declared.queues.Queues.{Queues};
 ghost use Rattle.ipx_limits.specs.declared.rank.Rank.{Rank};
 ghost use Rattle.ipx_limits.specs.declared.rank.Rank.TheVariants.{Little, Within};
 ghost use Rattle.ipx_limits.specs.LineParts.{ahead, from_now, longest, pair_cost, said_cost, most_within};
-ghost use Rattle.ipx_limits.specs.LineRoom.{place_of, speaks_to_itself, rank_of, most_room, room_of, room_for, has_room, most_used, is_little, is_of_part, LineSent, own_cost, own_after, lets_stranger, stranger_after};
+ghost use Rattle.ipx_limits.specs.LineRoom.{place_of, speaks_to_itself, rank_of, most_room, room_of, room_for, has_room, most_used, is_little, is_of_part, LineSent, own_cost, own_after, most_of_stranger, lets_stranger, stranger_after};
 ghost use Rattle.ipx_limits.specs.LineLaws.{Busy, quiet, busy_then, Event as OnLine, Runs as LineRuns, elapsed as time_on_line, copied, own_fill, fill_by, room_behind, HasParts, IsWide, Saying, SayingRuns, said_fill, Stranger, StrangersRun, waited, sent as sent_on_line};
 ghost use Rattle.ipx_limits.specs.declared.uses.Address.{Address};
 ghost use Rattle.ipx_limits.specs.declared.uses.Client.{Client};
@@ -234,7 +234,7 @@ pub fn sent_takes_its_part()
         ≡ (if is_of_part rank then ahead now (get_or to.within (place_of number) 0) + pair_cost old to bytes else ahead now (get_or to.within (place_of number) 0)) }
     ensures own { (now bytes : ℕ) (line : Line) → now + most_used line < 2 ^ 64 → ahead now (own_after now line bytes).used ≡ busy_then line bytes (ahead now line.used) }
     ensures strangers { (now bytes address : ℕ) (line : Line) → lets_stranger now line address ≡ true → now + (ahead now line.to_strangers + own_cost line bytes) < 2 ^ 64
-        → (nat_le (ahead now line.to_strangers) own_at_once ≡ true) × (nat_le (ahead now address) own_at_once ≡ true)
+        → (nat_le (ahead now line.to_strangers) own_at_once ≡ true) × (nat_le (ahead now address) (most_of_stranger line) ≡ true)
         × (ahead now (stranger_after now line bytes).to_strangers ≡ ahead now line.to_strangers + own_cost line bytes) }
 {}
 
@@ -248,8 +248,8 @@ pub fn line_is_bound()
 /// Those who are no clients get no more in any time than their part of a narrow line, and what it may have at once; nor does one address of them
 /// than its part of that.
 pub fn strangers_have_a_part()
-    ensures { (line : Line) (parts old new : ℕ) (events : List Stranger) → StrangersRun line parts old events new → old ≤ own_at_once
-        → parts * sent_on_line line events ≤ waited events + own_at_once + parts * longest line }
+    ensures { (line : Line) (parts most old new : ℕ) (events : List Stranger) → StrangersRun line parts most old events new → old ≤ most
+        → parts * sent_on_line line events ≤ waited events + most + parts * longest line }
 {}
 
 /// On a narrow line copies of a rank, and those that come first, don't wait for others: as long as these alone, with the gateway's own

@@ -13,7 +13,7 @@ const HEADERS: u64 = 46;
 
 pub(crate) const LONGEST: usize = 1500;
 
-const SHORT: usize = 154;
+pub(crate) const SHORT: usize = 154;
 
 /// Nanoseconds that a byte takes by a line of one kilobit a second; of a line so many tenths are used.
 const BYTE_BY_KILOBIT: u64 = 8_000_000;

@@ -1,11 +1,11 @@
 //! Which copies find room on a narrow line.
 ghost use Rattle.std.specs.Prelude.{◌≡◌, ◌≤◌, ◌^◌, true};
 ghost use Rattle.ipx_limits.specs.LineParts.{owed};
-ghost use Rattle.ipx_limits.specs.LineRoom.{place_of, use_at, is_alone, speaks_to_itself, is_within, has_part, says_little, rank_of, most_room, room_of, address_owed, LineAsked, most_used, line_after, LineSent, lets_beyond, taken, is_little, is_of_part, is_spoken, is_received, own_cost, lets_own, own_after, stranger_cost, lets_stranger, strangers_owed, stranger_owed, stranger_after};
+ghost use Rattle.ipx_limits.specs.LineRoom.{place_of, use_at, is_alone, speaks_to_itself, is_within, has_part, says_little, rank_of, most_room, room_of, address_owed, LineAsked, most_used, line_after, LineSent, lets_beyond, taken, is_little, is_of_part, is_spoken, is_received, own_cost, lets_own, own_after, stranger_cost, most_of_stranger, lets_stranger, strangers_owed, stranger_owed, stranger_after};
 
 use crate::limits::SECOND;
 use crate::line::{Line, LineAddress};
-use crate::line_parts::{LONGEST, MILLISECOND, ahead, from_now, owed, times};
+use crate::line_parts::{LONGEST, MILLISECOND, SHORT, ahead, from_now, owed, times};
 use crate::rank::Rank;
 
 /// For how long the line may be busy when a copy goes out, by its rank.
@@ -130,10 +130,15 @@ impl Line {
         ensures line { self.new ≡ strangers_owed now self.old }
         ensures address { address.new ≡ stranger_owed now self.old address.old }
     {
-        *address = owed(now, SECOND, self.stranger_cost(LONGEST), *address);
+        *address = owed(
+            now,
+            self.most_of_stranger(),
+            self.stranger_cost(LONGEST),
+            *address,
+        );
         self.to_strangers = owed(now, SECOND, self.own_cost(LONGEST), self.to_strangers);
         ahead(now, self.to_strangers) <= SECOND
-            && ahead(now, *address) <= SECOND
+            && ahead(now, *address) <= self.most_of_stranger()
             && ahead(now, self.used) <= self.most_room()
     }
 
@@ -162,6 +167,14 @@ impl Line {
     {
         let busy = ahead(now, self.used).saturating_add(self.cost(bytes));
         self.used = from_now(now, busy.min(self.most_used()));
+    }
+
+    /// How much one address may use at once of what goes to strangers.
+    fn most_of_stranger(&self) -> u64
+        ensures value { result ≡ most_of_stranger self.now }
+        ensures most { result ≤ 2 ^ 61 }
+    {
+        SECOND.max(self.stranger_cost(SHORT))
     }
 
     fn most_room(&self) -> u64
