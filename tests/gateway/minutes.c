@@ -12,7 +12,7 @@
  *     minutes silent             60 silent clients of one address, which came first, and four players by a line of 1 Mbit/s, with pings
  *     minutes crowds             three addresses with 20 silent clients each flood five players by a line of 1 Mbit/s
  *     minutes itself             two addresses with a client each flood a third, and themselves, by a line of 1 Mbit/s
- *     minutes answers            somebody floods four players with answers to pings by a line of 1 Mbit/s, beside a PC of QEMU
+ *     minutes pings              somebody floods four players with answers to pings by a line of 1 Mbit/s, beside a PC of QEMU
  *     minutes numbers            126 addresses speak to four players by a line once, and then those who got the players' numbers flood
  *     minutes router             clients and a link say to the router what it limits: for ten minutes it hears as much as it is to
  *     minutes links              eleven links tell the router as much as each may, for a minute: it hears no more than of one, and a twelfth
@@ -517,7 +517,7 @@ static void itself(void)
 }
 
 /* A PC of QEMU says something to four players, whom somebody floods with what looks like answers to pings. */
-static void answers(void)
+static void pings_by_line(void)
 {
     enum { ALL = 5, GAME = 10, LONG = 1400, KILOBITS = 1000, LASTS = 2 * MINUTE };
     uint64_t said = 0, lost = 0;
@@ -892,7 +892,7 @@ static const struct {
     void (*does)(void);
 } WORDS_ALONE[] = {
     {"once", once}, {"two", two}, {"address", of_address}, {"narrow", narrow}, {"silent", silent}, {"crowds", crowds},
-    {"itself", itself}, {"answers", answers}, {"numbers", numbers},
+    {"itself", itself}, {"pings", pings_by_line}, {"numbers", numbers},
     {"router", router}, {"links", links}, {"accounts", accounts}, {"none", none}, {"gateway", gateway},
 };
 

@@ -42,7 +42,7 @@ TESTS = (
     named("for two minutes three addresses with 20 silent clients each flood a line of 1 Mbit/s: five players within their parts lose nothing",
           plays, "crowds"),
     named("for two minutes two addresses flood a line of 1 Mbit/s, and themselves: a player within his parts loses nothing", plays, "itself"),
-    named("for two minutes answers to pings flood a line of 1 Mbit/s: a PC of QEMU is heard", plays, "answers"),
+    named("for two minutes answers to pings flood a line of 1 Mbit/s: a PC of QEMU is heard", plays, "pings"),
     named("of 130 addresses that spoke to a line those who speak on have numbers of their own again: four players lose nothing", plays,
           "numbers"),
     named("for ten minutes clients and a link ask the router, and tell it, more than it hears", plays, "router"),
