@@ -2,7 +2,7 @@
 use Rattle.std.proofs.Common.{◌≡◌, refl, ap, arith, ℕ, ◌+◌, ◌-◌, ◌*◌, ◌/◌, ◌<◌, ◌≤◌, ◌⊎◌, inl, inr, min, max, Bool, true, false, if◌then◌else◌, List, [], ◌∷◌}
 use Rattle.std.proofs.Math.Nat.{div-mul-le_self, mul-le-mul_left}
 use Rattle.std.proofs.lemmas.Nat.{le-div}
-use Rattle.std.proofs.lemmas.Bool.{leb-true, le-leb}
+use Rattle.std.proofs.lemmas.Bool.{both_ways, leb-true, le-leb}
 use Rattle.ipx_limits.specs.declared.line.Line.{Line}
 use Rattle.ipx_limits.specs.declared.line_room.LineUse.{LineUse}
 use Rattle.ipx_limits.specs.declared.rank.Rank.{Rank}
@@ -162,3 +162,31 @@ module _ (line : Line) (speak_to : List ℕ) (rank : Rank) where
       → used.line ≡ new.line → room_behind rank + longest line + fill_by line rank 0 events ≤ room_of line rank → has_room line rank used ≡ true
   first_heard new speak events used run same fits =
       le-leb used.line (room_of line rank) (omega (arith, same, fits, busy_by (quiet speak speak_to) new events 0 run (omega arith)))
+
+-- ---- and finds more room
+
+most_of_all : (line : Line) (rank : Rank) → room_of line rank ≤ most_room line
+most_of_all line Beyond = omega arith
+most_of_all line OfAddress = omega arith
+most_of_all line OfSpeaker = omega arith
+most_of_all line Little = omega arith
+most_of_all line Within = omega arith
+
+pub more_room : (line : Line) (rank other : Rank) → comes_first rank other ≡ true → room_of line other ≤ room_of line rank
+more_room line Beyond Beyond e = omega arith
+more_room line Beyond OfAddress e = absurd (both_ways false refl e)
+more_room line Beyond OfSpeaker e = absurd (both_ways false refl e)
+more_room line Beyond Little e = absurd (both_ways false refl e)
+more_room line Beyond Within e = absurd (both_ways false refl e)
+more_room line OfAddress Beyond e = omega arith
+more_room line OfAddress OfAddress e = omega arith
+more_room line OfAddress OfSpeaker e = absurd (both_ways false refl e)
+more_room line OfAddress Little e = absurd (both_ways false refl e)
+more_room line OfAddress Within e = absurd (both_ways false refl e)
+more_room line OfSpeaker Beyond e = omega arith
+more_room line OfSpeaker OfAddress e = omega arith
+more_room line OfSpeaker OfSpeaker e = omega arith
+more_room line OfSpeaker Little e = absurd (both_ways false refl e)
+more_room line OfSpeaker Within e = absurd (both_ways false refl e)
+more_room line Little other e = most_of_all line other
+more_room line Within other e = most_of_all line other

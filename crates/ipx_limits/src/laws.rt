@@ -19,7 +19,7 @@ ghost use Rattle.ipx_limits.specs.declared.rank.Rank.{Rank};
 ghost use Rattle.ipx_limits.specs.declared.rank.Rank.TheVariants.{Little, Within};
 ghost use Rattle.ipx_limits.specs.LineParts.{ahead, from_now, longest, pair_cost, said_cost, most_within};
 ghost use Rattle.ipx_limits.specs.LineRoom.{place_of, speaks_to_itself, rank_of, most_room, room_of, room_for, has_room, most_used, is_little, is_of_part, LineSent, own_cost, own_after, most_of_stranger, lets_stranger, stranger_after};
-ghost use Rattle.ipx_limits.specs.LineLaws.{Busy, quiet, busy_then, Event as OnLine, Runs as LineRuns, elapsed as time_on_line, copied, own_fill, fill_by, room_behind, HasParts, IsWide, Saying, SayingRuns, said_fill, Stranger, StrangersRun, waited, sent as sent_on_line};
+ghost use Rattle.ipx_limits.specs.LineLaws.{Busy, quiet, busy_then, Event as OnLine, Runs as LineRuns, elapsed as time_on_line, copied, own_fill, fill_by, comes_first, room_behind, HasParts, IsWide, Saying, SayingRuns, said_fill, Stranger, StrangersRun, waited, sent as sent_on_line};
 ghost use Rattle.ipx_limits.specs.declared.uses.Address.{Address};
 ghost use Rattle.ipx_limits.specs.declared.uses.Client.{Client};
 ghost use Rattle.ipx_limits.specs.Queues.{users_of, Taken, speakers};
@@ -213,13 +213,19 @@ pub fn newcomer_is_answered()
         → all.used + registration * (strangers_at rate).all.each ≤ (strangers_at rate).all.burst → decision ≡ Passes }
 {}
 
+/// A rank that comes first finds room wherever one behind it does.
+pub fn better_finds_more_room()
+    ensures { (line : Line) (rank other : Rank) → comes_first rank other ≡ true → room_of line other ≤ room_of line rank }
+{}
+
 /// What a narrow line keeps are moments: as long as a clock doesn't reach its end, what is used ends when it should.
 pub fn moments_last()
     ensures later { (now moment nanoseconds : ℕ) → ahead (now + nanoseconds) moment ≡ ahead now moment - nanoseconds }
     ensures set { (now nanoseconds : ℕ) → now + nanoseconds < 2 ^ 64 → ahead now (from_now now nanoseconds) ≡ nanoseconds }
 {}
 
-/// What goes out by a narrow line takes its part of what is used then, and nothing else: so the steps of which these laws speak are the calls'.
+/// What goes out by a narrow line takes of it, and of the part of its rank, what the steps say of which these laws speak. (what it leaves of all
+/// other parts is in the calls' contracts)
 pub fn sent_takes_its_part()
     ensures line { (now number bytes : ℕ) (rank : Rank) (old new : Line) (said said_then : ℕ) (to to_then : LineAddress)
         → LineSent now number bytes rank old new said said_then to to_then → now + most_used old < 2 ^ 64
