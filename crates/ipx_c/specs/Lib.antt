@@ -31,6 +31,7 @@ pub mod PlanValues
 pub mod Plans
 -- the lines of a configuration: structs and numbers
 pub mod SettingsValues
+pub mod ConfigurationValues
 -- a gateway's limits: numbers
 pub mod LimitValues
 pub mod CableValues

@@ -30,6 +30,7 @@
 pub mod cable;
 mod cell;
 mod code;
+pub mod configuration;
 mod events;
 mod extending;
 mod fair;

@@ -29,5 +29,5 @@ pub use crate::link::{End, Frames, Link, LinkBegun};
 pub use crate::network::{Head, NetworkBegun, Shares};
 pub use crate::nodes::node_bytes;
 pub use crate::numbers::hexadecimal;
-pub use crate::reading::{Reading, word_of};
+pub use crate::reading::{Reading, word, word_of};
 pub use crate::words::Span;

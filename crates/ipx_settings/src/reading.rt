@@ -61,6 +61,17 @@ pub fn word_of(text: &[u8], number: usize) -> Option<Span>
     word_at(before_mark(text), number)
 }
 
+/// The word of a line with that number, from 0.
+pub fn word(text: &[u8], number: usize) -> Option<&[u8]>
+    ensures { option_map (λ found. found.now) result ≡ slice_get (words (before_mark text.now)) number }
+{
+    let said = before_mark(text);
+    match word_at(said, number) {
+        Some(span) => Some(word_in(said, span)),
+        None => None,
+    }
+}
+
 fn read_words(text: &[u8], context: Context) -> Reading
     ensures { result ≡ read_from context Nothing 0 (words text.now) }
 {

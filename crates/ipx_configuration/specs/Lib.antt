@@ -1,0 +1,12 @@
+-- single links
+pub mod Endpoints
+pub mod Carriers
+pub mod Said
+pub mod Clashes
+-- what lines say of them
+pub mod Lines
+pub mod Extends
+-- all networks and links
+pub mod Memory
+pub mod Configurations
+pub mod Configured

@@ -1,0 +1,466 @@
+//! A configuration, line by line.
+ghost use Rattle.std.specs.Prelude.{◌≡◌};
+ghost use Rattle.std.specs.List.{position};
+ghost use Rattle.ipx_configuration.specs.Said.{new_link};
+ghost use Rattle.ipx_configuration.specs.Configurations.{unlinked, is_below_tunnel, head_or_none, names_link, network_of, has_number, number_fault, more_links, network_fault, add_network, after_network, link_line_fault, add_link, link_line, extended, link_extended, tunnel_fault, below_network, below_link, taken_below, taken, told, after};
+
+use crate::carrier::{Carrier, TUNNEL};
+use crate::clash::{carrier_in, line_fault, link_fault};
+use crate::fault::Fault;
+use crate::lines::link_taken;
+use crate::memory::{LinkList, MOST_LINKS, MOST_NETWORKS, NetworkList};
+use crate::said::{ClientsSaid, LinkSetting, NetworkSetting, NumberSaid, Ranges, RateSaid, Sockets};
+use crate::sockets::network_taken;
+use ipx_settings::{Context, Expected, Head, Line, LinkBegun, NetworkBegun, Reading};
+
+/// What a line stands below: nothing,
+const NOTHING: u8 = 0;
+
+/// a network that has no link yet,
+const NETWORK: u8 = 1;
+
+/// a link,
+const LINK: u8 = 2;
+
+/// a link that is wrong: only another link is looked at there,
+const WRONG_LINK: u8 = 3;
+
+/// or a network that is wrong: only another network is.
+const WRONG_NETWORK: u8 = 4;
+
+/// What a configuration depends on but for its lines.
+///
+/// See the example of [`Configuration`].
+#[derive(Clone, Copy, Debug, PartialEq, Eq)]
+pub struct Capacity {
+    /// This system has TAPs and interfaces.
+    pub has_cards: bool,
+    /// The most networks, of which a configuration has room for 32.
+    pub networks: usize,
+    /// The most links of a network, of which it has room for 64 together.
+    pub links: usize,
+    /// The most clients of a network.
+    pub clients: u16,
+    /// The shares of the tables that a network with a tunnel has where its line doesn't say them.
+    pub routes: u16,
+    pub services: u16,
+}
+
+/// What came of a line.
+///
+/// See the example of [`Configuration`].
+#[derive(Clone, Copy)]
+pub struct Told {
+    /// What its words say, up to the first that is wrong.
+    pub reading: Reading,
+    /// The line of the network above, which ends here and has no link.
+    pub unlinked: Option<usize>,
+    /// What is wrong with it.
+    pub fault: Option<Fault>,
+}
+
+/// What the lines of a configuration say so far. All bytes 0 are that of no line.
+#[repr(C)]
+#[derive(Clone, Copy)]
+pub struct Configuration {
+    pub networks: NetworkList,
+    pub links: LinkList,
+    /// What the next line stands below.
+    pub above: u8,
+}
+
+/// All that stands before a network's link; 0 where it wasn't read.
+fn head_or_none(begun: NetworkBegun) -> Head
+    ensures { result ≡ head_or_none begun }
+{
+    begun.head().unwrap_or(Head {
+        number: 0,
+        cost: 0,
+        longest: 0,
+        shares: None,
+    })
+}
+
+/// Whether the line of a network goes on with a link, right or wrong.
+fn names_link(begun: NetworkBegun, own: Option<Expected>) -> bool
+    ensures { result ≡ names_link begun own }
+{
+    match begun.link() {
+        LinkBegun::Nothing => match own {
+            Some(Expected::Link) => true,
+            Some(Expected::LinkOfSystem) => true,
+            _ => false,
+        },
+        _ => true,
+    }
+}
+
+fn has_number(number: u32, network: NetworkSetting) -> bool
+    ensures { result ≡ has_number number network }
+{
+    network.has_link && network.number == number
+}
+
+fn number_place(number: u32, networks: &[NetworkSetting]) -> Option<usize>
+    ensures { result ≡ position (has_number number) networks.now }
+{
+    networks
+        .iter()
+        .position(|network| has_number(number, *network))
+}
+
+/// What was expected where another network has the number.
+fn number_fault(number: Option<u32>, networks: &[NetworkSetting]) -> Option<Fault>
+    ensures { result ≡ number_fault number networks.now }
+{
+    match number {
+        Some(number) => match number_place(number, networks) {
+            Some(place) => match networks.get(place) {
+                Some(network) => Some(Fault::OtherNetwork(network.line)),
+                None => None,
+            },
+            None => None,
+        },
+        None => None,
+    }
+}
+
+/// What is wrong with one more link.
+fn more_links(
+    begun: LinkBegun,
+    longest: u16,
+    links: &LinkList,
+    own: Option<Expected>,
+) -> Option<Fault>
+    ensures { result ≡ more_links begun longest links.now own }
+{
+    if links.count >= MOST_LINKS {
+        return Some(Fault::ManyLinks);
+    }
+    link_fault(begun, longest, links.listed(), own)
+}
+
+/// A network, as its line says it.
+fn network_of(
+    line: usize,
+    first: usize,
+    begun: NetworkBegun,
+    is_of_several: bool,
+) -> NetworkSetting
+    ensures { result ≡ network_of line first begun is_of_several }
+{
+    let head = head_or_none(begun);
+    let (routes, services) = match head.shares {
+        Some(shares) => (shares.routes, shares.services),
+        None => (0, 0),
+    };
+    NetworkSetting {
+        line,
+        first,
+        has_link: !is_of_several,
+        number: head.number,
+        cost: head.cost,
+        longest: head.longest,
+        has_shares: head.shares.is_some(),
+        routes,
+        services,
+        is_of_several,
+        has_node: begun.node().is_some(),
+        node: begun.node().unwrap_or([0; 6]),
+        sockets: Sockets::none(),
+    }
+}
+
+fn new_link(line: usize, network: usize, carrier: Carrier) -> LinkSetting
+    ensures { result ≡ new_link line network carrier }
+{
+    LinkSetting {
+        line,
+        network,
+        carrier,
+        clients: ClientsSaid {
+            line: 0,
+            all: 0,
+            of_address: 0,
+        },
+        rate: RateSaid {
+            line: 0,
+            rate: 0,
+            share: 0,
+            household: 0,
+        },
+        strangers: NumberSaid { line: 0, number: 0 },
+        kilobits: NumberSaid { line: 0, number: 0 },
+        allowed: Ranges::none(),
+        trusted: Ranges::none(),
+    }
+}
+
+impl Configuration {
+    /// Whether a line here stands below a tunnel.
+    pub fn is_below_tunnel(&self) -> bool
+        ensures { result ≡ is_below_tunnel self.now }
+    {
+        match self.links.last() {
+            Some(link) => self.above == LINK && link.carrier.number == TUNNEL,
+            None => false,
+        }
+    }
+
+    /// The line of the last network, if it ends here without a link.
+    pub fn unlinked(&self) -> Option<usize>
+        ensures { result ≡ unlinked self.now }
+    {
+        match self.networks.last() {
+            Some(network) if self.above == NETWORK => Some(network.line),
+            _ => None,
+        }
+    }
+
+    fn network_fault(
+        &self,
+        capacity: Capacity,
+        begun: NetworkBegun,
+        own: Option<Expected>,
+    ) -> Option<Fault>
+        ensures { result ≡ network_fault capacity begun own self.now }
+    {
+        if self.networks.count >= capacity.networks || self.networks.count >= MOST_NETWORKS {
+            return Some(Fault::ManyNetworks);
+        }
+        let other = number_fault(begun.number(), self.networks.listed());
+        if other.is_some() {
+            return other;
+        }
+        if names_link(begun, own) {
+            more_links(begun.link(), head_or_none(begun).longest, &self.links, own)
+        } else {
+            line_fault(own)
+        }
+    }
+
+    /// A network more, with its link if its line names one.
+    fn add_network(&mut self, line: usize, begun: NetworkBegun, own: Option<Expected>)
+        ensures { self.new ≡ add_network line begun own self.old }
+    {
+        let is_of_several = !names_link(begun, own);
+        let number = self.networks.count;
+        let network = network_of(line, self.links.count, begun, is_of_several);
+        self.networks.put(network);
+        match carrier_in(begun.link()) {
+            Some(carrier) => {
+                self.links.put(new_link(line, number, carrier));
+            }
+            None => {}
+        }
+        self.above = if is_of_several { NETWORK } else { LINK };
+    }
+
+    fn take_network(
+        &mut self,
+        capacity: Capacity,
+        line: usize,
+        begun: NetworkBegun,
+        own: Option<Expected>,
+    ) -> Option<Fault>
+        ensures fault { result ≡ network_fault capacity begun own self.old }
+        ensures after { self.new ≡ after_network capacity line begun own self.old }
+    {
+        let fault = self.network_fault(capacity, begun, own);
+        if fault.is_some() {
+            self.above = WRONG_NETWORK;
+        } else {
+            self.add_network(line, begun, own);
+        }
+        fault
+    }
+
+    fn link_line_fault(
+        &self,
+        capacity: Capacity,
+        begun: LinkBegun,
+        own: Option<Expected>,
+    ) -> Option<Fault>
+        ensures { result ≡ link_line_fault capacity begun own self.now }
+    {
+        match self.networks.last() {
+            Some(network) => {
+                if !network.is_of_several {
+                    return Some(Fault::LinkBelow);
+                }
+                if self.links.count.saturating_sub(network.first) >= capacity.links {
+                    return Some(Fault::ManyLinksOfNetwork);
+                }
+                more_links(begun, network.longest, &self.links, own)
+            }
+            None => Some(Fault::LinkBelow),
+        }
+    }
+
+    /// A link more of the last network.
+    fn add_link(&mut self, line: usize, begun: LinkBegun)
+        ensures { self.new ≡ add_link line begun self.old }
+    {
+        let number = self.networks.count.saturating_sub(1);
+        match self.networks.last() {
+            Some(network) => {
+                let mut linked = network;
+                linked.has_link = true;
+                self.networks.put_last(linked);
+            }
+            None => {}
+        }
+        match carrier_in(begun) {
+            Some(carrier) => {
+                self.links.put(new_link(line, number, carrier));
+            }
+            None => {}
+        }
+        self.above = LINK;
+    }
+
+    fn take_link(
+        &mut self,
+        capacity: Capacity,
+        line: usize,
+        begun: LinkBegun,
+        own: Option<Expected>,
+    ) -> Option<Fault>
+        ensures fault { result ≡ (link_line capacity line begun own self.old).1 }
+        ensures after { self.new ≡ (link_line capacity line begun own self.old).0 }
+    {
+        if self.above >= WRONG_NETWORK {
+            return None;
+        }
+        let fault = self.link_line_fault(capacity, begun, own);
+        if fault.is_some() {
+            self.above = WRONG_LINK;
+        } else {
+            self.add_link(line, begun);
+        }
+        fault
+    }
+
+    /// Takes what a line `extend` says of the last network.
+    fn extend(&mut self, text: &[u8], read: usize, own: Option<Expected>) -> Option<Fault>
+        ensures fault { result ≡ (extended text.now read own self.old).1 }
+        ensures after { self.new ≡ (extended text.now read own self.old).0 }
+    {
+        match self.networks.last() {
+            Some(network) => {
+                let (taken, fault) = network_taken(network, text, read, own);
+                self.networks.put_last(taken);
+                fault
+            }
+            None => None,
+        }
+    }
+
+    /// Takes what a line says of the last link.
+    fn take_of_link(&mut self, line: usize, text: &[u8], reading: Reading) -> Option<Fault>
+        ensures fault { result ≡ (link_extended line text.now reading self.old).1 }
+        ensures after { self.new ≡ (link_extended line text.now reading self.old).0 }
+    {
+        match self.links.last() {
+            Some(link) => {
+                let (taken, fault) = link_taken(line, text, reading, self.links.listed(), link);
+                self.links.put_last(taken);
+                fault
+            }
+            None => None,
+        }
+    }
+
+    /// What was expected where no tunnel is above.
+    fn tunnel_fault(&self) -> Fault
+        ensures { result ≡ tunnel_fault self.now }
+    {
+        match self.networks.last() {
+            Some(network) if network.is_of_several => Fault::BelowTunnelLink,
+            _ => Fault::BelowTunnel,
+        }
+    }
+
+    fn take_below_network(&mut self, text: &[u8], reading: Reading) -> Option<Fault>
+        ensures fault { result ≡ (below_network text.now reading self.old).1 }
+        ensures after { self.new ≡ (below_network text.now reading self.old).0 }
+    {
+        match reading.line {
+            Line::Extend(_) => self.extend(text, reading.read, reading.fault),
+            Line::Rate(_) => Some(Fault::BelowLink),
+            _ => Some(Fault::BelowTunnelLink),
+        }
+    }
+
+    fn take_below_link(&mut self, line: usize, text: &[u8], reading: Reading) -> Option<Fault>
+        ensures fault { result ≡ (below_link line text.now reading self.old).1 }
+        ensures after { self.new ≡ (below_link line text.now reading self.old).0 }
+    {
+        match reading.line {
+            Line::Extend(_) => self.extend(text, reading.read, reading.fault),
+            Line::Rate(_) => self.take_of_link(line, text, reading),
+            _ => {
+                if self.is_below_tunnel() {
+                    self.take_of_link(line, text, reading)
+                } else {
+                    Some(self.tunnel_fault())
+                }
+            }
+        }
+    }
+
+    /// Takes a line that is neither a network's nor a link's.
+    fn take_below(&mut self, line: usize, text: &[u8], reading: Reading) -> Option<Fault>
+        ensures fault { result ≡ (taken_below line text.now reading self.old).1 }
+        ensures after { self.new ≡ (taken_below line text.now reading self.old).0 }
+    {
+        match self.above {
+            NOTHING => Some(Fault::BelowNetwork),
+            NETWORK => self.take_below_network(text, reading),
+            LINK => self.take_below_link(line, text, reading),
+            _ => None,
+        }
+    }
+
+    /// Takes what a line says.
+    fn take(
+        &mut self,
+        capacity: Capacity,
+        line: usize,
+        text: &[u8],
+        reading: Reading,
+    ) -> Option<Fault>
+        ensures fault { result ≡ (taken capacity line text.now reading self.old).1 }
+        ensures after { self.new ≡ (taken capacity line text.now reading self.old).0 }
+    {
+        match reading.line {
+            Line::Nothing => line_fault(reading.fault),
+            Line::Network(begun) => self.take_network(capacity, line, begun, reading.fault),
+            Line::Link(begun) => self.take_link(capacity, line, begun, reading.fault),
+            _ => self.take_below(line, text, reading),
+        }
+    }
+
+    /// Reads the next line, whose number that is, from 1.
+    pub fn line(&mut self, capacity: Capacity, line: usize, text: &[u8]) -> Told
+        ensures told { result ≡ told capacity line text.now self.old }
+        ensures after { self.new ≡ after capacity line text.now self.old }
+    {
+        let context = Context {
+            has_cards: capacity.has_cards,
+            is_below_tunnel: self.is_below_tunnel(),
+            most_clients: capacity.clients,
+        };
+        let reading = Reading::of(text, context);
+        let unlinked = match reading.line {
+            Line::Network(_) => self.unlinked(),
+            _ => None,
+        };
+        let fault = self.take(capacity, line, text, reading);
+        Told {
+            reading,
+            unlinked,
+            fault,
+        }
+    }
+}
