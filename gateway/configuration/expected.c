@@ -1,5 +1,6 @@
 /* What was expected where a line is wrong, as it is told. */
 #include "configuration/reader.h"
+#include "configuration/words.h"
 #include "ipx.h"
 #include "systems/card.h"
 
@@ -25,9 +26,15 @@ static const char *const TOLD[] = {
     [IPXR_EXPECTED_SOCKET] = "expected a socket in hexadecimal digits, 1 to FFFF",
     [IPXR_EXPECTED_RANGE] = "expected a numeric address and the bits that count, such as 192.168.1.0/24, or an address alone",
     [IPXR_EXPECTED_FEWER_WORDS] = "expected at most 32 words",
+    [IPXR_EXPECTED_BELOW_NETWORK] = "expected below the line of a network",
+    [IPXR_EXPECTED_BELOW_LINK] = "expected below the line of a link",
+    [IPXR_EXPECTED_BELOW_TUNNEL] = "expected below the line of a network of dosbox",
+    [IPXR_EXPECTED_BELOW_TUNNEL_LINK] = "expected below the line of a link of dosbox",
+    [IPXR_EXPECTED_BELOW_SEVERAL] = "expected below the line of a network that names no link itself",
+    [IPXR_EXPECTED_OTHER_SOCKET] = "expected another socket: this one is there already",
 };
 
-const char *link_choices(void)
+static const char *link_choices(void)
 {
     return has_cards() ? "dosbox, qemu-udp, qemu-tcp, tap or interface" : "dosbox, qemu-udp or qemu-tcp";
 }
@@ -35,7 +42,7 @@ const char *link_choices(void)
 /* Who receives what a rate limits: clients of DOSBox, or a link with frames. */
 static const char *receiver_words(const reader *r)
 {
-    return r->is_below_tunnel ? "the packets that a client receives" : "the packets that the link receives from clients";
+    return r->wrong.is_below_tunnel ? "the packets that a client receives" : "the packets that the link receives from clients";
 }
 
 static bool fault_of_rate(reader *r, const char *word, const char *what)
@@ -48,43 +55,119 @@ static bool fault_of_name(reader *r, const char *word, const char *what)
     return reader_fault(r, word, "expected the name of %s, of at most %d bytes, without %% / and :", what, NAME_ROOM - 1);
 }
 
-bool reader_fault_of_word(reader *r)
+/* Tells what is wrong with a line by itself. Returns whether it is that. (a fault that was told is false) */
+static bool tell_line(reader *r, const char *word)
 {
-    const char *word = reader_word(r, r->said.read);
     unsigned long first = r->said.numbers[0];
     switch (r->expected) {
     case IPXR_EXPECTED_LONGEST:
-        return reader_fault(r, word, "expected the bytes of the longest packet, %d to %d", SHORTEST_LONGEST, LONGEST);
+        return !reader_fault(r, word, "expected the bytes of the longest packet, %d to %d", SHORTEST_LONGEST, LONGEST);
     case IPXR_EXPECTED_LINK:
-        return reader_fault(r, word, "expected %s", link_choices());
+        return !reader_fault(r, word, "expected %s", link_choices());
     case IPXR_EXPECTED_LINK_OF_SYSTEM:
-        return reader_fault(r, word, "expected %s: only Linux has TAPs and interfaces", link_choices());
+        return !reader_fault(r, word, "expected %s: only Linux has TAPs and interfaces", link_choices());
     case IPXR_EXPECTED_TAP:
-        return fault_of_name(r, word, "a TAP");
+        return !fault_of_name(r, word, "a TAP");
     case IPXR_EXPECTED_INTERFACE:
-        return fault_of_name(r, word, "an interface");
+        return !fault_of_name(r, word, "an interface");
     case IPXR_EXPECTED_CLIENTS:
-        return reader_fault(r, word, "expected the most clients, 1 to %d", IPXR_MOST_CLIENTS);
+        return !reader_fault(r, word, "expected the most clients, 1 to %d", IPXR_MOST_CLIENTS);
     case IPXR_EXPECTED_OF_ADDRESS:
-        return reader_fault(r, word, "expected the most clients from one address, 1 to %lu", first);
+        return !reader_fault(r, word, "expected the most clients from one address, 1 to %lu", first);
     case IPXR_EXPECTED_RATE:
-        return fault_of_rate(r, word, receiver_words(r));
+        return !fault_of_rate(r, word, receiver_words(r));
     case IPXR_EXPECTED_SHARE:
-        return reader_fault(r, word, "expected the share of a quiet sender in packets a second, 1 to %lu", first);
+        return !reader_fault(r, word, "expected the share of a quiet sender in packets a second, 1 to %lu", first);
     case IPXR_EXPECTED_HOUSEHOLD:
-        return fault_of_rate(r, word, "the packets that all clients of an address receive");
+        return !fault_of_rate(r, word, "the packets that all clients of an address receive");
     case IPXR_EXPECTED_STRANGERS:
-        return fault_of_rate(r, word, "the datagrams for strangers");
+        return !fault_of_rate(r, word, "the datagrams for strangers");
     case IPXR_EXPECTED_KILOBITS:
-        return reader_fault(r, word, "expected the kilobits a second of the line to the clients, 1 to %d", MOST_KILOBITS);
+        return !reader_fault(r, word, "expected the kilobits a second of the line to the clients, 1 to %d", MOST_KILOBITS);
     case IPXR_EXPECTED_FIRST:
-        return reader_fault(r, word, "expected an address that is 0 behind its %d bits", r->said.bits);
+        return !reader_fault(r, word, "expected an address that is 0 behind its %d bits", r->said.bits);
     default:
-        return reader_fault(r, word, "%s", TOLD[r->expected]);
+        return false;
     }
 }
 
-bool reader_is_right(reader *r)
+/* The same of what is too much. */
+static bool tell_too_much(reader *r, const char *word)
 {
-    return r->expected == 0 || reader_fault_of_word(r);
+    switch (r->expected) {
+    case IPXR_EXPECTED_FEWER_NETWORKS:
+        return !reader_fault(r, word, "expected at most %d networks", IPXR_MOST_PORTS);
+    case IPXR_EXPECTED_FEWER_LINKS:
+        return !reader_fault(r, word, "expected at most %d links", MOST_LINKS);
+    case IPXR_EXPECTED_FEWER_LINKS_OF_NETWORK:
+        return !reader_fault(r, word, "expected at most %d links of a network", IPXR_MOST_LINKS);
+    case IPXR_EXPECTED_FEWER_SOCKETS:
+        return !reader_fault(r, word, "expected at most %d sockets", IPXR_ALL_SOCKETS);
+    case IPXR_EXPECTED_FEWER_RANGES:
+        return !reader_fault(r, word, "expected at most %d of them", IPXR_ALL_RANGES);
+    default:
+        return false;
+    }
+}
+
+/* The same of what another line says. */
+static bool tell_other_line(reader *r, const char *word)
+{
+    size_t line = r->wrong.line;
+    switch (r->expected) {
+    case IPXR_EXPECTED_OTHER_NETWORK:
+        return !reader_fault(r, word, "expected another network, this one is that of line %zu", line);
+    case IPXR_EXPECTED_ONCE:
+        return !reader_fault(r, word, "expected only once: line %zu has it", line);
+    case IPXR_EXPECTED_SAME_KILOBITS:
+        return !reader_fault(r, word, "expected %lu, as line %zu says: all networks share one", (unsigned long)r->wrong.numbers[0], line);
+    default:
+        return false;
+    }
+}
+
+/* The same of what is wrong with a link whose words are right: that, and not the word, is shown. */
+static bool tell_link(reader *r)
+{
+    char words[ADDRESS_ROOM], longest[12];
+    const char *kind = kind_word(r->said.link.frames);
+    address local = address_said(&r->said.link.local), remote = address_said(&r->said.link.remote);
+    size_t line = r->wrong.line;
+    switch (r->expected) {
+    case IPXR_EXPECTED_OTHER_LINK:
+        return !reader_fault(r, kind, "expected another link, line %zu has all kinds of frames there", line);
+    case IPXR_EXPECTED_ONE_KIND:
+        return !reader_fault(r, kind, "expected one kind of frames, line %zu has another there", line);
+    case IPXR_EXPECTED_OTHER_KIND:
+        return !reader_fault(r, kind, "expected another kind of frames, line %zu has these there", line);
+    case IPXR_EXPECTED_OTHER_PORT:
+        return !reader_fault(r, address_words(&local, words), "expected another port, line %zu has this one", line);
+    case IPXR_EXPECTED_OTHER_MACHINE:
+        return !reader_fault(r, address_words(&remote, words), "expected QEMU's address, this is the gateway's own");
+    case IPXR_EXPECTED_LONGEST_OF_LINK:
+        snprintf(longest, sizeof longest, "%lu", (unsigned long)r->wrong.numbers[0]);
+        return !reader_fault(r, longest, "expected the bytes of the longest packet, %d to %lu on this link", SHORTEST_LONGEST,
+                             (unsigned long)r->wrong.numbers[1]);
+    default:
+        return false;
+    }
+}
+
+void reader_tell(reader *r)
+{
+    if (r->expected == 0 || tell_link(r))
+        return;
+    const char *word = reader_word(r, r->wrong.word);
+    if (!tell_line(r, word) && !tell_too_much(r, word) && !tell_other_line(r, word))
+        reader_fault(r, word, "%s", TOLD[r->expected]);
+}
+
+void reader_tell_unlinked(reader *r, size_t line)
+{
+    size_t here = r->line;
+    if (line == 0)
+        return;
+    r->line = line;
+    reader_fault(r, NULL, "expected %s, or lines below it that begin with link", link_choices());
+    r->line = here;
 }

@@ -7,7 +7,7 @@
 #include <stdio.h>
 
 #include "configuration/settings.h"
-#include "ipxr_settings.h"
+#include "ipxr_configuration.h"
 
 enum {
     LINE_ROOM = (1 << 16) + 1, /* bytes of a line, and a 0 */
@@ -23,16 +23,11 @@ typedef struct reader {
     size_t bytes;              /* how many were read */
     const char *text;          /* the line, */
     size_t length;
-    ipxr_setting said;            /* what its words say, up to the first that is wrong, */
-    bool is_below_tunnel;      /* (by the links above it) */
+    ipxr_configuration all;    /* what all lines say so far, */
+    ipxr_setting said;         /* what the words of this one say, up to the first that is wrong, */
+    ipxr_line_wrong wrong;     /* what is wrong with it, */
     uint8_t expected;          /* and what was expected there; 0 where nothing is wrong */
     char word[MOST_SHOWN + 2]; /* the word that was asked for last */
-    bool is_network_wrong;     /* the last line of a network was wrong: no line below it is looked at */
-    bool is_below_wrong;       /* that one, or the last line of a link: none is but that of another link */
-    bool has_links_below;      /* the last line of a network names no link: its links stand in lines below it, */
-    network_setting network;   /* with what that line says, and what lines below it say of the network */
-    size_t first;              /* and from this one on among all */
-    settings *into;
 } reader;
 
 /* Reads the next line, with its end, and a 0 behind it. Returns its length: 0 at the end of the file, where it fails, and where it is too
@@ -49,13 +44,13 @@ const char *reader_word(reader *r, size_t number);
 /* Tells what is wrong with a word of this line, or with its end where the word is NULL. Returns false for who says so. */
 bool reader_fault(reader *r, const char *word, const char *format, ...);
 
-/* Whether nothing is wrong with the line's words; else that is told. */
-bool reader_is_right(reader *r);
+/* Tells what is wrong with the line that was read last, if anything is. */
+void reader_tell(reader *r);
 
-/* The words that begin a link on this system. */
-const char *link_choices(void);
+/* Tells that the network of that line has no link, unless the line is 0. */
+void reader_tell_unlinked(reader *r, size_t line);
 
-/* The same of the first word that is wrong, and what was expected there. */
-bool reader_fault_of_word(reader *r);
+/* An address, as a line says it. */
+address address_said(const ipxr_setting_host *said);
 
 #endif

@@ -17,8 +17,6 @@
 enum {
     MOST_RATE = 1000000, /* that a line may say */
     MOST_KILOBITS = 10000000, /* alike: ten gigabits */
-    USUAL_SHARE = 50,    /* packets a second of who says little, where no line says it: games say some 35 */
-    USUAL_HOUSEHOLD = 16, /* times the rate: what all clients of an address receive where no line says it */
     MOST_SOCKETS = 16, /* that a network's `extend` may name */
     SHORTEST_LONGEST = 576, /* bytes that the longest packet of a network has at least */
     NAME_ROOM = 16,    /* bytes of the name of a TAP or an interface, with the 0 behind */
@@ -37,14 +35,11 @@ typedef enum {
 
 /* A network on a link, as its line says it. Where links stand in lines below it, each of them is one, with what its network's line says. */
 typedef struct network_setting {
-    size_t line;               /* the number of the line that names the link, for messages; */
-    size_t network_line;       /* and of the one that names the network */
     bool is_of_several;        /* links stand below the network's line */
     uint8_t port;              /* of the router: all links of a network have one */
     uint32_t network;
     uint16_t cost;             /* ticks */
     uint16_t longest;          /* bytes of the longest packet */
-    bool has_shares;           /* whether the line says them: */
     uint16_t routes, services; /* shares of the tables, or IPXR_NO_LIMIT */
     link_type type;
     address local;             /* where datagrams and connections come in */
@@ -56,16 +51,12 @@ typedef struct network_setting {
     uint8_t node[6];
     uint16_t sockets[MOST_SOCKETS]; /* whose broadcasts are extended */
     size_t socket_count;
-    size_t clients_line;       /* the number of the line that says these two, or 0 */
     uint16_t clients;          /* most clients of DOSBox' */
     uint16_t per_address;      /* and most of one address */
-    size_t rate_line;          /* the number of the line that says these three, or 0 */
     uint32_t rate;             /* packets a second that a client receives, or a link with frames of clients; 0 for any number */
     uint32_t share;            /* and those of an address that says little */
     uint32_t household;        /* and those that all clients of an address receive, 0 for any number */
-    size_t kilobits_line;      /* the number of the line that says this, or 0 */
     uint32_t kilobits;         /* a second, of the line by which the network is reached; 0 where that isn't narrow */
-    size_t strangers_line;     /* the number of the line that says this, or 0 */
     uint32_t strangers;        /* datagrams a second for strangers, 0 for any number */
     ranges allowed;            /* who may be a client; none where all may */
     ranges trusted;            /* who may be one though he answers no ping */

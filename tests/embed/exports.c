@@ -8,6 +8,7 @@
 #include <string.h>
 
 #include "ipxr_cable.h"
+#include "ipxr_configuration.h"
 #include "ipxr_limits.h"
 #include "ipxr_plan.h"
 #include "ipxr_segment.h"
@@ -1415,6 +1416,152 @@ static void a_line(void)
     ANSWERS(0, ipxr_settings_range(READS("10.20.30/24"), &range));
 }
 
+/* ---- Lines of a configuration together ---- */
+
+static ipxr_configuration all;
+
+#define SAYS(line, text) ipxr_configuration_line(&all, READS(text), line, 1, &said, &wrong)
+
+static void a_network_is_kept(size_t number, int line, int first, int has_link, int has_shares, int is_of_several, int has_node)
+{
+    const ipxr_network_setting *it = &all.networks.list[number];
+    WROTE(line, it->line);
+    WROTE(first, it->first);
+    WROTE(has_link, it->has_link);
+    WROTE(has_shares, it->has_shares);
+    WROTE(is_of_several, it->is_of_several);
+    WROTE(has_node, it->has_node);
+}
+
+/* What memory has of the networks and links that a_configuration reads. */
+static void all_is_kept(void)
+{
+    const ipxr_network_setting *network = &all.networks.list[1];
+    const ipxr_link_setting *link = &all.links.list[0];
+    a_network_is_kept(0, 11, 0, 1, 0, 0, 0);
+    a_network_is_kept(1, 21, 1, 1, 1, 0, 1);
+    a_network_is_kept(2, 31, 2, 1, 0, 1, 0);
+    WROTE(3, all.networks.count);
+    WROTE(4, all.links.count);
+    WROTE(2, all.above);
+    WROTE(0xB, network->number);
+    WROTE(4, network->cost);
+    WROTE(1300, network->longest);
+    WROTE(40, network->routes);
+    WROTE(41, network->services);
+    WROTE_BYTES("020000000007", network->node);
+    WROTE(0x4003, all.networks.list[0].sockets.list[0]);
+    WROTE(3, all.networks.list[0].sockets.count);
+    WROTE(11, link->line);
+    WROTE(0, link->network);
+    WROTE(12, link->clients.line);
+    WROTE(9, link->clients.all);
+    WROTE(8, link->clients.of_address);
+    WROTE(13, link->rate.line);
+    WROTE(70, link->rate.rate);
+    WROTE(60, link->rate.share);
+    WROTE(90, link->rate.household);
+    WROTE(14, link->strangers.line);
+    WROTE(77, link->strangers.number);
+    WROTE(15, link->kilobits.line);
+    WROTE(88, link->kilobits.number);
+    WROTE(1, link->allowed.count);
+    WROTE(2, link->trusted.count);
+    WROTE(24, link->trusted.list[1].bits);
+}
+
+/* What all lines say of the links of these networks. */
+static void all_is_told(void)
+{
+    ipxr_configured link;
+    memset(&link, 0xAA, sizeof link);
+    ANSWERS(1, ipxr_configuration_link(&all, 0, &link));
+    WROTE(9, link.clients);
+    WROTE(8, link.of_address);
+    WROTE(70, link.rate);
+    WROTE(60, link.share);
+    WROTE(90, link.household);
+    WROTE(77, link.strangers);
+    WROTE(88, link.kilobits);
+    WROTE(3, link.sockets.count);
+    WROTE(1, link.allowed.count);
+    WROTE(2, link.trusted.count);
+    WROTE(64, link.routes);
+    WROTE(32, link.services);
+    ANSWERS(1, ipxr_configuration_link(&all, 1, &link));
+    WROTE(0xB, link.number);
+    WROTE(4, link.cost);
+    WROTE(1300, link.longest);
+    WROTE(40, link.routes);
+    WROTE(41, link.services);
+    WROTE(0, link.is_of_several);
+    WROTE(1, link.has_node);
+    WROTE_BYTES("020000000007", link.node);
+    WROTE(IPXR_OVER_UDP, link.carrier.number);
+    WROTE(IPXR_FRAME_LLC, link.carrier.frames);
+    WROTE(52, link.carrier.local.port);
+    WROTE(53, link.carrier.remote.port);
+    ANSWERS(1, ipxr_configuration_link(&all, 3, &link));
+    WROTE(33, link.line);
+    WROTE(31, link.network_line);
+    WROTE(2, link.port);
+    WROTE(256, link.clients);
+    WROTE(65535, link.routes);
+    WROTE(1, link.is_of_several);
+    WROTE_BYTES("4162 0000", link.carrier.name);
+    ANSWERS(0, ipxr_configuration_link(&all, 4, &link));
+}
+
+/* Lines that are wrong beside those of a_configuration. */
+static void a_line_is_wrong(void)
+{
+    ipxr_setting said;
+    ipxr_line_wrong wrong;
+    ANSWERS(IPXR_EXPECTED_OTHER_KIND, SAYS(34, "link tap Ab raw"));
+    WROTE(33, wrong.line);
+    WROTE(0, wrong.unlinked);
+    ANSWERS(IPXR_EXPECTED_LONGEST_OF_LINK, SAYS(35, "network E 1 1498 tap Bb llc"));
+    WROTE(1498, wrong.numbers[0]);
+    WROTE(1497, wrong.numbers[1]);
+    ANSWERS(0, SAYS(41, "network D 6 1100"));
+    ANSWERS(41, ipxr_configuration_unlinked(&all));
+    ANSWERS(IPXR_EXPECTED_OTHER_NETWORK, SAYS(42, "network B 1 1400 dosbox 54"));
+    WROTE(41, wrong.unlinked);
+    WROTE(1, wrong.word);
+    WROTE(21, wrong.line);
+    WROTE(0, wrong.is_below_tunnel);
+    ANSWERS(0, ipxr_configuration_unlinked(&all));
+}
+
+static void a_configuration(void)
+{
+    ipxr_setting said;
+    ipxr_line_wrong wrong;
+    memset(&wrong, 0xAA, sizeof wrong);
+    ANSWERS(0, SAYS(11, "network A 3 1400 dosbox 1.2.3.4:51"));
+    WROTE(0, wrong.unlinked);
+    WROTE(IPXR_SETTING_NETWORK, said.kind);
+    ANSWERS(0, SAYS(12, "clients 9 8"));
+    ANSWERS(0, SAYS(13, "rate 70 60 90"));
+    ANSWERS(0, SAYS(14, "strangers 77"));
+    ANSWERS(0, SAYS(15, "line 88"));
+    ANSWERS(0, SAYS(16, "allow 10.0.0.0/8"));
+    ANSWERS(0, SAYS(17, "trust 11.0.0.0/16 12.0.0.0/24"));
+    ANSWERS(0, SAYS(18, "extend 4003 4004 4005"));
+    ANSWERS(IPXR_EXPECTED_ONCE, SAYS(19, "rate 70"));
+    WROTE(13, wrong.line);
+    WROTE(0, wrong.word);
+    WROTE(1, wrong.is_below_tunnel);
+    ANSWERS(0, SAYS(21, "network B 4 1300 40 41 qemu-udp 1.2.3.4:52 6.7.8.9:53 llc node 02:00:00:00:00:07"));
+    ANSWERS(0, SAYS(31, "network C 5 1200"));
+    ANSWERS(31, ipxr_configuration_unlinked(&all));
+    ANSWERS(0, SAYS(32, "link tap Aa raw"));
+    ANSWERS(0, SAYS(33, "link tap Ab raw"));
+    all_is_kept();
+    all_is_told();
+    a_line_is_wrong();
+}
+
 int main(void)
 {
     words();
@@ -1437,5 +1584,6 @@ int main(void)
     who_is_asked_again();
     own_nodes();
     a_line();
+    a_configuration();
     return 0;
 }
