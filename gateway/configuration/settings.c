@@ -62,6 +62,7 @@ static void take_ranges(ranges *into, const ipxr_setting_ranges *said)
 
 static void take_link(network_setting *it, const ipxr_configured *said)
 {
+    it->line = said->line;
     it->is_of_several = said->is_of_several;
     it->port = (uint8_t)said->port;
     it->network = said->number;

@@ -35,6 +35,7 @@ typedef enum {
 
 /* A network on a link, as its line says it. Where links stand in lines below it, each of them is one, with what its network's line says. */
 typedef struct network_setting {
+    size_t line;               /* the number of the line that names the link, for messages */
     bool is_of_several;        /* links stand below the network's line */
     uint8_t port;              /* of the router: all links of a network have one */
     uint32_t network;
