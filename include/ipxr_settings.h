@@ -1,4 +1,4 @@
-/* ipxr_settings.h: what the lines of a gateway's configuration say, for C and for whatever can call C. It belongs to ipxr.h and is in the
+/* ipxr_settings.h: what the lines of a gateway's configuration say, and their words, for C and for whatever can call C. It belongs to ipxr.h and is in the
  * same library. docs/GATEWAY-REFERENCE.md describes the lines.
  *
  * A line is read by itself, word by word: ipxr_settings_line tells what its words say up to the first that is wrong, and what was expected
@@ -83,6 +83,11 @@ extern "C" {
 #define IPXR_EXPECTED_FIRST 30           /* one that is 0 behind its `bits` */
 #define IPXR_EXPECTED_FEWER_WORDS 31     /* at most 32 words */
 
+/* ---- Bytes that are enough for any words. These numbers have no words. ---- */
+
+#define IPXR_LONGEST_ADDRESS 63 /* of an address with its port */
+#define IPXR_LONGEST_LINK 348   /* of a link */
+
 /* ---- Values ---- */
 
 /* An address with its port. What isn't said is 0. */
@@ -157,6 +162,16 @@ IPXR_CALL ipxr_flag ipxr_settings_node(const uint8_t *word, size_t length, uint8
 /* Reads a word that is a range: an address of IPv4, alone or with /BITS behind it. Returns whether it is one; if not, `range` stays as it
  * was. */
 IPXR_CALL ipxr_flag ipxr_settings_range(const uint8_t *word, size_t length, ipxr_setting_range *range);
+
+/* Writes an address with its port as a line has it, such as 10.0.0.5:213 or [fd00::5]:213: IPv6 as RFC 5952 has it, and an address of IPv4
+ * in it by four numbers. What is read again is the same. Returns how many bytes were written, without a 0 behind them; 0 if `buffer` has no
+ * room for them, and then nothing is written. IPXR_LONGEST_ADDRESS bytes are always enough. */
+IPXR_CALL size_t ipxr_settings_address_words(const ipxr_setting_host *host, uint8_t *buffer, size_t size);
+
+/* Writes the words of a link as a line has them, with a blank between each two: its `carrier` and `frames`, and what such a carrier has of
+ * `local`, `remote`, `host` and `name`. Returns and writes as above; 0 also if it is no link, by its numbers. IPXR_LONGEST_LINK bytes are
+ * always enough. */
+IPXR_CALL size_t ipxr_settings_link_words(const ipxr_setting_link *link, uint8_t *buffer, size_t size);
 
 #ifdef __cplusplus
 }

@@ -1378,6 +1378,42 @@ static void a_link(void)
     WROTE(8, said.link.local.six[7]);
 }
 
+/* Whether so many bytes of a room are that text, and the byte behind them was left. */
+#define WROTE_TEXT(text, room) \
+    do { \
+        WROTE(0, memcmp(text, room, sizeof(text) - 1)); \
+        WROTE(0xAA, room[sizeof(text) - 1]); \
+    } while (0)
+
+static void words_of_a_link(void)
+{
+    static const char UDP[] = "qemu-udp 1.2.3.4:5 Bb:6 llc", SIX[] = "qemu-udp [fd00::1:2]:9 [::ffff:10.20.30.40]:65535 snap",
+                      TAP[] = "tap Aa auto";
+    uint8_t room[IPXR_LONGEST_LINK];
+    ipxr_setting said;
+    memset(room, 0xAA, sizeof room);
+    ANSWERS(0, ipxr_settings_line(READS("link qemu-udp 1.2.3.4:5 Bb:6 llc"), 1, 0, 100, &said));
+    ANSWERS(9, ipxr_settings_address_words(&said.link.local, room, 9));
+    WROTE_TEXT("1.2.3.4:5", room);
+    ANSWERS(sizeof UDP - 1, ipxr_settings_link_words(&said.link, room, sizeof room));
+    WROTE_TEXT(UDP, room);
+    memset(room, 0xAA, sizeof room);
+    ANSWERS(0, ipxr_settings_address_words(&said.link.local, room, 8));
+    ANSWERS(0, ipxr_settings_link_words(&said.link, room, sizeof UDP - 2));
+    WROTE_TEXT("", room);
+    said.link.frames = IPXR_NO_FRAME;
+    ANSWERS(0, ipxr_settings_link_words(&said.link, room, sizeof room));
+    said.link.carrier = IPXR_OVER_NONE;
+    ANSWERS(0, ipxr_settings_link_words(&said.link, room, sizeof room));
+    ANSWERS(0, ipxr_settings_line(READS("link qemu-udp [FD00:0::0:1:2]:9 [0:0:0:0:0:ffff:a14:1e28]:65535 snap"), 1, 0, 100, &said));
+    ANSWERS(sizeof SIX - 1, ipxr_settings_link_words(&said.link, room, sizeof room));
+    WROTE_TEXT(SIX, room);
+    memset(room, 0xAA, sizeof room);
+    ANSWERS(0, ipxr_settings_line(READS("link tap Aa auto"), 1, 0, 100, &said));
+    ANSWERS(sizeof TAP - 1, ipxr_settings_link_words(&said.link, room, sizeof TAP - 1));
+    WROTE_TEXT(TAP, room);
+}
+
 static void a_line(void)
 {
     size_t start = 77;
@@ -1386,6 +1422,7 @@ static void a_line(void)
     ipxr_setting said;
     ipxr_setting_range range = {{0}, 0};
     a_link();
+    words_of_a_link();
     ANSWERS(0, ipxr_settings_line(READS("rate 100 50 70"), 0, 1, 100, &said));
     WROTE(100, said.numbers[0]);
     WROTE(50, said.numbers[1]);

@@ -29,8 +29,9 @@ pub mod SegmentReads
 -- the plan of a reload: structs, and the call
 pub mod PlanValues
 pub mod Plans
--- the lines of a configuration: structs and numbers
+-- the lines of a configuration: structs and numbers, and words that are written
 pub mod SettingsValues
+pub mod SettingsWritten
 pub mod ConfigurationValues
 -- a gateway's limits: numbers
 pub mod LimitValues

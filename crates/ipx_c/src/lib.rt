@@ -15,7 +15,7 @@
 //! - A network over several links is the third: `SegmentMachine` has the segment of `ipx_segment` and the links that get the packet of
 //!   its last event (`SegmentMakes`, `SegmentEvents`, `SegmentReads`).
 //! - The plan of a reload is made of values and written to values (`Plans`), by `ipx_plan`; and the lines of a configuration are read to
-//!   values (`SettingsValues`), by `ipx_settings`.
+//!   values (`SettingsValues`) and written of values (`SettingsWritten`), by `ipx_settings`.
 //! - Fair queueing and meters are no machines: C keeps them in memory of its own, where all bytes 0 are one, and lends them. Each call's
 //!   clause is that of `ipx_fair`. So are a gateway's limits, by `ipx_limits`, whose kinds, reasons and ranks have numbers
 //!   (`LimitValues`), and a narrow line; and what a gateway decides about its cables, by `ipx_cable` (`CableValues`).
@@ -54,6 +54,7 @@ mod segment_values;
 mod sending;
 pub mod settings;
 mod settings_values;
+pub mod settings_writing;
 mod sizes;
 mod tunnel_events;
 mod tunnel_machine;

@@ -4,6 +4,16 @@ pub mod Parts
 -- parts between others
 pub mod Cuts
 pub mod Gaps
+-- what is written
+pub mod Decimals
+pub mod Without
+pub mod NumbersAgain
+pub mod SixAgain
+pub mod AddressesAgain
+pub mod Spaces
+pub mod NamesAgain
+pub mod WordsAgain
+pub mod LinksAgain
 -- laws
 pub mod Begun
 pub mod Endings

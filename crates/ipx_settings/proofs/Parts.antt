@@ -10,10 +10,10 @@ use Rattle.std.specs.List.{slice_split, position, position_or_len, before_first,
 use Rattle.ipx_settings.specs.Words.{is_blank, words}
 
 -- a part that isn't empty
-abbrev has_bytes : List ℕ → Bool
+abbrev pub has_bytes : List ℕ → Bool
 has_bytes part = not (length part == 0)
 
-keeps : (part : List ℕ) (parts : List (List ℕ)) → 0 < length part → filter has_bytes (part ∷ parts) ≡ part ∷ filter has_bytes parts
+pub keeps : (part : List ℕ) (parts : List (List ℕ)) → 0 < length part → filter has_bytes (part ∷ parts) ≡ part ∷ filter has_bytes parts
 keeps part parts some = grind arith
 
 -- a blank in front
@@ -94,9 +94,9 @@ a_word text found start at e =
 pub most_of : (text : List ℕ) → position_or_len is_blank text ≤ length text
 most_of text = prefix_len-le-length (λ b. not (is_blank b)) text
 
--- where no blank follows
-pub all_of : (text : List ℕ) → position is_blank text ≡ None → length text ≡ position_or_len is_blank text
-all_of text missed = omega (arith, is_past is_blank text missed, most_of text)
+-- where none follows
+pub all_of : (p : ℕ → Bool) (text : List ℕ) → position p text ≡ None → length text ≡ position_or_len p text
+all_of p text missed = omega (arith, is_past p text missed, prefix_len-le-length (λ b. not (p b)) text)
 
 -- a text whose first byte is no blank has a word in front
 begins : (b : ℕ) (more : List ℕ) → is_blank b ≡ false → 0 < position_or_len is_blank (b ∷ more)

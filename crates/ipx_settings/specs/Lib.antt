@@ -9,5 +9,10 @@ pub mod Addresses
 pub mod Links
 pub mod Networks
 pub mod Lines
+-- what is written, and values that are read
+pub mod Writing
+pub mod WritingAddresses
+pub mod WritingLinks
+pub mod Right
 -- laws
 pub mod Beginnings

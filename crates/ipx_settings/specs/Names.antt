@@ -16,7 +16,7 @@ abbrev pub name_room : ℕ
 name_room = 16
 
 abbrev pub is_name_byte : ℕ → Bool
-is_name_byte byte = not ((byte == 37) || (byte == slash) || (byte == colon))
+is_name_byte byte = not ((byte == 0) || (byte == 37) || (byte == slash) || (byte == colon))
 
 -- none that Linux would make up or refuse
 abbrev pub is_name : List ℕ → Bool

@@ -1,11 +1,18 @@
 //! What follows from the definitions alone, for every line.
-ghost use Rattle.std.specs.Prelude.{◌≡◌, ℕ, ◌+◌, ◌<◌, ◌≤◌, List, length, take, None, Some};
-ghost use Rattle.ipx_settings.specs.Beginnings.{IsLine, BeginLine};
+ghost use Rattle.std.specs.Prelude.{◌≡◌, ℕ, Bool, ◌+◌, ◌<◌, ◌≤◌, List, length, take, None, Some};
+ghost use Rattle.ipx_settings.specs.Addresses.{address_of};
+ghost use Rattle.ipx_settings.specs.Beginnings.{IsLine, BeginLine, link_said};
 ghost use Rattle.ipx_settings.specs.Lines.{read_from};
+ghost use Rattle.ipx_settings.specs.Right.{IsAddress, IsLink};
+ghost use Rattle.ipx_settings.specs.WritingAddresses.{address_words};
+ghost use Rattle.ipx_settings.specs.WritingLinks.{spaced, link_words};
+ghost use Rattle.ipx_settings.specs.declared.addresses.Address.{Address};
 ghost use Rattle.ipx_settings.specs.declared.expected.Expected.{Expected};
 ghost use Rattle.ipx_settings.specs.declared.line.Context.{Context};
 ghost use Rattle.ipx_settings.specs.declared.line.Line.{Line};
 ghost use Rattle.ipx_settings.specs.declared.line.Line.TheVariants.{Nothing};
+ghost use Rattle.ipx_settings.specs.declared.link.Link.{Link};
+ghost use Rattle.ipx_settings.specs.declared.link.LinkBegun.TheVariants as begun;
 
 /// A reading without a fault is a line, and what it says is what the line says; each line is read so.
 pub fn lines_are_read()
@@ -20,4 +27,16 @@ pub fn faults_are_first()
     ensures wrong { (c : Context) (e : Expected) (words : List (List ℕ)) → (read_from c Nothing 0 words).fault ≡ Some e → (read_from c Nothing 0 words).read < length words
         → BeginLine c (take ((read_from c Nothing 0 words).read + 1) words) → ⊥ }
     ensures ended { (c : Context) (e : Expected) (l : Line) (words : List (List ℕ)) → (read_from c Nothing 0 words).fault ≡ Some e → IsLine c l words → ⊥ }
+{}
+
+/// An address that was written is read again as it was; so each has words of its own.
+pub fn addresses_are_read_again()
+    ensures again { (address : Address) → IsAddress address → address_of (address_words address) ≡ Some address }
+    ensures once { (a b : Address) → IsAddress a → IsAddress b → address_words a ≡ address_words b → a ≡ b }
+{}
+
+/// So is a link.
+pub fn links_are_read_again()
+    ensures again { (has_cards : Bool) (link : Link) → IsLink has_cards link → link_said has_cards begun.Nothing (link_words link) ≡ Some (begun.Whole link) }
+    ensures once { (has_cards : Bool) (a b : Link) → IsLink has_cards a → IsLink has_cards b → spaced (link_words a) ≡ spaced (link_words b) → a ≡ b }
 {}

@@ -19,8 +19,12 @@ mod names;
 mod network;
 mod nodes;
 mod numbers;
+mod putting;
 mod reading;
 mod words;
+mod writing_addresses;
+mod writing_hosts;
+mod writing_links;
 
 pub use crate::addresses::{Address, Host, HostRange, Place, read_range};
 pub use crate::expected::Expected;
@@ -31,3 +35,5 @@ pub use crate::nodes::node_bytes;
 pub use crate::numbers::hexadecimal;
 pub use crate::reading::{Reading, word, word_of};
 pub use crate::words::Span;
+pub use crate::writing_addresses::{LONGEST_ADDRESS, write_address};
+pub use crate::writing_links::{LONGEST_LINK, write_link};

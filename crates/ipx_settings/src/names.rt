@@ -16,7 +16,7 @@ pub(crate) const HOST_ROOM: usize = 254;
 fn is_name_byte(byte: u8) -> bool
     ensures { result ≡ is_name_byte byte }
 {
-    !(byte == b'%' || byte == b'/' || byte == b':')
+    !(byte == 0 || byte == b'%' || byte == b'/' || byte == b':')
 }
 
 fn are_name_bytes(word: &[u8]) -> bool
