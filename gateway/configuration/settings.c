@@ -10,9 +10,6 @@
 #include "systems/card.h"
 #include "systems/system.h"
 
-/* Bytes of a name and a port, with the 0 behind. */
-enum { PLACE_ROOM = HOST_ROOM + 8 };
-
 /* The kinds of frames; the first stands for the tunnel, and the last for all of them. */
 static const char KINDS[][KIND_ROOM] = {"", "ethernet2", "raw", "llc", "snap", "auto"};
 
@@ -155,38 +152,19 @@ size_t settings_read(settings *it, FILE *file, const char *name, FILE *complaint
 
 /* ---- What a link is called ---- */
 
-/* The other end, as its line says it. */
-static void remote_words(const network_setting *it, char words[PLACE_ROOM])
-{
-    if (it->host[0] != '\0')
-        snprintf(words, PLACE_ROOM, "%s:%u", it->host, it->remote.port);
-    else
-        address_words(&it->remote, words);
-}
+/* What carries a link, as the library has it. */
+static const uint8_t OVER[] = {
+    [LINK_DOSBOX] = IPXR_OVER_TUNNEL, [LINK_QEMU_UDP] = IPXR_OVER_UDP, [LINK_QEMU_LISTEN] = IPXR_OVER_LISTEN,
+    [LINK_QEMU_CONNECT] = IPXR_OVER_CONNECT, [LINK_TAP] = IPXR_OVER_TAP, [LINK_INTERFACE] = IPXR_OVER_INTERFACE,
+};
 
 const char *link_words(const network_setting *it, char words[LINK_ROOM])
 {
-    char local[ADDRESS_ROOM], remote[PLACE_ROOM];
-    address_words(&it->local, local);
-    remote_words(it, remote);
-    const char *kind = kind_word(it->kind);
-    switch (it->type) {
-    case LINK_DOSBOX:
-        snprintf(words, LINK_ROOM, "dosbox %s", local);
-        break;
-    case LINK_QEMU_UDP:
-        snprintf(words, LINK_ROOM, "qemu-udp %s %s %s", local, remote, kind);
-        break;
-    case LINK_QEMU_LISTEN:
-        snprintf(words, LINK_ROOM, "qemu-tcp listen %s %s", local, kind);
-        break;
-    case LINK_QEMU_CONNECT:
-        snprintf(words, LINK_ROOM, "qemu-tcp connect %s %s", remote, kind);
-        break;
-    case LINK_TAP:
-    case LINK_INTERFACE:
-        snprintf(words, LINK_ROOM, "%s %s %s", it->type == LINK_TAP ? "tap" : "interface", it->name, kind);
-        break;
-    }
+    ipxr_setting_link link = {.carrier = OVER[it->type], .frames = it->kind};
+    link.local = library_address(&it->local);
+    link.remote = library_address(&it->remote);
+    memcpy(link.host, it->host, sizeof link.host);
+    memcpy(link.name, it->name, sizeof link.name);
+    words[ipxr_settings_link_words(&link, (uint8_t *)words, IPXR_LONGEST_LINK)] = '\0';
     return words;
 }

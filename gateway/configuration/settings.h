@@ -10,6 +10,7 @@
 #include "configuration/range.h"
 #include "ipxr.h"
 #include "ipxr_segment.h"
+#include "ipxr_settings.h"
 #include "ipxr_tunnel.h"
 #include "links/kinds.h"
 #include "systems/address.h"
@@ -77,7 +78,7 @@ size_t settings_read(settings *it, FILE *file, const char *name, FILE *complaint
 /* Whether two networks are on one link, which is opened once for both. */
 bool same_link(const network_setting *a, const network_setting *b);
 
-enum { LINK_ROOM = 96 + HOST_ROOM /* bytes of a link in words, with the 0 behind */ };
+enum { LINK_ROOM = IPXR_LONGEST_LINK + 1 /* bytes of a link in words, with the 0 behind */ };
 
 /* The words of a kind of frame, and of a link with its addresses or name. */
 const char *kind_word(uint8_t kind);

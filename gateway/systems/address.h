@@ -21,8 +21,4 @@ static inline bool same_address(const address *a, const address *b)
            a->port == b->port;
 }
 
-/* The digits of an address of IPv6, as the system writes them. */
-enum { SIX_ROOM = 46 /* bytes of them, with the 0 behind */ };
-void six_words(const uint8_t six[16], char digits[SIX_ROOM]);
-
 #endif

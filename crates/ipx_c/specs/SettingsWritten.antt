@@ -1,5 +1,5 @@
 -- What C wants written as a line of a configuration has it.
-use Rattle.std.specs.Prelude.{ℕ, ◌==◌, if◌then◌else◌, List, slice_index, length, Option, Some, None}
+use Rattle.std.specs.Prelude.{ℕ, ◌==◌, if◌then◌else◌, List, slice_index, Option, Some, None}
 use Rattle.std.specs.Option.{option_map, option_and_then, unwrap_or}
 use Rattle.ipx_settings.specs.Writing.{written_size, written_into}
 use Rattle.ipx_settings.specs.WritingLinks.{spaced, link_words}

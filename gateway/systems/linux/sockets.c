@@ -52,12 +52,6 @@ static address of_system(const struct sockaddr_in *at)
     return it;
 }
 
-void six_words(const uint8_t six[16], char digits[SIX_ROOM])
-{
-    if (inet_ntop(AF_INET6, six, digits, SIX_ROOM) == NULL)
-        digits[0] = '\0';
-}
-
 /* An address of either kind as the system takes it. Clients are of IPv4, which is the faster. */
 typedef union any_address {
     struct sockaddr one;
