@@ -48,10 +48,7 @@ fn end_of(link: &LinkSaid) -> Option<End>
     ensures { result ≡ end_of link.now }
 {
     match link.carrier {
-        2 => Some(End::Udp(
-            address_of(&link.local),
-            place_of(&link.remote, &link.host),
-        )),
+        2 => Some(End::Udp(address_of(&link.local), place_of(&link.remote, &link.host))),
         3 => Some(End::Listen(address_of(&link.local))),
         4 => Some(End::Connect(place_of(&link.remote, &link.host))),
         5 => Some(End::Tap(link.name)),

@@ -64,7 +64,7 @@ written_again (Six six) port are low =
     let split : host_words (Six six) ++ codes ":" ++ decimal port ≡ 91 ∷ (words ++ 93 ∷ 58 ∷ decimal port) = between words (decimal port) in
     rw split
     (bracketed (words ++ 93 ∷ 58 ∷ decimal port)
-      ∙ six_read words six port low (six_again six are) (each-six (λ c. c ≢ closing) six are (λ c. other_byte closing c refl) (omega arith) (omega arith)))
+    ∙ six_read words six port low (six_again six are) (each-six (λ c. c ≢ closing) six are (λ c. other_byte closing c refl) (omega arith) (omega arith)))
 
 pub address_again : (address : Address) → IsAddress address → address_of (address_words address) ≡ Some address
 address_again address is = written_again address.host address.port is.0 is.1

@@ -72,6 +72,12 @@ read c l ws is =
     let same : (read_from c Nothing 0 ws).line ≡ l = one_line _ l (sym f.said ∙ ap (said_by c Nothing) whole ∙ is.0) in
     (f.fault all ∙ none_ended c (read_from c Nothing 0 ws).line (ap line_ends same ∙ is.1), same)
 
+-- and so many they are
+pub read_all : (c : Context) (l : Line) (ws : List (List ℕ)) → IsLine c l ws → (read_from c Nothing 0 ws).read ≡ length ws
+read_all c l ws is =
+    let f = front c Nothing 0 ws in
+    omega (arith, f.read, read_whole c l ws is.0)
+
 pub before : (c : Context) (ws : List (List ℕ)) → 1 ≤ c.most_clients → BeginLine c (take (read_from c Nothing 0 ws).read ws)
 before c ws some =
     let f = front c Nothing 0 ws in

@@ -14,6 +14,8 @@ pub mod Spaces
 pub mod NamesAgain
 pub mod WordsAgain
 pub mod LinksAgain
+pub mod DigitsAgain
+pub mod LinesAgain
 -- laws
 pub mod Begun
 pub mod Endings

@@ -67,9 +67,10 @@ remote_is_word (Named host port) is =
     let words : name_in host ≡ name = ap name_in same ∙ name_is name host_room (name_size name right) (name_without 0 name right refl) in
     let letters = each_weaker IsNameByte IsInWord in_name name (name_bytes name right) in
     let digits = each-decimal IsInWord port (omega (arith, is.2)) in_digit in
-    rw words
-    (omega (arith, length-append (name ++ codes ":") (decimal port), length-append name (codes ":")),
-      each-append IsInWord (name ++ codes ":") (decimal port) (each-append IsInWord name (codes ":") letters ((refl, refl), tt)) digits)
+    rw words (
+      omega (arith, length-append (name ++ codes ":") (decimal port), length-append name (codes ":")),
+      each-append IsInWord (name ++ codes ":") (decimal port) (each-append IsInWord name (codes ":") letters ((refl, refl), tt)) digits,
+    )
 
 name_is_word : (bytes : List ℕ) → IsName bytes → IsWord (name_in bytes)
 name_is_word bytes is = rw (name_words bytes is) is.1

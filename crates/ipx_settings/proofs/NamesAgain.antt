@@ -36,12 +36,15 @@ isnt p byte c fails passes e = true≢false (sym passes ∙ ap p e ∙ fails)
 
 -- ---- names with zeros behind them
 
+front_is : (name : List ℕ) (more : ℕ) → Without 0 name → name_in (name ++ replicate (suc more) 0) ≡ name
+front_is name more none =
+    let rest = replicate more 0 in
+    ap (λ n. take n (name ++ 0 ∷ rest)) (first_place 0 name rest none) ∙ take-append_seam name (0 ∷ rest)
+
 pub name_is : (name : List ℕ) (room : ℕ) → length name < room → Without 0 name → name_in (padded room name) ≡ name
 name_is name room few none =
-    let more : room - length name ≡ suc (room - length name - 1) = omega (arith, few) in
-    let zeros : padded room name ≡ name ++ 0 ∷ replicate (room - length name - 1) 0 = ap (λ n. name ++ replicate n 0) more in
-    let rest = replicate (room - length name - 1) 0 in
-    ap name_in zeros ∙ ap (λ n. take n (name ++ 0 ∷ rest)) (first_place 0 name rest none) ∙ take-append_seam name (0 ∷ rest)
+    let more : suc (room - length name - 1) ≡ room - length name = omega (arith, few) in
+    subst (λ n. name_in (name ++ replicate n 0) ≡ name) more (front_is name (room - length name - 1) none)
 
 -- ---- names of hosts
 

@@ -61,8 +61,16 @@ small four are k = omega (arith, are.1 k)
 pub four_again : (four : List ℕ) → AreNumbers 4 8 four → four_of (ipv4_text four) ≡ Some four
 four_again four are =
     let dots : (k : ℕ) → Without dot (decimal (get_or four k 0)) = λ k. without-decimal dot (get_or four k 0) (small four are k) refl in
-    rw (dotted four, cut_front dot (decimal (get_or four 0 0)) _ (dots 0), cut_front dot (decimal (get_or four 1 0)) _ (dots 1), cut_front dot (decimal (get_or four 2 0)) _ (dots 2),
-      octet_again _ (are.1 0), octet_again _ (are.1 1), octet_again _ (are.1 2), octet_again _ (are.1 3))
+    rw (
+      dotted four,
+      cut_front dot (decimal (get_or four 0 0)) _ (dots 0),
+      cut_front dot (decimal (get_or four 1 0)) _ (dots 1),
+      cut_front dot (decimal (get_or four 2 0)) _ (dots 2),
+      octet_again _ (are.1 0),
+      octet_again _ (are.1 1),
+      octet_again _ (are.1 2),
+      octet_again _ (are.1 3),
+    )
     (ap Some (sym (four_items four are.0)))
 
 pub each-four : (P : ℕ → Type 0) (four : List ℕ) → AreNumbers 4 8 four → ((c : ℕ) → digit_value c < 16 → P c) → P 46 → AllByRecursion P (ipv4_text four)

@@ -138,9 +138,9 @@ around : (a b : List ℕ) → length a + length b < 8 → around_gap (begun a) (
 around a b few =
     let front : take (8 - length b) (a ++ replicate (8 - length a) 0) ≡ a ++ replicate (8 - length b - length a) 0 =
     (let split : 8 - length b ≡ length a + (8 - length b - length a) = omega (arith, few) in
-      ap (λ n. take n (a ++ replicate (8 - length a) 0)) split
-      ∙ take-append-add a (replicate (8 - length a) 0) (8 - length b - length a)
-      ∙ ap (λ l. a ++ l) (take-replicate (8 - length b - length a) (8 - length a) 0 (omega arith))) in
+    ap (λ n. take n (a ++ replicate (8 - length a) 0)) split
+    ∙ take-append-add a (replicate (8 - length a) 0) (8 - length b - length a)
+    ∙ ap (λ l. a ++ l) (take-replicate (8 - length b - length a) (8 - length a) 0 (omega arith))) in
     let back : take (length b) (b ++ replicate (8 - length b) 0) ≡ b = take-append_seam b (replicate (8 - length b) 0) in
     rw (lt-leb 8 (length a + length b) few, front, back) refl
 

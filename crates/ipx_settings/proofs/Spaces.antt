@@ -1,9 +1,15 @@
-use Rattle.std.proofs.Common.{◌≡◌, ℕ, ◌<◌, List, [], ◌∷◌, ◌++◌, length, refl, sym, ap, ◌∙◌, arith, append_assoc}
+use Rattle.std.proofs.Common.{◌≡◌, ℕ, ◌<◌, List, [], ◌∷◌, ◌++◌, length, refl, sym, ap, ◌∙◌, arith, Option, append_assoc, append-nil}
+use Rattle.std.proofs.lemmas.List.{length-append}
+use Rattle.std.specs.Prelude.{codes}
 use Rattle.ipx_settings.specs.WritingLinks.{spaced, frames_word, end_words, link_words}
+use Rattle.ipx_settings.specs.WritingLines.{bytes_digits, head_words, maybe_link_words, network_words}
 use Rattle.ipx_settings.specs.declared.link.End.{End}
 use Rattle.ipx_settings.specs.declared.link.End.TheVariants as ends
 use Rattle.ipx_settings.specs.declared.link.Frames.{Frames}
+use Rattle.ipx_settings.specs.declared.link.Link.{Link}
 use Rattle.ipx_settings.specs.declared.link.Link.TheVariants as link
+use Rattle.ipx_settings.specs.declared.network.Head.{Head}
+use Rattle.ipx_settings.specs.declared.network.NetworkBegun.TheVariants as network
 
 -- words behind a word
 pub spaced-append : (word : List ℕ) (front more : List (List ℕ)) (next : List ℕ) → spaced ((word ∷ front) ++ next ∷ more) ≡ spaced (word ∷ front) ++ 32 ∷ spaced (next ∷ more)
@@ -25,3 +31,33 @@ has_words (ends.Interface name) = omega arith
 
 pub frames_behind : (end : End) (frames : Frames) → spaced (link_words (link.Framed end frames)) ≡ spaced (end_words end) ++ 32 ∷ frames_word frames
 frames_behind end frames = last_word (end_words end) (frames_word frames) (has_words end)
+
+-- words behind words
+both_spaced : (front more : List (List ℕ)) → 0 < length front → 0 < length more → spaced (front ++ more) ≡ spaced front ++ 32 ∷ spaced more
+both_spaced [] more some also = absurd (omega (arith, some))
+both_spaced (word ∷ front) [] some also = absurd (omega (arith, also))
+both_spaced (word ∷ front) (next ∷ more) some also = spaced-append word front more next
+
+link_some : (it : Link) → 0 < length (link_words it)
+link_some (link.Tunnel address) = omega arith
+link_some (link.Framed end frames) = omega (arith, length-append (end_words end) (frames_word frames ∷ []))
+
+head_some : (head : Head) → 0 < length (head_words head)
+unfolding head_words
+head_some head = omega arith
+
+pub nothing_behind : (head : Head) → spaced (head_words head ++ []) ≡ spaced (head_words head)
+nothing_behind head = ap spaced (append-nil (head_words head))
+
+pub link_behind : (head : Head) (it : Link) → spaced (head_words head ++ link_words it) ≡ spaced (head_words head) ++ 32 ∷ spaced (link_words it)
+link_behind head it = both_spaced (head_words head) (link_words it) (head_some head) (link_some it)
+
+pub node_behind : (head : Head) (it : Option Link) (node : List ℕ)
+    → spaced (network_words (network.Whole head it node)) ≡ spaced (head_words head ++ maybe_link_words it) ++ (codes " node " ++ bytes_digits node)
+node_behind head it node =
+    both_spaced (head_words head ++ maybe_link_words it) (codes "node" ∷ bytes_digits node ∷ []) (omega (arith, head_some head, length-append (head_words head) (maybe_link_words it))) (omega arith)
+
+-- three texts that are put behind one
+pub three_put : (a b c d x y z all : List ℕ) → b ≡ a ++ x → c ≡ b ++ y → d ≡ c ++ z → all ≡ x ++ (y ++ z) → d ≡ a ++ all
+three_put a b c d x y z all first second third e =
+    third ∙ ap (λ l. l ++ z) (second ∙ ap (λ l. l ++ y) first) ∙ append_assoc (a ++ x) y z ∙ append_assoc a x (y ++ z) ∙ ap (λ l. a ++ l) (sym e)

@@ -13,6 +13,8 @@ pub mod Lines
 pub mod Writing
 pub mod WritingAddresses
 pub mod WritingLinks
+pub mod WritingLines
 pub mod Right
+pub mod RightLines
 -- laws
 pub mod Beginnings

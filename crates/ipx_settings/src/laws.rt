@@ -2,10 +2,12 @@
 ghost use Rattle.std.specs.Prelude.{◌≡◌, ℕ, Bool, ◌+◌, ◌<◌, ◌≤◌, List, length, take, None, Some};
 ghost use Rattle.ipx_settings.specs.Addresses.{address_of};
 ghost use Rattle.ipx_settings.specs.Beginnings.{IsLine, BeginLine, link_said};
-ghost use Rattle.ipx_settings.specs.Lines.{read_from};
+ghost use Rattle.ipx_settings.specs.Lines.{read_from, read_to, reading_of};
 ghost use Rattle.ipx_settings.specs.Right.{IsAddress, IsLink};
+ghost use Rattle.ipx_settings.specs.RightLines.{IsRight};
 ghost use Rattle.ipx_settings.specs.WritingAddresses.{address_words};
 ghost use Rattle.ipx_settings.specs.WritingLinks.{spaced, link_words};
+ghost use Rattle.ipx_settings.specs.WritingLines.{line_words};
 ghost use Rattle.ipx_settings.specs.declared.addresses.Address.{Address};
 ghost use Rattle.ipx_settings.specs.declared.expected.Expected.{Expected};
 ghost use Rattle.ipx_settings.specs.declared.line.Context.{Context};
@@ -39,4 +41,11 @@ pub fn addresses_are_read_again()
 pub fn links_are_read_again()
     ensures again { (has_cards : Bool) (link : Link) → IsLink has_cards link → link_said has_cards begun.Nothing (link_words link) ≡ Some (begun.Whole link) }
     ensures once { (has_cards : Bool) (a b : Link) → IsLink has_cards a → IsLink has_cards b → spaced (link_words a) ≡ spaced (link_words b) → a ≡ b }
+{}
+
+/// And so is a line.
+pub fn lines_are_read_again()
+    ensures again { (c : Context) (line : Line) → IsRight c line → IsLine c line (line_words line) }
+    ensures text { (c : Context) (line : Line) → IsRight c line → (reading_of c (spaced (line_words line)) ≡ read_to line (length (line_words line)) None) }
+    ensures once { (c : Context) (a b : Line) → IsRight c a → IsRight c b → spaced (line_words a) ≡ spaced (line_words b) → a ≡ b }
 {}

@@ -24,6 +24,7 @@ mod reading;
 mod words;
 mod writing_addresses;
 mod writing_hosts;
+mod writing_lines;
 mod writing_links;
 
 pub use crate::addresses::{Address, Host, HostRange, Place, read_range};
@@ -36,4 +37,5 @@ pub use crate::numbers::hexadecimal;
 pub use crate::reading::{Reading, word, word_of};
 pub use crate::words::Span;
 pub use crate::writing_addresses::{LONGEST_ADDRESS, write_address};
+pub use crate::writing_lines::{LONGEST_LINE, write_line};
 pub use crate::writing_links::{LONGEST_LINK, write_link};

@@ -1,9 +1,11 @@
 //! Texts that are put into a room behind others. Each function returns where its text ends; what stands in the room behind that place says
 //! nothing.
-ghost use Rattle.std.specs.Prelude.{◌≡◌, ◌+◌, ◌*◌, ◌<◌, ◌≤◌, ◌++◌, length, take, decimal};
+ghost use Rattle.std.specs.Prelude.{◌≡◌, ◌+◌, ◌*◌, ◌<◌, ◌≤◌, ◌++◌, length, take, true, decimal};
 ghost use Rattle.std.specs.Char.{digit_char};
+ghost use Rattle.std.specs.Fmt.{digit_glyph};
 ghost use Rattle.std.specs.Net.Text.{hex, leading_zero_digits};
 ghost use Rattle.ipx_settings.specs.Writing.{written_size, written_into};
+ghost use Rattle.ipx_settings.specs.WritingLines.{byte_digits, bytes_digits};
 
 /// How many decimal digits a number has at most.
 pub(crate) const LONGEST_NUMBER: usize = 10;
@@ -82,6 +84,43 @@ pub(crate) fn put_group(room: &mut [u8], at: usize, group: u16) -> usize
         digit(group % 16),
     ];
     put_text(room, at, &digits[zeros(group)..])
+}
+
+/// The hexadecimal digit of a number, of upper case.
+fn upper_digit(number: u8) -> u8
+    requires { number < 16 }
+    ensures { result ≡ digit_glyph true number }
+{
+    if number < 10 {
+        b'0' + number
+    } else {
+        b'A' + (number - 10)
+    }
+}
+
+/// Puts the two digits of a byte.
+fn put_byte(room: &mut [u8], at: usize, byte: u8) -> usize
+    requires { at + 2 ≤ length room.old }
+    ensures room { take result room.new ≡ take at room.old ++ byte_digits byte }
+    ensures end { result ≡ at + 2 }
+    ensures size { length room.new ≡ length room.old }
+{
+    put_text(room, at, &[upper_digit(byte / 16), upper_digit(byte % 16)])
+}
+
+/// Puts two digits for each byte.
+#[tactic(auto, unfolding(crate::specs::WritingLines::bytes_digits))]
+pub(crate) fn put_bytes(room: &mut [u8], at: usize, bytes: &[u8]) -> usize
+    requires { at + 2 * length bytes.now ≤ length room.old }
+    ensures room { take result room.new ≡ take at room.old ++ bytes_digits bytes.now }
+    ensures end { result ≡ at + 2 * length bytes.now }
+    ensures size { length room.new ≡ length room.old }
+{
+    let mut end = at;
+    for byte in bytes {
+        end = put_byte(room, end, *byte);
+    }
+    end
 }
 
 /// Gives words to whoever asked for them, if his room has room for them. Returns how many bytes they are.

@@ -23,9 +23,12 @@ loop-left-preserved c =
     let fits : c.loop-left.left < 2 ^ 64 = omega (arith, small) in
     let two = two_digits c.loop-left.left much fits in
     let same : c.loop-left.first - 1 + 1 ≡ c.loop-left.first = omega (arith, two, room) in
-    let there : c.loop-left.first < length c.loop-left.digits = omega (arith, within, ten) in
-    (rw same (one_less (decimal c.args.number) c.loop-left.digits c.loop-left.left c.loop-left.first (48 + c.loop-left.left % 10) much fits there refl known),
-      omega (arith, shorter c.loop-left.left much fits, room, two), omega (arith, within), length-set c.loop-left.digits c.loop-left.first (48 + c.loop-left.left % 10) ∙ ten)
+    let there : c.loop-left.first < length c.loop-left.digits = omega (arith, within, ten) in (
+      rw same (one_less (decimal c.args.number) c.loop-left.digits c.loop-left.left c.loop-left.first (48 + c.loop-left.left % 10) much fits there refl known),
+      omega (arith, shorter c.loop-left.left much fits, room, two),
+      omega (arith, within),
+      length-set c.loop-left.digits c.loop-left.first (48 + c.loop-left.left % 10) ∙ ten,
+    )
 
 pub returns-clause-room : goal.returns-clause-room
 returns-clause-room c =

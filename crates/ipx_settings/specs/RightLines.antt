@@ -1,0 +1,90 @@
+-- Lines that are right, by what they say.
+use Rattle.std.specs.Prelude.{◌≡◌, ℕ, Bool, true, ◌^◌, ◌<◌, ◌≤◌, List, Option, Some, None}
+use Rattle.ipx_settings.specs.Addresses.{host_bits, is_first}
+use Rattle.ipx_settings.specs.Lines.{most_rate, most_kilobits}
+use Rattle.ipx_settings.specs.Networks.{last_network, least_longest, most_longest, may_have_node}
+use Rattle.ipx_settings.specs.Nodes.{is_single}
+use Rattle.ipx_settings.specs.Right.{AreNumbers, IsLink}
+use Rattle.ipx_settings.specs.declared.addresses.HostRange.{HostRange}
+use Rattle.ipx_settings.specs.declared.line.ClientsBegun.{ClientsBegun}
+use Rattle.ipx_settings.specs.declared.line.ClientsBegun.TheVariants as clients
+use Rattle.ipx_settings.specs.declared.line.Context.{Context}
+use Rattle.ipx_settings.specs.declared.line.Line.{Line}
+use Rattle.ipx_settings.specs.declared.line.Line.TheVariants as line
+use Rattle.ipx_settings.specs.declared.line.RateBegun.{RateBegun}
+use Rattle.ipx_settings.specs.declared.line.RateBegun.TheVariants as rate
+use Rattle.ipx_settings.specs.declared.link.Link.{Link}
+use Rattle.ipx_settings.specs.declared.link.LinkBegun.{LinkBegun}
+use Rattle.ipx_settings.specs.declared.link.LinkBegun.TheVariants as begun
+use Rattle.ipx_settings.specs.declared.network.Head.{Head}
+use Rattle.ipx_settings.specs.declared.network.NetworkBegun.{NetworkBegun}
+use Rattle.ipx_settings.specs.declared.network.NetworkBegun.TheVariants as network
+use Rattle.ipx_settings.specs.declared.network.Shares.{Shares}
+
+-- a number between two, or one of them
+abbrev pub Within : ℕ → ℕ → ℕ → Type 0
+Within least most n = (least ≤ n) × (n ≤ most)
+
+-- ---- networks
+
+abbrev pub IsShares : Option Shares → Type 0
+IsShares None = Unit {0}
+IsShares (Some shares) = (shares.routes < 2 ^ 16) × (shares.services < 2 ^ 16)
+
+-- what stands before a link
+abbrev pub IsHead : Head → Type 0
+IsHead head =
+    Within 1 last_network head.number × Within 1 65535 head.cost × Within least_longest most_longest head.longest × IsShares head.shares
+
+-- a node of one computer
+abbrev pub IsNode : List ℕ → Type 0
+IsNode node = AreNumbers 6 8 node × (is_single node ≡ true)
+
+abbrev pub MayHaveNode : Bool → Option Link → Type 0
+MayHaveNode has_cards None = Unit {0}
+MayHaveNode has_cards (Some it) = IsLink has_cards it × (may_have_node it ≡ true)
+
+abbrev pub IsWhole : Bool → LinkBegun → Type 0
+IsWhole has_cards (begun.Whole it) = IsLink has_cards it
+IsWhole has_cards other = ⊥
+
+abbrev pub IsNetwork : Bool → NetworkBegun → Type 0
+IsNetwork has_cards (network.Head head) = IsHead head
+IsNetwork has_cards (network.Link head it) = IsHead head × IsWhole has_cards it
+IsNetwork has_cards (network.Whole head it node) = IsHead head × MayHaveNode has_cards it × IsNode node
+IsNetwork has_cards other = ⊥
+
+-- ---- other lines
+
+abbrev pub IsClients : ℕ → ClientsBegun → Type 0
+IsClients most clients.Nothing = ⊥
+IsClients most (clients.All n) = Within 1 most n
+IsClients most (clients.OfAddress n m) = Within 1 most n × Within 1 n m
+
+-- a share is no more than a rate that isn't 0; households have rates below a tunnel
+abbrev pub IsRate : Bool → RateBegun → Type 0
+IsRate is_below_tunnel rate.Nothing = ⊥
+IsRate is_below_tunnel (rate.Rate r) = r ≤ most_rate
+IsRate is_below_tunnel (rate.Share r share) = (r ≤ most_rate) × Within 1 r share
+IsRate is_below_tunnel (rate.Household r share household) = (r ≤ most_rate) × Within 1 r share × (household ≤ most_rate) × (is_below_tunnel ≡ true)
+
+abbrev pub IsMost : ℕ → ℕ → Option ℕ → Type 0
+IsMost least most None = ⊥
+IsMost least most (Some n) = Within least most n
+
+-- what a line without a list can say, read in that context
+abbrev pub IsRight : Context → Line → Type 0
+IsRight c line.Nothing = Unit {0}
+IsRight c (line.Network it) = IsNetwork c.has_cards it
+IsRight c (line.Link it) = IsWhole c.has_cards it
+IsRight c (line.Extend has_some) = ⊥
+IsRight c (line.Clients it) = (c.most_clients < 2 ^ 16) × IsClients c.most_clients it
+IsRight c (line.Allow has_some) = ⊥
+IsRight c (line.Trust has_some) = ⊥
+IsRight c (line.Rate it) = IsRate c.is_below_tunnel it
+IsRight c (line.Strangers it) = IsMost 0 most_rate it
+IsRight c (line.Kilobits it) = IsMost 1 most_kilobits it
+
+-- a range whose address is its first
+abbrev pub IsRange : HostRange → Type 0
+IsRange range = AreNumbers 4 8 range.first × (range.bits ≤ host_bits) × (is_first range ≡ true)

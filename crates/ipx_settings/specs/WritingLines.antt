@@ -1,0 +1,110 @@
+-- What is written: whole lines.
+use Rattle.std.specs.Prelude.{ℕ, true, ◌/◌, ◌%◌, ◌==◌, if◌then◌else◌, List, [], ◌∷◌, ◌++◌, flat_map, map, codes, decimal, Option, Some, None}
+use Rattle.std.specs.Fmt.{digit_glyph}
+use Rattle.std.specs.Int.{to_be_bytes, w16, w32}
+use Rattle.std.specs.Net.Text.{ipv4_text}
+use Rattle.ipx_settings.specs.WritingLinks.{link_words}
+use Rattle.ipx_settings.specs.declared.addresses.HostRange.{HostRange}
+use Rattle.ipx_settings.specs.declared.line.ClientsBegun.{ClientsBegun}
+use Rattle.ipx_settings.specs.declared.line.ClientsBegun.TheVariants as clients
+use Rattle.ipx_settings.specs.declared.line.Line.{Line}
+use Rattle.ipx_settings.specs.declared.line.Line.TheVariants as line
+use Rattle.ipx_settings.specs.declared.line.RateBegun.{RateBegun}
+use Rattle.ipx_settings.specs.declared.line.RateBegun.TheVariants as rate
+use Rattle.ipx_settings.specs.declared.link.Link.{Link}
+use Rattle.ipx_settings.specs.declared.link.LinkBegun.{LinkBegun}
+use Rattle.ipx_settings.specs.declared.link.LinkBegun.TheVariants as begun
+use Rattle.ipx_settings.specs.declared.network.Head.{Head}
+use Rattle.ipx_settings.specs.declared.network.NetworkBegun.{NetworkBegun}
+use Rattle.ipx_settings.specs.declared.network.NetworkBegun.TheVariants as network
+use Rattle.ipx_settings.specs.declared.network.Shares.{Shares}
+
+-- two digits for each byte, of upper case
+abbrev pub byte_digits : ℕ → List ℕ
+byte_digits byte = digit_glyph true (byte / 16) ∷ digit_glyph true (byte % 16) ∷ []
+
+unfoldable pub bytes_digits : List ℕ → List ℕ
+bytes_digits bytes = flat_map byte_digits bytes
+
+-- ---- networks
+
+-- a network by eight digits
+abbrev pub number_word : ℕ → List ℕ
+number_word number = bytes_digits (to_be_bytes w32 number)
+
+abbrev pub shares_words : Option Shares → List (List ℕ)
+shares_words None = []
+shares_words (Some shares) = decimal shares.routes ∷ decimal shares.services ∷ []
+
+unfoldable pub head_words : Head → List (List ℕ)
+head_words head = codes "network" ∷ number_word head.number ∷ decimal head.cost ∷ decimal head.longest ∷ shares_words head.shares
+
+abbrev pub maybe_link_words : Option Link → List (List ℕ)
+maybe_link_words None = []
+maybe_link_words (Some it) = link_words it
+
+abbrev pub begun_words : LinkBegun → List (List ℕ)
+begun_words (begun.Whole it) = link_words it
+begun_words other = []
+
+-- a node by twelve digits
+abbrev pub network_words : NetworkBegun → List (List ℕ)
+network_words (network.Head head) = head_words head
+network_words (network.Link head it) = head_words head ++ begun_words it
+network_words (network.Whole head it node) = head_words head ++ maybe_link_words it ++ codes "node" ∷ bytes_digits node ∷ []
+network_words other = []
+
+-- ---- other lines
+
+-- a number a second, which is none where it is 0
+abbrev pub rate_word : ℕ → List ℕ
+rate_word r = if r == 0 then codes "none" else decimal r
+
+abbrev pub clients_words : ClientsBegun → List (List ℕ)
+clients_words clients.Nothing = []
+clients_words (clients.All n) = decimal n ∷ []
+clients_words (clients.OfAddress n m) = decimal n ∷ decimal m ∷ []
+
+abbrev pub rates_words : RateBegun → List (List ℕ)
+rates_words rate.Nothing = []
+rates_words (rate.Rate r) = rate_word r ∷ []
+rates_words (rate.Share r share) = rate_word r ∷ decimal share ∷ []
+rates_words (rate.Household r share household) = rate_word r ∷ decimal share ∷ rate_word household ∷ []
+
+abbrev pub strangers_words : Option ℕ → List (List ℕ)
+strangers_words None = []
+strangers_words (Some r) = rate_word r ∷ []
+
+abbrev pub kilobits_words : Option ℕ → List (List ℕ)
+kilobits_words None = []
+kilobits_words (Some n) = decimal n ∷ []
+
+-- all words of a line but for lists, which are written by themselves
+abbrev pub line_words : Line → List (List ℕ)
+line_words line.Nothing = []
+line_words (line.Network it) = network_words it
+line_words (line.Link it) = codes "link" ∷ begun_words it
+line_words (line.Extend has_some) = codes "extend" ∷ []
+line_words (line.Clients it) = codes "clients" ∷ clients_words it
+line_words (line.Allow has_some) = codes "allow" ∷ []
+line_words (line.Trust has_some) = codes "trust" ∷ []
+line_words (line.Rate it) = codes "rate" ∷ rates_words it
+line_words (line.Strangers it) = codes "strangers" ∷ strangers_words it
+line_words (line.Kilobits it) = codes "line" ∷ kilobits_words it
+
+-- a socket by four digits
+abbrev pub socket_word : ℕ → List ℕ
+socket_word socket = bytes_digits (to_be_bytes w16 socket)
+
+abbrev pub range_word : HostRange → List ℕ
+range_word range = ipv4_text range.first ++ codes "/" ++ decimal range.bits
+
+-- a list behind the word that begins its line
+abbrev pub sockets_words : List ℕ → List (List ℕ)
+sockets_words sockets = codes "extend" ∷ map socket_word sockets
+
+abbrev pub allow_words : List HostRange → List (List ℕ)
+allow_words ranges = codes "allow" ∷ map range_word ranges
+
+abbrev pub trust_words : List HostRange → List (List ℕ)
+trust_words ranges = codes "trust" ∷ map range_word ranges
