@@ -11,6 +11,7 @@
 #include "ipxr.h"
 #include "ipxr_segment.h"
 #include "ipxr_settings.h"
+#include "ipxr_settings.h"
 #include "ipxr_tunnel.h"
 #include "links/kinds.h"
 #include "systems/address.h"
