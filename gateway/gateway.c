@@ -6,6 +6,7 @@
 
 #include "ipx.h"
 #include "links/ether.h"
+#include "links/extend.h"
 #include "links/links.h"
 #include "links/segment.h"
 #include "monitoring/capture.h"
@@ -27,10 +28,15 @@ enum { MOST_LATE_SECONDS = RECORD_LASTS - 1 - 2 * SAID_AGAIN };
 
 /* ---- Packets ---- */
 
+static void tell_lost(const network *on, reason why)
+{
+    note("lost on %08" PRIX32 ": %s", on->set->network, reason_words(why));
+}
+
 void gateway_lose(network *on, reason why)
 {
-    on->counts.lost[why]++;
-    note("lost on %08" PRIX32 ": %s", on->set->network, reason_words(why));
+    counts_lose(&on->counts, why);
+    tell_lost(on, why);
 }
 
 bool is_for_here(const network *on, const uint8_t *packet)
@@ -131,21 +137,55 @@ void gateway_note(const network *on, const uint8_t *packet, size_t length, const
          became);
 }
 
-void gateway_hear(gateway *it, network *on, const origin *by, const uint8_t *packet, size_t length)
+/* Whether somebody who asked waits for a packet; then he gets it. */
+static bool is_awaited(const arrived *what)
+{
+    bool is = status_hears(what->packet, what->length);
+    if (is)
+        gateway_note(what->on, what->packet, what->length, "answer");
+    return is;
+}
+
+/* The router hears a packet. Returns whether it had no memory for what it would send. */
+static bool route(gateway *it, arrived *what)
 {
     char words[WORDS];
-    if (status_hears(packet, length)) {
-        gateway_note(on, packet, length, "answer");
-        return;
-    }
-    int32_t became = ipxr_packet(&it->router, on->set->port, packet, length);
+    what->is_heard = true;
+    what->became = ipxr_packet(&it->router, what->on->set->port, what->packet, what->length);
     if (notes_events())
-        gateway_note(on, packet, length, answer_words(became, words));
-    if (became < 0)
-        gateway_lose(on, NO_MEMORY);
-    else if (IPXR_DROPPED(became))
-        count_drop(&on->counts, became);
-    send_all(it, by, packet);
+        gateway_note(what->on, what->packet, what->length, answer_words(what->became, words));
+    return what->became < 0;
+}
+
+/* (the library says in which order each is asked, and each deed done) */
+uint16_t gateway_answer(gateway *it, arrived *what, uint8_t next)
+{
+    switch (next) {
+    case IPXR_NEXT_ROUTER_IS_FOR_ALL:
+        return is_broadcast(what->packet + AT_TO_NODE) && is_for_here(what->on, what->packet) && what->length <= LONGEST;
+    case IPXR_NEXT_ROUTER_EXTEND:
+        extend(it, what->on, what->by, what->packet, what->length);
+        return 0;
+    case IPXR_NEXT_ROUTER_IS_AWAITED:
+        return is_awaited(what);
+    case IPXR_NEXT_ROUTER_HEAR:
+        return route(it, what);
+    case IPXR_NEXT_ROUTER_OUTCOME:
+        return (uint16_t)what->became;
+    }
+    return 0;
+}
+
+/* (that a client isn't answered is counted alone: whoever floods would fill the log) */
+void gateway_settle(gateway *it, const arrived *what, const ipxr_course *way)
+{
+    ipxr_counts_count(&what->on->counts.packets, way);
+    if (way->fate == IPXR_FATE_LOST && way->number != TOO_MANY_ANSWERS)
+        tell_lost(what->on, (reason)way->number);
+    if (way->fate == IPXR_FATE_HANDED_ON)
+        gateway_note(what->on, what->packet, what->length, "handed on");
+    if (what->is_heard)
+        send_all(it, what->by, what->packet);
 }
 
 /* ---- Turns ---- */

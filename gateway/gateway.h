@@ -109,8 +109,21 @@ void gateway_report(gateway *it);
 
 /* ---- Between its parts ---- */
 
-/* The router hears a packet that came on a network, and what it has to say is sent. */
-void gateway_hear(gateway *it, network *on, const origin *by, const uint8_t *packet, size_t length);
+/* A packet that came on a network. */
+typedef struct arrived {
+    network *on;
+    const origin *by;      /* who said it, or NULL where it isn't whole */
+    const uint8_t *packet; /* with so many bytes, as it says itself where it is whole */
+    size_t length;
+    bool is_heard;  /* the router heard it, */
+    int32_t became; /* and said this */
+} arrived;
+
+/* Answers what is next with a packet that the router may hear, as the library asks (ipxr_fates.h): all but the limit. */
+uint16_t gateway_answer(gateway *it, arrived *what, uint8_t next);
+
+/* A packet is at the end of its way: its fate is counted and told, and what the router has to say of it is sent. */
+void gateway_settle(gateway *it, const arrived *what, const ipxr_course *way);
 
 /* Sends what the router has to send. */
 void gateway_send_all(gateway *it);

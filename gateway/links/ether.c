@@ -3,7 +3,6 @@
 #include <inttypes.h>
 
 #include "ipx.h"
-#include "links/extend.h"
 #include "links/segment.h"
 #include "monitoring/capture.h"
 #include "monitoring/note.h"
@@ -102,23 +101,6 @@ static bool is_heard_beside(const gateway *it, const cable *carrier, uint8_t kin
     return false;
 }
 
-/* A packet came for the gateway or for all. (clients of DOSBox' receive of all who are there as much as of one address) */
-static void hear_packet(gateway *it, network *on, const origin *by, const uint8_t *packet, size_t length)
-{
-    bool is_whole = has_length(packet, length);
-    if (is_whole) {
-        reason why = throttle_hears(&on->throttle, by);
-        if (why != REASONS) {
-            gateway_lose(on, why);
-            return;
-        }
-        length = get16(packet + AT_LENGTH);
-        if (is_broadcast(packet + AT_TO_NODE) && is_for_here(on, packet) && length <= LONGEST)
-            extend(it, on, by, packet, length);
-    }
-    gateway_hear(it, on, is_whole ? by : NULL, packet, length);
-}
-
 /* Whether another link of the network has proved that a node is there: it is a client of a tunnel. */
 static bool is_client_elsewhere(gateway *it, const network *on, const uint8_t *node)
 {
@@ -150,38 +132,6 @@ static void look_for_twins(gateway *it, network *on, const uint8_t *node)
           node_words(node, words), cable_words(with->cable, with->set, other), cable_words(on->cable, on->set, link));
 }
 
-/* A packet came on one of several links, from a node for a node or for all. */
-static void hear_at_link(gateway *it, network *on, const origin *by, const uint8_t *frame, const uint8_t *packet, size_t length)
-{
-    const uint8_t *to = frame, *from = frame + NODE;
-    bool is_whole = has_length(packet, length);
-    size_t carried = is_whole ? get16(packet + AT_LENGTH) : 0;
-    if (!is_whole || carried > on->set->longest) {
-        gateway_lose(on, is_whole ? TOO_LONG : NO_IPX);
-        return;
-    }
-    if (is_in_clients_name(it, on, packet)) {
-        gateway_lose(on, FALSE_SOURCE);
-        return;
-    }
-    heard what = segment_hear(it, on, by, from, to, packet, carried);
-    if (what.by_router || what.links > 0)
-        look_for_twins(it, on, from);
-    if (what.by_router)
-        hear_packet(it, on, by, packet, length);
-    else if (what.links > 0)
-        gateway_note(on, packet, carried, "handed on");
-    else
-        gateway_lose(on, is_client_elsewhere(it, on, from) ? FALSE_SOURCE : FOR_ANOTHER);
-}
-
-/* A frame of the gateway's own came back. */
-static void hear_own(gateway *it, network *on, const uint8_t *packet, size_t length)
-{
-    if (!loop_hears(it, on, packet, length))
-        gateway_lose(on, OWN_FRAME);
-}
-
 /* Whether a frame is to be heard, as far as its kind goes: where any may come, it tells what its sender uses. */
 static bool is_of_its_kind(network *on, uint8_t kind, const uint8_t *frame, const uint8_t *packet, size_t length)
 {
@@ -207,12 +157,11 @@ static bool is_shared(const gateway *it, const network *on)
 
 /* Somebody speaks a kind of frames that no network has there. Once a minute it is told, with the words for the configuration: else old
  * computers whose kind is the wrong one would seem to be silent. */
-static void lose_other_kind(gateway *it, network *on, uint8_t kind, const uint8_t *node)
+static void tell_other_kind(const gateway *it, network *on, uint8_t kind, const uint8_t *node)
 {
     char who[WORDS], link[LINK_ROOM];
     network_setting other = *on->set;
     uint64_t now = clock_now();
-    gateway_lose(on, OTHER_KIND);
     if (on->kind_told != 0 && now - on->kind_told < BETWEEN)
         return;
     on->kind_told = now;
@@ -222,42 +171,114 @@ static void lose_other_kind(gateway *it, network *on, uint8_t kind, const uint8_
           is_shared(it, on) ? " for one more network" : ", or auto");
 }
 
-/* A packet came, and the frame may be heard. (the network itself says it, whoever is there) */
-static void hear(gateway *it, network *on, const uint8_t *frame, const uint8_t *packet, size_t length)
+/* A frame that came, and what was found of it. */
+typedef struct incoming {
+    gateway *it;
+    cable *carrier;
+    const uint8_t *frame; /* with so many bytes, of which the first MOST_RECEIVED are there */
+    size_t length;
+    uint8_t kind;
+    bool is_there;   /* a network has such frames on the cable */
+    bool is_whole;   /* it holds a packet with its length, */
+    size_t rest;     /* and bytes behind its front, padding too */
+    origin by;       /* who said it: the network itself, whoever is there */
+    heard on_links;  /* what came of it at the other links */
+    arrived carried; /* what it carries */
+} incoming;
+
+/* Why a frame goes nowhere; REASONS where it does. From here on its packet is looked at. */
+static reason lets_in(incoming *in)
 {
-    origin by = {.speaks = &on->speaks, .kind = ipxr_kind_of(packet, length)};
-    reason why = throttle_lets_in(&on->throttle, by.kind);
-    if (why != REASONS)
-        gateway_lose(on, why);
-    else if (on->segment != NULL)
-        hear_at_link(it, on, &by, frame, packet, length);
-    else
-        hear_packet(it, on, &by, packet, length);
+    arrived *what = &in->carried;
+    in->by = (origin){.speaks = &what->on->speaks, .kind = ipxr_kind_of(what->packet, in->rest)};
+    in->is_whole = has_length(what->packet, in->rest);
+    what->length = in->is_whole ? get16(what->packet + AT_LENGTH) : in->rest;
+    what->by = in->is_whole ? &in->by : NULL;
+    return throttle_lets_in(&what->on->throttle, in->by.kind);
+}
+
+/* A packet goes from a node to a node, or to all, on the other links that get it. */
+static void put_on_links(incoming *in)
+{
+    const arrived *what = &in->carried;
+    in->on_links = segment_hear(in->it, what->on, &in->by, in->frame + NODE, in->frame, what->packet, what->length);
+    if (in->on_links.by_router || in->on_links.links > 0)
+        look_for_twins(in->it, what->on, in->frame + NODE);
+}
+
+/* Answers what is next with a packet whose network has several links, or this one. */
+static uint16_t answer_carried(incoming *in, uint8_t next)
+{
+    arrived *what = &in->carried;
+    switch (next) {
+    case IPXR_NEXT_FRAME_HAS_LINKS:
+        return what->on->segment != NULL;
+    case IPXR_NEXT_FRAME_IS_PACKET:
+    case IPXR_NEXT_FRAME_IS_WHOLE:
+        return in->is_whole;
+    case IPXR_NEXT_FRAME_IS_BEYOND_LINK:
+        return what->length > what->on->set->longest;
+    case IPXR_NEXT_FRAME_NAMES_CLIENT:
+        return is_in_clients_name(in->it, what->on, what->packet);
+    case IPXR_NEXT_FRAME_PUT_ON_LINKS:
+        put_on_links(in);
+        return 0;
+    case IPXR_NEXT_FRAME_IS_FOR_ROUTER:
+        return in->on_links.by_router;
+    case IPXR_NEXT_FRAME_WAS_PUT:
+        return in->on_links.links > 0;
+    case IPXR_NEXT_FRAME_IS_FROM_CLIENT:
+        return is_client_elsewhere(in->it, what->on, in->frame + NODE);
+    case IPXR_NEXT_ROUTER_LETS_HEAR:
+        return (uint16_t)throttle_hears(&what->on->throttle, &in->by);
+    }
+    return gateway_answer(in->it, what, next);
+}
+
+/* Answers what is next with a frame. */
+static uint16_t answer(incoming *in, uint8_t next)
+{
+    network *on = in->carried.on;
+    const uint8_t *to = in->frame, *from = in->frame + NODE, *packet = in->carried.packet;
+    switch (next) {
+    case IPXR_NEXT_FRAME_IS_FRAME:
+        return in->kind != IPXR_NO_FRAME;
+    case IPXR_NEXT_FRAME_HAS_NETWORK:
+        return in->is_there;
+    case IPXR_NEXT_FRAME_IS_HEARD_BESIDE:
+        return is_heard_beside(in->it, in->carrier, in->kind);
+    case IPXR_NEXT_FRAME_IS_TOO_LONG:
+        return in->length > IPXR_LONGEST_FRAME;
+    case IPXR_NEXT_FRAME_IS_OWN:
+        return same_node(from, on->node);
+    case IPXR_NEXT_FRAME_IS_PROBE:
+        return loop_hears(in->it, on, packet, in->rest);
+    case IPXR_NEXT_FRAME_IS_OF_ITS_KIND:
+        return is_of_its_kind(on, in->kind, in->frame, packet, in->rest);
+    case IPXR_NEXT_FRAME_IS_FOR_ANOTHER:
+        return on->segment == NULL && !is_broadcast(to) && !same_node(to, on->node);
+    case IPXR_NEXT_FRAME_CAPTURE:
+        capture_frame(in->frame, in->length);
+        return 0;
+    case IPXR_NEXT_FRAME_LETS_IN:
+        return (uint16_t)lets_in(in);
+    }
+    return answer_carried(in, next);
 }
 
 void ether_hear(gateway *it, cable *carrier, const uint8_t *frame, size_t length)
 {
-    bool is_there = false;
+    ipxr_course way;
     size_t front = 0;
-    uint8_t kind = ipxr_frame_read(frame, length < MOST_RECEIVED ? length : MOST_RECEIVED, &front);
-    network *on = network_of(it, carrier, kind, &is_there);
-    if (kind != IPXR_NO_FRAME && !is_there && is_heard_beside(it, carrier, kind))
-        return;
-    on->counts.in++;
-    if (kind == IPXR_NO_FRAME)
-        gateway_lose(on, NO_IPX);
-    else if (!is_there)
-        lose_other_kind(it, on, kind, frame + NODE);
-    else if (length > IPXR_LONGEST_FRAME)
-        gateway_lose(on, TOO_LONG);
-    else if (same_node(frame + NODE, on->node))
-        hear_own(it, on, frame + front, length - front);
-    else if (!is_of_its_kind(on, kind, frame, frame + front, length - front))
-        gateway_lose(on, SECOND_KIND);
-    else if (on->segment == NULL && !is_broadcast(frame) && !same_node(frame, on->node))
-        gateway_lose(on, FOR_ANOTHER);
-    else {
-        capture_frame(frame, length);
-        hear(it, on, frame, frame + front, length - front);
-    }
+    incoming in = {.it = it, .carrier = carrier, .frame = frame, .length = length};
+    in.kind = ipxr_frame_read(frame, length < MOST_RECEIVED ? length : MOST_RECEIVED, &front);
+    in.carried.on = network_of(it, carrier, in.kind, &in.is_there);
+    in.carried.packet = frame + front;
+    in.rest = length - front;
+    ipxr_course_of_frame(&way);
+    while (way.next != IPXR_NEXT_END)
+        ipxr_course_answer(&way, answer(&in, way.next));
+    gateway_settle(it, &in.carried, &way);
+    if (way.fate == IPXR_FATE_LOST && way.number == OTHER_KIND)
+        tell_other_kind(it, in.carried.on, in.kind, frame + NODE);
 }

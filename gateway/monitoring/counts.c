@@ -41,29 +41,31 @@ const char *reason_words(reason why)
 
 void counts_add(counts *it, const counts *other)
 {
-    it->in += other->in;
+    it->packets.in += other->packets.in;
     it->out += other->out;
     it->extended += other->extended;
     it->refused += other->refused;
     for (size_t why = 0; why < REASONS; why++)
-        it->lost[why] += other->lost[why];
-    for (size_t answer = 0; answer < MOST_HUNDREDS * MOST_REST; answer++)
-        it->dropped[answer / MOST_REST][answer % MOST_REST] += other->dropped[answer / MOST_REST][answer % MOST_REST];
+        it->packets.lost[why] += other->packets.lost[why];
+    for (size_t drop = 0; drop < IPXR_DROPS; drop++)
+        it->packets.dropped[drop] += other->packets.dropped[drop];
 }
 
-void count_drop(counts *it, int32_t answer)
+/* (all that the router can say has a place) */
+typedef char has_all_drops[(IPXR_LAST_DROP / 100 + 1) * MOST_REST == IPXR_DROPS ? 1 : -1];
+
+int32_t drop_at(size_t place)
 {
-    if (answer / 100 < MOST_HUNDREDS && answer % 100 < MOST_REST)
-        it->dropped[answer / 100][answer % 100]++;
+    return (int32_t)(place / MOST_REST * 100 + place % MOST_REST);
 }
 
 void counts_show(const counts *it)
 {
     char words[WORDS];
     for (int why = 0; why < REASONS; why++)
-        if (it->lost[why] > 0)
-            say("  lost: %s: %" PRIu64, WORDS_OF[why], it->lost[why]);
-    for (int answer = 0; answer < MOST_HUNDREDS * 100; answer++)
-        if (answer % 100 < MOST_REST && it->dropped[answer / 100][answer % 100] > 0)
-            say("  %s: %" PRIu64, answer_words(answer, words), it->dropped[answer / 100][answer % 100]);
+        if (it->packets.lost[why] > 0)
+            say("  lost: %s: %" PRIu64, WORDS_OF[why], it->packets.lost[why]);
+    for (size_t drop = 0; drop < IPXR_DROPS; drop++)
+        if (it->packets.dropped[drop] > 0)
+            say("  %s: %" PRIu64, answer_words(drop_at(drop), words), it->packets.dropped[drop]);
 }

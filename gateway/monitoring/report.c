@@ -17,7 +17,7 @@ static void show_network(network *on)
         set->longest, cable_words(on->cable, on->set, words), node_words(on->node, node));
     if (set->socket_count > 0)
         snprintf(extended, sizeof extended, ", extended %" PRIu64, on->counts.extended);
-    say("  in %" PRIu64 ", out %" PRIu64 "%s", on->counts.in, on->counts.out, extended);
+    say("  in %" PRIu64 ", out %" PRIu64 "%s", on->counts.packets.in, on->counts.out, extended);
     counts_show(&on->counts);
     if (set->kind == ANY_KIND)
         say("  kinds: %s", kinds_words(&on->kinds, kinds));

@@ -9,7 +9,7 @@
 
 /* What is counted of a network, by number: what came, what left, copies of broadcasts, connections that were refused, what was lost, and
  * what the router dropped. Behind it what isn't counted, but is so now. */
-enum { IN, OUT, EXTENDED, REFUSED, LOST, DROPPED = LOST + REASONS, COUNTED = DROPPED + MOST_HUNDREDS * MOST_REST, UP = COUNTED, CLIENTS };
+enum { IN, OUT, EXTENDED, REFUSED, LOST, DROPPED = LOST + REASONS, COUNTED = DROPPED + IPXR_DROPS, UP = COUNTED, CLIENTS };
 
 const column COUNT_COLUMNS[] = {{"network", "NETWORK", 8}, {"count", "COUNT", 33}, {"number", "NUMBER", 0}, {0}};
 
@@ -18,7 +18,7 @@ static uint64_t value_on(network *on, size_t index)
     const counts *it = &on->counts;
     switch (index) {
     case IN:
-        return it->in;
+        return it->packets.in;
     case OUT:
         return it->out;
     case EXTENDED:
@@ -30,7 +30,7 @@ static uint64_t value_on(network *on, size_t index)
     case CLIENTS:
         return ipxr_tunnel_clients(&on->tunnel);
     default:
-        return index < DROPPED ? it->lost[index - LOST] : it->dropped[(index - DROPPED) / MOST_REST][(index - DROPPED) % MOST_REST];
+        return index < DROPPED ? it->packets.lost[index - LOST] : it->packets.dropped[index - DROPPED];
     }
 }
 
@@ -49,7 +49,7 @@ static const char *name_of(size_t index, char words[WORDS])
 {
     static const char *const NAMES[] = {[IN] = "in", [OUT] = "out", [EXTENDED] = "extended", [REFUSED] = "refused"};
     if (index >= DROPPED)
-        return answer_words((int32_t)((index - DROPPED) / MOST_REST * 100 + (index - DROPPED) % MOST_REST), words);
+        return answer_words(drop_at(index - DROPPED), words);
     return index >= LOST ? reason_words((reason)(index - LOST)) : NAMES[index];
 }
 

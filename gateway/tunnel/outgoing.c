@@ -9,7 +9,7 @@ static void refuse(network *on, const address *to)
     uint8_t place[NODE];
     place_of(to, place);
     member *client = roster_find(&on->roster, place);
-    on->counts.lost[NOT_SENT]++;
+    counts_lose(&on->counts, NOT_SENT);
     if (client != NULL)
         client->refused++;
 }

@@ -10,7 +10,6 @@
 #include "ipx.h"
 #include "limits/strangers.h"
 #include "limits/throttle.h"
-#include "links/extend.h"
 #include "links/segment.h"
 #include "monitoring/capture.h"
 #include "monitoring/events.h"
@@ -87,7 +86,7 @@ static reason why_not(network *on, const uint8_t place[NODE], uint8_t queue, siz
     reason why = has_room ? throttle_receives(&on->throttle, to, queue, length) : TOO_MUCH_FOR_LINE;
     if (why != REASONS) {
         to->dropped[DROPPED_FOR_IT]++;
-        on->counts.lost[why]++;
+        counts_lose(&on->counts, why);
     } else if (to->is_by_line) {
         line_send(&to->speaks->line);
     }
@@ -248,70 +247,67 @@ ipxr_sender tunnel_sender(const gateway *it, const network *on, const address *f
     return sender;
 }
 
-/* Why nothing became of what somebody said; REASONS, which is none, where something did. */
-static reason why_lost(network *on, bool is_client, int32_t said, bool is_packet)
+/* A datagram that came, and what was found of it. */
+typedef struct incoming {
+    gateway *it;
+    const address *from;
+    ipxr_sender sender;
+    uint8_t *bytes;
+    size_t length;
+    int32_t said;         /* what the tunnel took it for; */
+    bool has_own;         /* whether this has a datagram of its own for its sender, */
+    bool is_received;     /* clients get it, */
+    bool is_for_router;   /* or the router hears it */
+    member *client;       /* its sender, where he is one */
+    bool is_carried;      /* somebody got it */
+    origin by;            /* who said it, where it is a client; */
+    arrived carried;      /* and what he said */
+} incoming;
+
+/* Whether a client did what its ping asks for: it answered, or said anything where its address is trusted. */
+static bool has_replied(const member *from, int32_t said)
 {
-    bool is_answered = ipxr_tunnel_owns(&on->tunnel) > 0;
-    if (ipxr_tunnel_receivers(&on->tunnel) > 0 || ipxr_tunnel_is_heard(&on->tunnel) == 1)
-        return REASONS;
-    switch (said) {
-    case IPXR_REGISTERS:
-        return is_answered ? REASONS : NO_ROOM;
-    case IPXR_ANSWERS:
-        return is_client ? REASONS : NO_ROOM;
-    case IPXR_SPEAKS:
-        if (is_client)
-            return is_answered || on->segment != NULL ? REASONS : NO_CLIENT; /* (other links may have the node) */
-        return is_answered ? STRANGER : NO_ROOM;
-    default:
-        return is_packet ? FALSE_SOURCE : NO_IPX;
-    }
+    return said == IPXR_ANSWERS || (from->is_trusted && said != IPXR_SAID_NOTHING);
 }
 
-/* Answers a client's registration or ping. (somebody may ask in its name, so that it would hear nothing else) */
-static void answer_client(network *on, member *to)
+/* The tunnel hears a datagram, which may make its sender a client. (a driver clears its control; DOSBox' leaves there what the program left) */
+static void let_tunnel_hear(incoming *in)
 {
-    if (ipxr_tunnel_owns(&on->tunnel) == 0)
+    network *on = in->carried.on;
+    if (in->length >= HEADER)
+        in->bytes[AT_CONTROL] = 0;
+    size_t before = ipxr_tunnel_clients(&on->tunnel);
+    in->said = ipxr_tunnel_hear(&on->tunnel, &in->sender, in->bytes, in->length);
+    in->carried.length = ipxr_tunnel_carried(&on->tunnel);
+    in->has_own = ipxr_tunnel_owns(&on->tunnel) > 0;
+    in->is_received = ipxr_tunnel_receivers(&on->tunnel) > 0;
+    in->is_for_router = ipxr_tunnel_is_heard(&on->tunnel) == 1;
+    if (ipxr_tunnel_clients(&on->tunnel) > before)
+        tunnel_tell_comes(on, in->sender.place);
+    in->client = roster_find(&on->roster, in->sender.place);
+    if (in->client == NULL)
         return;
+    in->by = (origin){in->client->speaks, in->client, ipxr_kind_of(in->bytes, in->carried.length)};
+    if (has_replied(in->client, in->said))
+        ipxr_asked_answer(&in->client->ping.moment);
+    if (in->said != IPXR_SAID_NOTHING)
+        segment_client(on, in->client->place, true); /* (it may be a client at another link of the network, too) */
+}
+
+/* Whether a client's registration or ping is answered now. (somebody may ask in its name, so that it would hear nothing else) */
+static bool lets_answer(network *on, member *to)
+{
     bool has_room = on->set->kilobits == 0 || line_lets_own();
-    if (has_room && throttle_lets_answer(&on->throttle, to))
-        send_own(on, true);
-    else
-        on->counts.lost[TOO_MANY_ANSWERS]++;
+    return has_room && throttle_lets_answer(&on->throttle, to);
 }
 
-/* Answers a stranger, and pings him; who registers is pinged again. Returns false where too many strangers were answered lately. */
-static bool answer_stranger(network *on, const uint8_t place[NODE], bool registers)
+/* Answers a stranger who registers, and pings him; he is pinged again. */
+static void answer_stranger(network *on)
 {
-    uint32_t count = (uint32_t)ipxr_tunnel_owns(&on->tunnel);
     ipxr_own last;
-    if (count == 0)
-        return true;
-    if (!lets_stranger(on, place, count))
-        return false;
     send_own(on, false);
-    if (registers && ipxr_tunnel_own(&on->tunnel, count - 1, &last) == 0 && is_broadcast(last.bytes + AT_TO_NODE))
+    if (ipxr_tunnel_own(&on->tunnel, ipxr_tunnel_owns(&on->tunnel) - 1, &last) == 0 && is_broadcast(last.bytes + AT_TO_NODE))
         strangers_keep(&on->strangers, &last);
-    return true;
-}
-
-/* A client as the one who said a packet. */
-static origin origin_of(member *from, const uint8_t *packet, size_t length)
-{
-    return (origin){.speaks = from->speaks, .client = from, .kind = ipxr_kind_of(packet, length)};
-}
-
-/* What a client said goes to the router, and to other networks where it is extended. */
-static void pass_on(gateway *it, network *on, const origin *by, const uint8_t *packet, size_t length)
-{
-    reason why = throttle_hands(&on->throttle, by);
-    if (why != REASONS) {
-        gateway_lose(on, why);
-        return;
-    }
-    if (is_broadcast(packet + AT_TO_NODE) && is_for_here(on, packet))
-        extend(it, on, by, packet, length);
-    gateway_hear(it, on, by, packet, length);
 }
 
 /* What a client said goes to the other links of its network. Returns whether any of them gets it. */
@@ -324,81 +320,106 @@ static bool carry_over(gateway *it, network *on, const origin *by, const uint8_t
     return segment_hear(it, on, by, by->client->place, to, packet, length).links > 0;
 }
 
+/* Sends what a client said before the router, which sends too, hears it. */
+static void carry(incoming *in)
+{
+    arrived *what = &in->carried;
+    in->client->dropped[DROPPED_OF_IT] += send_carried(what->on, what->by, what->packet, what->length);
+    in->is_carried = carry_over(in->it, what->on, what->by, what->packet, what->length) || in->is_received;
+}
+
 /* Whether it is for routers of another network. Where it names no network as its source, they would take it for a neighbour's, and learn
  * beyond what this network may advertise; nobody else than routers says such a thing, which they say to their own networks. */
-static bool is_for_far_routers(const network *on, const uint8_t *packet)
+static bool is_for_far_routers(incoming *in)
 {
-    uint16_t socket = get16(packet + AT_TO_SOCKET);
-    return (socket == IPXR_RIP_SOCKET || socket == IPXR_SAP_SOCKET) && !is_for_here(on, packet);
+    uint16_t socket = get16(in->bytes + AT_TO_SOCKET);
+    bool is = (socket == IPXR_RIP_SOCKET || socket == IPXR_SAP_SOCKET) && !is_for_here(in->carried.on, in->bytes);
+    in->client->dropped[DROPPED_FOR_ROUTER] += is;
+    return is;
 }
 
-/* Why what a client said is dropped before anybody gets it; REASONS where it isn't. */
-static reason why_not_said(network *on, const origin *by, const uint8_t *packet)
+/* Answers what is next with what a client says to others. (behind the tunnel, which has noted that a client answers: no limit drops that) */
+static uint16_t answer_word(incoming *in, uint8_t next)
 {
-    if (!is_for_far_routers(on, packet))
-        return throttle_lets_say(&on->throttle, by);
-    by->client->dropped[DROPPED_FOR_ROUTER]++;
-    return FOR_FAR_ROUTERS;
-}
-
-/* Sends what a client said before the router, which sends too, hears it. */
-static void carry(gateway *it, network *on, member *from, const uint8_t *packet, size_t length)
-{
-    bool is_heard = ipxr_tunnel_is_heard(&on->tunnel) == 1;
-    origin by = origin_of(from, packet, length);
-    reason why = why_not_said(on, &by, packet);
-    if (why != REASONS) {
-        gateway_lose(on, why);
-        return;
+    network *on = in->carried.on;
+    switch (next) {
+    case IPXR_NEXT_WORD_IS_PING:
+        return in->has_own;
+    case IPXR_NEXT_WORD_LETS_REPLY:
+        return lets_answer(on, in->client);
+    case IPXR_NEXT_WORD_REPLY:
+        send_own(on, true);
+        return 0;
+    case IPXR_NEXT_WORD_LEAVE_UNANSWERED:
+        counts_lose(&on->counts, TOO_MANY_ANSWERS);
+        return 0;
+    case IPXR_NEXT_WORD_IS_FOR_SOMEBODY:
+        return in->is_received || in->is_for_router || on->segment != NULL; /* (other links may have the node) */
+    case IPXR_NEXT_WORD_IS_FOR_FAR_ROUTERS:
+        return is_for_far_routers(in);
+    case IPXR_NEXT_WORD_LETS_SAY:
+        return (uint16_t)throttle_lets_say(&on->throttle, &in->by);
+    case IPXR_NEXT_WORD_CARRY:
+        carry(in);
+        return 0;
+    case IPXR_NEXT_WORD_IS_HEARD:
+        return in->is_for_router;
+    case IPXR_NEXT_WORD_WAS_CARRIED:
+        return in->is_carried || on->segment == NULL;
+    case IPXR_NEXT_ROUTER_LETS_HEAR:
+        return (uint16_t)throttle_hands(&on->throttle, &in->by);
     }
-    bool is_received = ipxr_tunnel_receivers(&on->tunnel) > 0;
-    from->dropped[DROPPED_OF_IT] += send_carried(on, &by, packet, length);
-    is_received = carry_over(it, on, &by, packet, length) || is_received;
-    if (is_heard)
-        pass_on(it, on, &by, packet, length);
-    else if (is_received || on->segment == NULL)
-        gateway_note(on, packet, length, "handed on");
-    else
-        gateway_lose(on, NO_CLIENT);
+    return gateway_answer(in->it, &in->carried, next);
 }
 
-/* Whether a client did what its ping asks for: it answered, or said anything where its address is trusted. */
-static bool has_replied(const member *from, int32_t said)
+/* Answers what is next with a datagram. */
+static uint16_t answer(incoming *in, uint8_t next)
 {
-    return said == IPXR_ANSWERS || (from->is_trusted && said != IPXR_SAID_NOTHING);
+    network *on = in->carried.on;
+    switch (next) {
+    case IPXR_NEXT_DATAGRAM_IS_TOO_LONG:
+        return in->length > on->set->longest;
+    case IPXR_NEXT_DATAGRAM_CAPTURE:
+        capture_packet(in->bytes, in->length, in->sender.place);
+        return 0;
+    case IPXR_NEXT_DATAGRAM_IS_ALLOWED:
+        return tunnel_lets_in(on->set, in->from);
+    case IPXR_NEXT_DATAGRAM_HEAR:
+        let_tunnel_hear(in);
+        return (uint16_t)in->said;
+    case IPXR_NEXT_DATAGRAM_IS_PACKET:
+        return has_length(in->bytes, in->length);
+    case IPXR_NEXT_DATAGRAM_IS_ANSWERED:
+    case IPXR_NEXT_DATAGRAM_IS_PINGED:
+        return in->has_own;
+    case IPXR_NEXT_DATAGRAM_IS_CLIENT:
+    case IPXR_NEXT_DATAGRAM_IS_CLIENT_NOW:
+    case IPXR_NEXT_DATAGRAM_IS_FROM_CLIENT:
+        return in->client != NULL;
+    case IPXR_NEXT_DATAGRAM_LETS_ANSWER:
+        return lets_answer(on, in->client);
+    case IPXR_NEXT_DATAGRAM_ANSWER:
+        send_own(on, true);
+        return 0;
+    case IPXR_NEXT_DATAGRAM_LETS_STRANGER:
+    case IPXR_NEXT_DATAGRAM_LETS_PING:
+        return lets_stranger(on, in->sender.place, (uint32_t)ipxr_tunnel_owns(&on->tunnel));
+    case IPXR_NEXT_DATAGRAM_ANSWER_STRANGER:
+        answer_stranger(on);
+        return 0;
+    case IPXR_NEXT_DATAGRAM_PING:
+        send_own(on, false);
+        return 0;
+    }
+    return answer_word(in, next);
 }
 
-/* (behind the tunnel, which has noted that a client answers: no limit drops that) */
-static void hear(gateway *it, network *on, const ipxr_sender *sender, const uint8_t *bytes, size_t length)
-{
-    size_t before = ipxr_tunnel_clients(&on->tunnel);
-    int32_t said = ipxr_tunnel_hear(&on->tunnel, sender, bytes, length);
-    size_t carried = ipxr_tunnel_carried(&on->tunnel);
-    if (ipxr_tunnel_clients(&on->tunnel) > before)
-        tunnel_tell_comes(on, sender->place);
-    member *from = roster_find(&on->roster, sender->place);
-    reason why = why_lost(on, from != NULL, said, has_length(bytes, length));
-    if (from != NULL) {
-        if (has_replied(from, said))
-            ipxr_asked_answer(&from->ping.moment);
-        if (said != IPXR_SAID_NOTHING)
-            segment_client(on, from->place, true); /* (it may be a client at another link of the network, too) */
-        answer_client(on, from);
-    } else if (!answer_stranger(on, sender->place, said == IPXR_REGISTERS))
-        why = TOO_MANY_STRANGERS;
-    if (why != REASONS)
-        gateway_lose(on, why);
-    else if (said == IPXR_SPEAKS && from != NULL)
-        carry(it, on, from, bytes, carried);
-}
-
-/* Counts a datagram from an address that isn't allowed, and tells it: it may be a friend's new one. */
-static void refuse(network *on, const address *from)
+/* Tells of an address that isn't allowed: it may be a friend's new one. */
+static void tell_refused(network *on, const address *from)
 {
     char who[ADDRESS_ROOM];
     uint64_t now = clock_now();
     bool is_same = memcmp(on->refused, from->host, sizeof on->refused) == 0;
-    gateway_lose(on, NOT_ALLOWED);
     if (on->refusal_told != 0 && now - on->refusal_told < (is_same ? BETWEEN_SAME : BETWEEN))
         return;
     memcpy(on->refused, from->host, sizeof on->refused);
@@ -408,21 +429,15 @@ static void refuse(network *on, const address *from)
 
 void tunnel_hear(gateway *it, network *on, uint8_t *bytes, size_t length, const address *from)
 {
-    ipxr_sender sender = tunnel_sender(it, on, from);
-    on->counts.in++;
-    if (length > on->set->longest) {
-        gateway_lose(on, TOO_LONG);
-        return;
-    }
-    capture_packet(bytes, length, sender.place);
-    if (!tunnel_lets_in(on->set, from)) {
-        refuse(on, from);
-        return;
-    }
-    /* (a driver clears it; DOSBox' leaves there what the program left) */
-    if (length >= HEADER)
-        bytes[AT_CONTROL] = 0;
-    hear(it, on, &sender, bytes, length);
+    ipxr_course way;
+    incoming in = {.it = it, .from = from, .sender = tunnel_sender(it, on, from), .bytes = bytes, .length = length};
+    in.carried = (arrived){.on = on, .by = &in.by, .packet = bytes};
+    ipxr_course_of_datagram(&way);
+    while (way.next != IPXR_NEXT_END)
+        ipxr_course_answer(&way, answer(&in, way.next));
+    gateway_settle(it, &in.carried, &way);
+    if (way.fate == IPXR_FATE_LOST && way.number == NOT_ALLOWED)
+        tell_refused(on, from);
 }
 
 /* ---- Reports ---- */

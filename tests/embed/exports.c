@@ -1,14 +1,15 @@
 /* Calls every export of the headers, and is made of these alone. Each argument and each field has a value of its own, and what each call
  * answers is read back: the first wrong answer is named, and the program ends with 1. dev/exports sees that it fails where two exports,
  * two arguments or two fields are exchanged. What is wanted was given here, or follows from the documents: docs/PACKETS.md,
- * docs/ROUTER.md, docs/TUNNEL.md, docs/SEGMENT.md, docs/RELOAD.md, docs/GATEWAY-REFERENCE.md, docs/FAIR.md, docs/LIMITS.md and
- * docs/CABLE.md. */
+ * docs/ROUTER.md, docs/TUNNEL.md, docs/SEGMENT.md, docs/RELOAD.md, docs/GATEWAY-REFERENCE.md, docs/FAIR.md, docs/LIMITS.md,
+ * docs/CABLE.md and docs/FATES.md. */
 #include <stdio.h>
 #include <stdlib.h>
 #include <string.h>
 
 #include "ipxr_cable.h"
 #include "ipxr_configuration.h"
+#include "ipxr_fates.h"
 #include "ipxr_limits.h"
 #include "ipxr_plan.h"
 #include "ipxr_segment.h"
@@ -1322,6 +1323,56 @@ static void own_nodes(void)
     WROTE_BYTES("B1B2B3B4B5B6", node);
     CALLS(ipxr_node_choose(0, 0, 0, SAID, NO_CARD, hash, node));
     WROTE_BYTES("027766554433", node);
+/* ---- Fates ---- */
+
+/* A frame of the gateway's own, and one of several links that the router drops. */
+static void a_frame(void)
+{
+    static const uint16_t OWN[5] = {1, 1, 0, 2, 0}, ROUTED[17] = {1, 1, 0, 0, 1, 0, 0, IPXR_NO_REASON, 1, 1, 0, 0, 0, 1, IPXR_NO_REASON, 0, 0};
+    ipxr_course way = {9, 9, 9}, other;
+    ipxr_counts counts;
+    memset(&counts, 0, sizeof counts);
+    CALLS(ipxr_course_of_frame(&way));
+    WROTE(IPXR_NEXT_FRAME_IS_FRAME, way.next);
+    WROTE(0, way.fate);
+    WROTE(0, way.number);
+    other = way;
+    for (size_t k = 0; k < 5; k++)
+        CALLS(ipxr_course_answer(&way, OWN[k]));
+    WROTE(IPXR_NEXT_END, way.next);
+    WROTE(IPXR_FATE_LOST, way.fate);
+    WROTE(IPXR_LOST_OWN_FRAME, way.number);
+    CALLS(ipxr_counts_count(&counts, &way));
+    CALLS(ipxr_counts_count(&counts, &other));
+    WROTE(1, counts.in);
+    WROTE(1, counts.lost[IPXR_LOST_OWN_FRAME]);
+    for (size_t k = 0; k < 17; k++)
+        CALLS(ipxr_course_answer(&other, ROUTED[k]));
+    WROTE(IPXR_NEXT_ROUTER_HEAR, other.next);
+    CALLS(ipxr_course_answer(&other, 0));
+    CALLS(ipxr_course_answer(&other, IPXR_BAD_SAP_OPERATION));
+    WROTE(IPXR_FATE_DROPPED, other.fate);
+    WROTE(IPXR_BAD_SAP_OPERATION, other.number);
+    CALLS(ipxr_counts_count(&counts, &other));
+    WROTE(2, counts.in);
+    WROTE(1, counts.dropped[122]);
+    CALLS(ipxr_counts_lose(&counts, IPXR_LOST_NOT_SENT));
+    CALLS(ipxr_counts_lose(&counts, IPXR_NO_REASON));
+    WROTE(1, counts.lost[IPXR_LOST_NOT_SENT]);
+    WROTE(2, counts.in);
+}
+
+/* A client's word for routers of another network. */
+static void a_datagram(void)
+{
+    static const uint16_t FAR[8] = {0, 0, 1, IPXR_SPEAKS, 1, 0, 1, 1};
+    ipxr_course way;
+    CALLS(ipxr_course_of_datagram(&way));
+    WROTE(IPXR_NEXT_DATAGRAM_IS_TOO_LONG, way.next);
+    for (size_t k = 0; k < 8; k++)
+        CALLS(ipxr_course_answer(&way, FAR[k]));
+    WROTE(IPXR_FATE_LOST, way.fate);
+    WROTE(IPXR_LOST_FOR_FAR_ROUTERS, way.number);
 }
 
 /* ---- Lines of a configuration ---- */
@@ -1620,6 +1671,8 @@ int main(void)
     twins();
     who_is_asked_again();
     own_nodes();
+    a_frame();
+    a_datagram();
     a_line();
     a_configuration();
     return 0;

@@ -10,9 +10,9 @@ from systems import HEADERS
 from telling import has, left_out, prints, quietly, succeeds, tell
 
 STRICT = ["-Wall", "-Wextra", "-Wpedantic", "-Wconversion", "-Werror"]
-ROUTER, TUNNEL, SEGMENT, PLAN, SETTINGS, FAIR, LIMITS, CABLE, CONFIGURATION = HEADERS
+ROUTER, TUNNEL, SEGMENT, PLAN, SETTINGS, FAIR, LIMITS, CABLE, CONFIGURATION, FATES = HEADERS
 # Numbers with words: all of the router's, and those of the others that a call answers. The kinds of frames, what a datagram said, what a
-# link is, what limits say of a packet, and what a probe does have no words.
+# link is, what limits say of a packet, what a probe does, and what is next with a packet have no words.
 ANSWERS = {
     ROUTER: re.compile(r"(?m)^(?!.*_FRAME)#define (IPXR_[A-Z_]+) +\(?-?[0-9]+\)? +/\*"),
     TUNNEL: re.compile(r"(?m)^#define (IPXR_[A-Z_]+) +\(-[0-9]+\) +/\*"),
@@ -56,19 +56,23 @@ ALTERED = (
     (CONFIGURATION, "ipxr_link_setting list[64]", "ipxr_link_setting list[63]"),
     (CONFIGURATION, "uint8_t above; ", "uint16_t above; "),
     (CONFIGURATION, "size_t line, uint8_t has_cards", "uint8_t has_cards, size_t line"),
+    (FATES, "uint16_t number; /*", "uint8_t number; /*"),
+    (FATES, "uint64_t lost[26];", "uint64_t lost[25];"),
+    (FATES, "ipxr_counts *counts, uint8_t why", "ipxr_counts *counts, uint16_t why"),
 )
 STANDARDS = {
     "c": (("gcc", "clang"), ("c89", "c99", "c11", "c17", "c2x")),
     "c++": (("g++", "clang++"), ("c++98", "c++11", "c++14", "c++17", "c++20", "c++2b")),
 }
 PROGRAMS = ("every_standard", "every_standard_tunnel", "every_standard_segment", "every_standard_plan", "every_standard_settings",
-            "every_standard_fair", "every_standard_limits", "every_standard_cable", "every_standard_configuration")
+            "every_standard_fair", "every_standard_limits", "every_standard_cable", "every_standard_configuration",
+            "every_standard_fates")
 # What those programs show, where they run.
 SHOWN = ("an empty handle, a text and a router of one port", "an empty handle of a tunnel, and a tunnel",
          "an empty handle of a segment, and a segment", "a plan", "a line of a configuration",
          "a receiver of zeros, a receiver and a meter", "limits, and what they let pass",
          "kinds of frames, two links that are one cable, a range, a pace, a node that moves, and who is asked again",
-         "a configuration of two networks")
+         "a configuration of two networks", "the way of a packet, and counts")
 
 BEGIN = """\
 #include <stdio.h>
@@ -79,6 +83,7 @@ BEGIN = """\
 #include "ipxr_limits.h"
 #include "ipxr_cable.h"
 #include "ipxr_configuration.h"
+#include "ipxr_fates.h"
 typedef void call(void);
 call *const calls[] = {
 """

@@ -36,6 +36,9 @@ pub mod ConfigurationValues
 -- a gateway's limits: numbers
 pub mod LimitValues
 pub mod CableValues
+-- the ways and fates of packets: numbers
+pub mod CourseValues
+pub mod CountValues
 -- broadcasts that are copied to another network
 pub mod Extends
 -- nothing that a public contract says

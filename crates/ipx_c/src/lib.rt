@@ -1,5 +1,5 @@
 //! The router for C, and for whatever can call C: a static library, whose headers are `ipxr.h`, `ipxr_tunnel.h`, `ipxr_segment.h`,
-//! `ipxr_plan.h`, `ipxr_settings.h`, `ipxr_fair.h`, `ipxr_limits.h` and `ipxr_cable.h` in `include/`.
+//! `ipxr_plan.h`, `ipxr_settings.h`, `ipxr_fair.h`, `ipxr_limits.h`, `ipxr_cable.h` and `ipxr_fates.h` in `include/`.
 //!
 //! - C holds a router by a `RouterHandle`: a flag and a pointer. All bytes 0 are a handle without a router.
 //! - `Handle` and `Cell` serve any machine, and are proved once. What crosses to C may have no type parameter, so each kind of machine
@@ -18,7 +18,8 @@
 //!   values (`SettingsValues`) and written of values (`SettingsWritten`), by `ipx_settings`.
 //! - Fair queueing and meters are no machines: C keeps them in memory of its own, where all bytes 0 are one, and lends them. Each call's
 //!   clause is that of `ipx_fair`. So are a gateway's limits, by `ipx_limits`, whose kinds, reasons and ranks have numbers
-//!   (`LimitValues`), and a narrow line; and what a gateway decides about its cables, by `ipx_cable` (`CableValues`).
+//!   (`LimitValues`), and a narrow line; and what a gateway decides about its cables, by `ipx_cable` (`CableValues`), and what
+//!   becomes of each packet, by `ipx_fates`, whose steps, fates and reasons have numbers (`CourseValues`, `CountValues`).
 //! - Frames of Ethernet are read and written as `ipx_capture` does, by the numbers of their kinds (`Kinds`).
 //! - Packets are written by the writers of `ipx_wire`, of values that C gives (`Writes`).
 //! - `cell` is the only place with a raw pointer; its proofs, and those alone, are walks by hand.
@@ -31,9 +32,11 @@ pub mod cable;
 mod cell;
 mod code;
 pub mod configuration;
+mod course_values;
 mod events;
 mod extending;
 mod fair;
+pub mod fates;
 mod fault;
 mod frames;
 mod handle;
@@ -65,6 +68,7 @@ mod values;
 mod words;
 mod writing;
 
+pub use crate::course_values::CourseValues;
 pub use crate::events::{
     ipxr_packet, ipxr_port_down, ipxr_port_up, ipxr_second, ipxr_start, ipxr_stop,
 };

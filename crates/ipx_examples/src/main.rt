@@ -8,6 +8,7 @@ mod addresses;
 mod cables;
 mod captures;
 mod ends;
+mod fates;
 mod internets;
 mod limited;
 mod offers;
@@ -265,5 +266,7 @@ fn serve(rt: &HostRuntime) -> Result<()> {
     cables::paces(rt)?;
     cables::twins(rt)?;
     cables::asked(rt)?;
-    cables::own_nodes(rt)
+    cables::own_nodes(rt)?;
+    fates::course(rt)?;
+    fates::counts(rt)
 }

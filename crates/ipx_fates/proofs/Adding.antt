@@ -110,9 +110,6 @@ lost_one why counts taken here few it =
 dropped_at : (index : ℕ) (counts : Counts) (taken here : ℕ) → index < drops_count → here < largest → Adds counts taken here
     → Adds (record {
       came = more counts.came;
-      out = counts.out;
-      extended = counts.extended;
-      refused = counts.refused;
       lost = counts.lost;
       dropped = more_at counts.dropped index;
     }) (taken + 0) (here + 1)

@@ -5,3 +5,4 @@ pub mod Somewhere
 pub mod Calm
 pub mod Nowhere
 pub mod Adding
+pub mod examples

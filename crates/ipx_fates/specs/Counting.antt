@@ -36,15 +36,12 @@ place_of number = number / 100 * rest_count + number % 100
 -- ---- counts
 
 abbrev pub nothing : Counts
-nothing = record { came = 0; out = 0; extended = 0; refused = 0; lost = replicate reasons_count 0; dropped = replicate drops_count 0 }
+nothing = record { came = 0; lost = replicate reasons_count 0; dropped = replicate drops_count 0 }
 
 -- a packet came
 abbrev pub one_came : Counts → Counts
 one_came counts = record {
   came = more counts.came;
-  out = counts.out;
-  extended = counts.extended;
-  refused = counts.refused;
   lost = counts.lost;
   dropped = counts.dropped;
 }
@@ -53,9 +50,6 @@ one_came counts = record {
 abbrev pub one_lost : Reason → Counts → Counts
 one_lost why counts = record {
   came = counts.came;
-  out = counts.out;
-  extended = counts.extended;
-  refused = counts.refused;
   lost = more_at counts.lost (reason_number why);
   dropped = counts.dropped;
 }
@@ -64,9 +58,6 @@ one_lost why counts = record {
 abbrev pub one_dropped : ℕ → Counts → Counts
 one_dropped number counts = if has_place number then record {
   came = counts.came;
-  out = counts.out;
-  extended = counts.extended;
-  refused = counts.refused;
   lost = counts.lost;
   dropped = more_at counts.dropped (place_of number);
 } else counts

@@ -10,7 +10,7 @@ const HUNDREDS: usize = 19;
 
 const REST: usize = 10;
 
-/// What is counted on a network. All bytes 0, nothing was. No count goes beyond 2^64 - 1.
+/// What is counted of the packets that came on a network, and of what goes no further. All bytes 0, nothing was. No count goes beyond 2^64 - 1.
 ///
 /// ```
 /// let mut counts = Counts::none();
@@ -25,12 +25,6 @@ const REST: usize = 10;
 pub struct Counts {
     /// Packets that came.
     pub came: u64,
-    /// Packets that were sent; a broadcast to several clients is one.
-    pub out: u64,
-    /// Copies of broadcasts that were handed to this network.
-    pub extended: u64,
-    /// Connections that were refused.
-    pub refused: u64,
     /// Packets, and copies, that were lost, by the numbers of the reasons.
     pub lost: [u64; 26],
     /// Packets that the router dropped, by its number: ten for each hundred.
@@ -44,9 +38,6 @@ impl Counts {
     {
         Counts {
             came: 0,
-            out: 0,
-            extended: 0,
-            refused: 0,
             lost: [0; 26],
             dropped: [0; 190],
         }

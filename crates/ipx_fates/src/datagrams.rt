@@ -5,7 +5,7 @@ ghost use Rattle.ipx_fates.specs.Datagrams.{on, said, after_datagram};
 use crate::course::{Course, either, lost};
 use crate::fate::Fate;
 use crate::reason::Reason;
-use crate::step::{DatagramStep, Step, WordStep};
+use crate::step::{DatagramStep as At, Step, WordStep};
 use crate::words::says;
 
 /// The numbers of what a datagram says.
@@ -16,54 +16,30 @@ const ANSWERS: u16 = 2;
 const SPEAKS: u16 = 3;
 
 /// What is next with a datagram once a step was answered.
-pub(crate) fn after_datagram(step: DatagramStep, answer: u16) -> Course
+pub(crate) fn after_datagram(step: At, answer: u16) -> Course
     ensures { result ≡ after_datagram step answer }
 {
     match step {
-        DatagramStep::IsTooLong => either(answer, lost(Reason::TooLong), on(DatagramStep::Capture)),
-        DatagramStep::Capture => on(DatagramStep::IsAllowed),
-        DatagramStep::IsAllowed => either(answer, on(DatagramStep::Hear), lost(Reason::NotAllowed)),
-        DatagramStep::Hear => said(answer),
-        DatagramStep::IsPacket => either(answer, lost(Reason::FalseSource), lost(Reason::NoIpx)),
-        DatagramStep::IsAnswered => either(
+        At::IsTooLong => either(answer, lost(Reason::TooLong), on(At::Capture)),
+        At::Capture => on(At::IsAllowed),
+        At::IsAllowed => either(answer, on(At::Hear), lost(Reason::NotAllowed)),
+        At::Hear => said(answer),
+        At::IsPacket => either(answer, lost(Reason::FalseSource), lost(Reason::NoIpx)),
+        At::IsAnswered => either(answer, on(At::IsClient), lost(Reason::NoRoom)),
+        At::IsClient => either(answer, on(At::LetsAnswer), on(At::LetsStranger)),
+        At::LetsAnswer => either(answer, on(At::Answer), lost(Reason::TooManyAnswers)),
+        At::Answer => Course::Ends(Fate::Answered),
+        At::LetsStranger => either(
             answer,
-            on(DatagramStep::IsClient),
-            lost(Reason::NoRoom),
-        ),
-        DatagramStep::IsClient => either(
-            answer,
-            on(DatagramStep::LetsAnswer),
-            on(DatagramStep::LetsStranger),
-        ),
-        DatagramStep::LetsAnswer => either(
-            answer,
-            on(DatagramStep::Answer),
-            lost(Reason::TooManyAnswers),
-        ),
-        DatagramStep::Answer => Course::Ends(Fate::Answered),
-        DatagramStep::LetsStranger => either(
-            answer,
-            on(DatagramStep::AnswerStranger),
+            on(At::AnswerStranger),
             lost(Reason::TooManyStrangers),
         ),
-        DatagramStep::AnswerStranger => Course::Ends(Fate::Answered),
-        DatagramStep::IsClientNow => either(
-            answer,
-            Course::Ends(Fate::Stays),
-            lost(Reason::NoRoom),
-        ),
-        DatagramStep::IsFromClient => either(
-            answer,
-            says(WordStep::IsPing),
-            on(DatagramStep::IsPinged),
-        ),
-        DatagramStep::IsPinged => either(answer, on(DatagramStep::LetsPing), lost(Reason::NoRoom)),
-        DatagramStep::LetsPing => either(
-            answer,
-            on(DatagramStep::Ping),
-            lost(Reason::TooManyStrangers),
-        ),
-        DatagramStep::Ping => lost(Reason::Stranger),
+        At::AnswerStranger => Course::Ends(Fate::Answered),
+        At::IsClientNow => either(answer, Course::Ends(Fate::Stays), lost(Reason::NoRoom)),
+        At::IsFromClient => either(answer, says(WordStep::IsPing), on(At::IsPinged)),
+        At::IsPinged => either(answer, on(At::LetsPing), lost(Reason::NoRoom)),
+        At::LetsPing => either(answer, on(At::Ping), lost(Reason::TooManyStrangers)),
+        At::Ping => lost(Reason::Stranger),
     }
 }
 
@@ -72,18 +48,18 @@ fn said(what: u16) -> Course
     ensures { result ≡ said what }
 {
     if what == REGISTERS {
-        on(DatagramStep::IsAnswered)
+        on(At::IsAnswered)
     } else if what == ANSWERS {
-        on(DatagramStep::IsClientNow)
+        on(At::IsClientNow)
     } else if what == SPEAKS {
-        on(DatagramStep::IsFromClient)
+        on(At::IsFromClient)
     } else {
-        on(DatagramStep::IsPacket)
+        on(At::IsPacket)
     }
 }
 
 /// That is next.
-fn on(step: DatagramStep) -> Course
+fn on(step: At) -> Course
     ensures { result ≡ on step }
 {
     Course::Goes(Step::Datagram(step))

@@ -5,35 +5,27 @@ ghost use Rattle.ipx_fates.specs.Routing.{hands, heard, after_router};
 use crate::course::{Course, either, lost, unless_refused};
 use crate::fate::Fate;
 use crate::reason::Reason;
-use crate::step::{RouterStep, Step};
+use crate::step::{RouterStep as At, Step};
 
 /// The first number by which the router says that it drops a packet.
 const FIRST_DROP: u16 = 100;
 
 /// What is next with a packet that the router may hear once a step was answered.
-pub(crate) fn after_router(step: RouterStep, answer: u16) -> Course
+pub(crate) fn after_router(step: At, answer: u16) -> Course
     ensures { result ≡ after_router step answer }
 {
     match step {
-        RouterStep::LetsHear => unless_refused(answer, hands(RouterStep::IsForAll)),
-        RouterStep::IsForAll => either(
-            answer,
-            hands(RouterStep::Extend),
-            hands(RouterStep::IsAwaited),
-        ),
-        RouterStep::Extend => hands(RouterStep::IsAwaited),
-        RouterStep::IsAwaited => either(
-            answer,
-            Course::Ends(Fate::Awaited),
-            hands(RouterStep::Hear),
-        ),
-        RouterStep::Hear => either(answer, lost(Reason::NoMemory), hands(RouterStep::Outcome)),
-        RouterStep::Outcome => Course::Ends(heard(answer)),
+        At::LetsHear => unless_refused(answer, hands(At::IsForAll)),
+        At::IsForAll => either(answer, hands(At::Extend), hands(At::IsAwaited)),
+        At::Extend => hands(At::IsAwaited),
+        At::IsAwaited => either(answer, Course::Ends(Fate::Awaited), hands(At::Hear)),
+        At::Hear => either(answer, lost(Reason::NoMemory), hands(At::Outcome)),
+        At::Outcome => Course::Ends(heard(answer)),
     }
 }
 
 /// That is next.
-pub(crate) fn hands(step: RouterStep) -> Course
+pub(crate) fn hands(step: At) -> Course
     ensures { result ≡ hands step }
 {
     Course::Goes(Step::Router(step))

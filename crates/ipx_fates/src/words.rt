@@ -6,52 +6,28 @@ use crate::course::{Course, either, lost, unless_refused};
 use crate::fate::Fate;
 use crate::reason::Reason;
 use crate::router::hands;
-use crate::step::{RouterStep, Step, WordStep};
+use crate::step::{RouterStep, Step, WordStep as At};
 
 /// What is next with a client's word once a step was answered.
-pub(crate) fn after_word(step: WordStep, answer: u16) -> Course
+pub(crate) fn after_word(step: At, answer: u16) -> Course
     ensures { result ≡ after_word step answer }
 {
     match step {
-        WordStep::IsPing => either(
-            answer,
-            says(WordStep::LetsReply),
-            says(WordStep::IsForSomebody),
-        ),
-        WordStep::LetsReply => either(
-            answer,
-            says(WordStep::Reply),
-            says(WordStep::LeaveUnanswered),
-        ),
-        WordStep::Reply => says(WordStep::IsForFarRouters),
-        WordStep::LeaveUnanswered => says(WordStep::IsForFarRouters),
-        WordStep::IsForSomebody => either(
-            answer,
-            says(WordStep::IsForFarRouters),
-            lost(Reason::NoClient),
-        ),
-        WordStep::IsForFarRouters => either(
-            answer,
-            lost(Reason::ForFarRouters),
-            says(WordStep::LetsSay),
-        ),
-        WordStep::LetsSay => unless_refused(answer, says(WordStep::Carry)),
-        WordStep::Carry => says(WordStep::IsHeard),
-        WordStep::IsHeard => either(
-            answer,
-            hands(RouterStep::LetsHear),
-            says(WordStep::WasCarried),
-        ),
-        WordStep::WasCarried => either(
-            answer,
-            Course::Ends(Fate::HandedOn),
-            lost(Reason::NoClient),
-        ),
+        At::IsPing => either(answer, says(At::LetsReply), says(At::IsForSomebody)),
+        At::LetsReply => either(answer, says(At::Reply), says(At::LeaveUnanswered)),
+        At::Reply => says(At::IsForFarRouters),
+        At::LeaveUnanswered => says(At::IsForFarRouters),
+        At::IsForSomebody => either(answer, says(At::IsForFarRouters), lost(Reason::NoClient)),
+        At::IsForFarRouters => either(answer, lost(Reason::ForFarRouters), says(At::LetsSay)),
+        At::LetsSay => unless_refused(answer, says(At::Carry)),
+        At::Carry => says(At::IsHeard),
+        At::IsHeard => either(answer, hands(RouterStep::LetsHear), says(At::WasCarried)),
+        At::WasCarried => either(answer, Course::Ends(Fate::HandedOn), lost(Reason::NoClient)),
     }
 }
 
 /// That is next.
-pub(crate) fn says(step: WordStep) -> Course
+pub(crate) fn says(step: At) -> Course
     ensures { result ≡ says step }
 {
     Course::Goes(Step::Word(step))

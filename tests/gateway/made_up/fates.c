@@ -38,7 +38,7 @@ unsigned long fates_seen(void)
 /* What copies are lost by. */
 static uint64_t lost_copies(const counts *it)
 {
-    return it->lost[TOO_MUCH_FOR_CLIENT] + it->lost[TOO_MUCH_FOR_ADDRESS] + it->lost[TOO_MUCH_FOR_LINE];
+    return it->packets.lost[TOO_MUCH_FOR_CLIENT] + it->packets.lost[TOO_MUCH_FOR_ADDRESS] + it->packets.lost[TOO_MUCH_FOR_LINE];
 }
 
 static uint64_t all_lost_copies(const gateway *it)
@@ -156,22 +156,22 @@ static uint64_t lost_since(const counts *it, const counts *before, const reason 
 {
     uint64_t sum = 0;
     for (size_t k = 0; k < count; k++)
-        sum += it->lost[list[k]] - before->lost[list[k]];
+        sum += it->packets.lost[list[k]] - before->packets.lost[list[k]];
     return sum;
 }
 
 static uint64_t dropped_since(const counts *it, const counts *before)
 {
     uint64_t sum = 0;
-    for (size_t k = 0; k < MOST_HUNDREDS * MOST_REST; k++)
-        sum += it->dropped[k / MOST_REST][k % MOST_REST] - before->dropped[k / MOST_REST][k % MOST_REST];
+    for (size_t k = 0; k < IPXR_DROPS; k++)
+        sum += it->packets.dropped[k] - before->packets.dropped[k];
     return sum;
 }
 
 /* What the router said of a packet is what was counted. */
 static void judge_router(const network *on, const counts *before)
 {
-    uint64_t dropped = dropped_since(&on->counts, before), refused = on->counts.lost[NO_MEMORY] - before->lost[NO_MEMORY];
+    uint64_t dropped = dropped_since(&on->counts, before), refused = on->counts.packets.lost[NO_MEMORY] - before->packets.lost[NO_MEMORY];
     bool is_drop = now.heard > 0 && now.became >= 100, is_fault = now.heard > 0 && now.became < 0;
     if (now.heard > 0 && now.port != on->set->port)
         wrong("the router hears a packet of port %u on port %u", on->set->port, now.port);
@@ -185,8 +185,8 @@ static void judge(const network *on, const counts *before)
     const counts *it = &on->counts;
     uint64_t wholly = lost_since(it, before, WHOLLY, sizeof WHOLLY / sizeof *WHOLLY);
     uint64_t by_router = lost_since(it, before, BY_ROUTER, sizeof BY_ROUTER / sizeof *BY_ROUTER);
-    uint64_t unanswered = it->lost[TOO_MANY_ANSWERS] - before->lost[TOO_MANY_ANSWERS];
-    uint64_t nowhere = it->lost[NO_CLIENT] - before->lost[NO_CLIENT];
+    uint64_t unanswered = it->packets.lost[TOO_MANY_ANSWERS] - before->packets.lost[TOO_MANY_ANSWERS];
+    uint64_t nowhere = it->packets.lost[NO_CLIENT] - before->packets.lost[NO_CLIENT];
     uint64_t heard = now.heard + now.by_status + by_router, handed = now.receivers + now.links + now.by_loop;
     bool is_answer = on->set->type == LINK_DOSBOX && now.said == IPXR_ANSWERS;
     seen++;
@@ -206,8 +206,8 @@ void __wrap_tunnel_hear(gateway *it, network *on, uint8_t *bytes, size_t length,
     counts before = on->counts;
     memset(&now, 0, sizeof now);
     __real_tunnel_hear(it, on, bytes, length, from);
-    if (on->counts.in != before.in + 1)
-        wrong("a datagram is counted %d times", (int)(on->counts.in - before.in));
+    if (on->counts.packets.in != before.packets.in + 1)
+        wrong("a datagram is counted %d times", (int)(on->counts.packets.in - before.packets.in));
     judge(on, &before);
 }
 
@@ -217,9 +217,9 @@ static network *counted_on(gateway *it, const cable *at, const counts *before)
     network *found = NULL;
     for (size_t k = 0; k < it->count; k++) {
         network *on = &it->networks[k];
-        if (on->cable != at || on->counts.in == before[k].in)
+        if (on->cable != at || on->counts.packets.in == before[k].packets.in)
             continue;
-        if (found != NULL || on->counts.in != before[k].in + 1)
+        if (found != NULL || on->counts.packets.in != before[k].packets.in + 1)
             wrong("a frame is counted more than once");
         found = on;
     }
