@@ -1323,6 +1323,8 @@ static void own_nodes(void)
     WROTE_BYTES("B1B2B3B4B5B6", node);
     CALLS(ipxr_node_choose(0, 0, 0, SAID, NO_CARD, hash, node));
     WROTE_BYTES("027766554433", node);
+}
+
 /* ---- Fates ---- */
 
 /* A frame of the gateway's own, and one of several links that the router drops. */
