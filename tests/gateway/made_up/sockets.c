@@ -23,12 +23,6 @@ static const int OF_TAKING[] = {EAGAIN, EMFILE, ENFILE, ENOBUFS, ENOMEM, ECONNAB
 static const int OF_CALLING[] = {ECONNREFUSED, ENETUNREACH, EHOSTUNREACH, EMFILE, ETIMEDOUT, EADDRNOTAVAIL, ENOMEM, 0};
 static const int OF_STREAMS[] = {EAGAIN, EINTR, ECONNRESET, ETIMEDOUT, ENOMEM, ENOBUFS, EHOSTUNREACH, 0};
 
-void six_words(const uint8_t six[16], char digits[SIX_ROOM])
-{
-    if (inet_ntop(AF_INET6, six, digits, SIX_ROOM) == NULL)
-        digits[0] = '\0';
-}
-
 void close_any(int *fd)
 {
     int at = *fd;
