@@ -87,6 +87,18 @@ void line_send_own(size_t length)
     ipxr_line_send_own(&line, limit_clock(), length);
 }
 
+bool line_lets_again(void)
+{
+    return ipxr_line_lets_beyond(&line, limit_clock());
+}
+
+/* (beyond all parts, so it is counted of none, and of no address) */
+void line_send_again(size_t length)
+{
+    static ipxr_line_address none;
+    ipxr_line_send(&line, limit_clock(), 0, length, IPXR_LINE_BEYOND, &nobody, &none);
+}
+
 /* What an address of strangers uses of their part. */
 static uint64_t *stranger(const uint8_t key[SIPHASH_KEY], const uint8_t place[6])
 {

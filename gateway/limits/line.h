@@ -42,6 +42,10 @@ void line_send(line_use *to);
 bool line_lets_own(void);
 void line_send_own(size_t length);
 
+/* Whether the line is nearly idle, so that a client that hasn't answered may be pinged again; and it is. */
+bool line_lets_again(void);
+void line_send_again(size_t length);
+
 /* Whether there is room for what the gateway says to a stranger, of whatever network; and a datagram of so many bytes goes out to him. The key
  * is of the hash by which addresses are told apart. */
 bool line_lets_stranger(const uint8_t key[SIPHASH_KEY], const uint8_t place[6]);

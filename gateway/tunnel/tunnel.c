@@ -57,15 +57,20 @@ static bool are_by_line(const network *on)
     return on->set->kilobits > 0 && !on->strangers.has_no_limit;
 }
 
-/* Sends a datagram of the gateway's own. */
+/* Sends a datagram of the gateway's own, which is counted. */
+static void send_counted(network *on, const ipxr_own *own, bool is_client)
+{
+    outgoing_own(on, own->place, own->bytes, sizeof own->bytes, is_client);
+    capture_packet(own->bytes, sizeof own->bytes, on->node);
+}
+
 static void send_one(network *on, const ipxr_own *own, bool is_client)
 {
     if (!is_client && are_by_line(on))
         line_send_to_stranger(on->strangers.key, own->place, sizeof own->bytes);
     else if (on->set->kilobits > 0)
         line_send_own(sizeof own->bytes);
-    outgoing_own(on, own->place, own->bytes, sizeof own->bytes, is_client);
-    capture_packet(own->bytes, sizeof own->bytes, on->node);
+    send_counted(on, own, is_client);
 }
 
 /* Sends the answers and pings that the tunnel gave. */
@@ -183,11 +188,11 @@ static void ping_one(network *on, const ipxr_own *own)
 {
     member *to = roster_find(&on->roster, own->place);
     send_one(on, own, true);
-    if (to != NULL && on->set->kilobits == 0)
+    if (to != NULL)
         asked_ping(&to->ping, &on->asks, on->strangers.key, own);
 }
 
-/* Pings clients: by a narrow line one after the other, later, and once. */
+/* Pings clients: by a narrow line one after the other, later. */
 static void ping(network *on)
 {
     ipxr_own own;
@@ -208,13 +213,22 @@ void tunnel_second(network *on)
     ping_again(on);
 }
 
-/* Pings clients once more that haven't answered. */
+/* Pings a client once more that hasn't answered; by a narrow line only while that is nearly idle. */
+static void ping_once_more(network *on, const ipxr_own *ping)
+{
+    if (on->set->kilobits > 0 && !line_lets_again())
+        return;
+    if (on->set->kilobits > 0)
+        line_send_again(sizeof ping->bytes);
+    send_counted(on, ping, true);
+}
+
 static void ping_unanswered(network *on)
 {
     for (size_t k = 0; k < on->roster.count; k++) {
         asked *of = &on->roster.list[k].ping;
         if (asked_is_due(of, &on->asks)) {
-            send_one(on, &of->ping, true);
+            ping_once_more(on, &of->ping);
             asked_again(of, &on->asks, on->strangers.key);
         }
     }
@@ -224,7 +238,7 @@ void tunnel_ping(network *on)
 {
     const ipxr_own *next;
     while ((next = pings_due(&on->pings)) != NULL)
-        send_one(on, next, true);
+        ping_one(on, next);
     if (asks_are_due(&on->asks))
         ping_unanswered(on);
 }

@@ -33,9 +33,9 @@ class Deaf(Player):
         super().hear(bytes_)
 
 
-def asked_again():
+def asked_again(text=TWO):
     """By a clock, a client that doesn't answer is pinged twice a second, at moments that differ; as soon as it answers, no more."""
-    with Playground(TWO, numbers=(0, 0, 0), more=1, clock=Clock()) as it:
+    with Playground(text, numbers=(0, 0, 0), more=1, clock=Clock()) as it:
         (deaf,) = come(it, it.free, [GATEWAY[1]], kind=Deaf)
         deaf.hears, deaf.came, moments = False, 0, []
         for step in range(int((SILENCE + 10) / STEP)):
@@ -58,6 +58,11 @@ def asked_again():
             it.gate.report()
             it.party.until(lambda: False, 0.004)
         assert deaf.came == 0, f"{deaf.came} pings of one that answered"
+
+
+def asked_again_by_a_line():
+    """By a clock, the same by a line that is nearly idle."""
+    asked_again(TWO.replace("strangers none\n", "strangers none\nline 1000000\n"))
 
 
 class Tick:
@@ -108,7 +113,7 @@ def buffers_filled_at_the_second():
         assert not are_answering(it, it.party.all) and bursts > LASTS / 2
 
 
-TESTS = [asked_again, buffers_filled_at_the_second]
+TESTS = [asked_again, asked_again_by_a_line, buffers_filled_at_the_second]
 
 
 def inside():
