@@ -49,7 +49,7 @@ module _ (r : Ranges) (number : ℕ) (ws : List (List ℕ)) (read : ℕ) where
 
 -- ---- sockets
 
-no_fault : (f : Option Fault) → is_some f ≡ false → f ≡ None
+pub no_fault : (f : Option Fault) → is_some f ≡ false → f ≡ None
 no_fault None right = refl
 no_fault (Some f) wrong = absurd (true≢false wrong)
 

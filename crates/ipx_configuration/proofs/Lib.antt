@@ -1,2 +1,6 @@
 pub mod Unread
 pub mod Adding
+pub mod Following
+pub mod Growing
+pub mod Apart
+pub mod Listing

@@ -59,11 +59,11 @@ carrier_in other = None
 abbrev pub carrier_fault : Carrier → ℕ → List LinkSetting → Option Expected → Option Fault
 carrier_fault carrier longest links own =
     first_of (
-      first_clash carrier links
-      ∷ when (may_hear_itself carrier) fault.OwnAddress
-      ∷ when (nat_lt (longest_on carrier.frames) longest) (fault.Longest longest (longest_on carrier.frames))
-      ∷ line_fault own
-      ∷ [])
+    first_clash carrier links
+    ∷ when (may_hear_itself carrier) fault.OwnAddress
+    ∷ when (nat_lt (longest_on carrier.frames) longest) (fault.Longest longest (longest_on carrier.frames))
+    ∷ line_fault own
+    ∷ [])
 
 abbrev pub link_by : Option Carrier → ℕ → List LinkSetting → Option Expected → Option Fault
 link_by None longest links own = Some (fault.Line (unwrap_or own expected.Link))

@@ -135,10 +135,10 @@ more_links begun longest l own = first_of (when (not (nat_lt l.count most_links)
 abbrev pub network_fault : Capacity → NetworkBegun → Option Expected → Configuration → Option Fault
 network_fault capacity begun own c =
     first_of (
-      when (not (nat_lt c.networks.count capacity.networks && nat_lt c.networks.count most_networks)) fault.ManyNetworks
-      ∷ number_fault (number_in begun) (networks_in c.networks)
-      ∷ (if names_link begun own then more_links (link_in begun) (head_or_none begun).longest c.links own else line_fault own)
-      ∷ [])
+    when (not (nat_lt c.networks.count capacity.networks && nat_lt c.networks.count most_networks)) fault.ManyNetworks
+    ∷ number_fault (number_in begun) (networks_in c.networks)
+    ∷ (if names_link begun own then more_links (link_in begun) (head_or_none begun).longest c.links own else line_fault own)
+    ∷ [])
 
 abbrev pub linked : ℕ → ℕ → LinkList → Option Carrier → LinkList
 linked line network l None = l
@@ -148,9 +148,9 @@ linked line network l (Some carrier) = with_link l (new_link line network carrie
 abbrev pub add_network : ℕ → NetworkBegun → Option Expected → Configuration → Configuration
 add_network line begun own c =
     configuration_at
-      (with_network c.networks (network_of line c.links.count begun (not (names_link begun own))))
-      (linked line c.networks.count c.links (carrier_in (link_in begun)))
-      (if names_link begun own then a_link else a_network)
+    (with_network c.networks (network_of line c.links.count begun (not (names_link begun own))))
+    (linked line c.networks.count c.links (carrier_in (link_in begun)))
+    (if names_link begun own then a_link else a_network)
 
 abbrev pub after_network : Capacity → ℕ → NetworkBegun → Option Expected → Configuration → Configuration
 after_network capacity line begun own c =
@@ -162,10 +162,10 @@ abbrev pub link_line_by : Capacity → LinkBegun → Option Expected → LinkLis
 link_line_by capacity begun own l None = Some fault.LinkBelow
 link_line_by capacity begun own l (Some network) =
     first_of (
-      when (not network.is_of_several) fault.LinkBelow
-      ∷ when (not (nat_lt (l.count - network.first) capacity.links)) fault.ManyLinksOfNetwork
-      ∷ more_links begun network.longest l own
-      ∷ [])
+    when (not network.is_of_several) fault.LinkBelow
+    ∷ when (not (nat_lt (l.count - network.first) capacity.links)) fault.ManyLinksOfNetwork
+    ∷ more_links begun network.longest l own
+    ∷ [])
 
 abbrev pub link_line_fault : Capacity → LinkBegun → Option Expected → Configuration → Option Fault
 link_line_fault capacity begun own c = link_line_by capacity begun own c.links (last_network c.networks)
@@ -200,7 +200,7 @@ add_link line begun c =
 abbrev pub link_line : Capacity → ℕ → LinkBegun → Option Expected → Configuration → Configuration × Option Fault
 link_line capacity line begun own c =
     if nat_lt c.above a_wrong_network then
-      (if is_some (link_line_fault capacity begun own c) then with_above c a_wrong_link else add_link line begun c, link_line_fault capacity begun own c)
+    (if is_some (link_line_fault capacity begun own c) then with_above c a_wrong_link else add_link line begun c, link_line_fault capacity begun own c)
     else (c, None)
 
 -- ---- lines below
@@ -216,9 +216,10 @@ extended text read own c = extended_by c text read own (last_network c.networks)
 
 abbrev pub link_extended_by : Configuration → ℕ → List ℕ → Reading → Option LinkSetting → Configuration × Option Fault
 link_extended_by c line text r None = (c, None)
-link_extended_by c line text r (Some link) =
-    (configuration_at c.networks (with_last_link c.links (link_taken line text r (links_in c.links) link).0) c.above,
-      (link_taken line text r (links_in c.links) link).1)
+link_extended_by c line text r (Some link) = (
+  configuration_at c.networks (with_last_link c.links (link_taken line text r (links_in c.links) link).0) c.above,
+  (link_taken line text r (links_in c.links) link).1,
+)
 
 -- behind a line that the last link takes
 abbrev pub link_extended : ℕ → List ℕ → Reading → Configuration → Configuration × Option Fault

@@ -10,3 +10,5 @@ pub mod Extends
 pub mod Memory
 pub mod Configurations
 pub mod Configured
+-- laws
+pub mod Wholes

@@ -92,7 +92,7 @@ fn has_same_bytes(a: &[u8], b: &[u8]) -> bool
 }
 
 impl Carrier {
-    fn none() -> Carrier
+    pub(crate) fn none() -> Carrier
         ensures { result ≡ no_carrier }
     {
         Carrier {

@@ -2,6 +2,7 @@
 ghost use Rattle.std.specs.Prelude.{◌≡◌};
 ghost use Rattle.std.specs.List.{position};
 ghost use Rattle.ipx_configuration.specs.Said.{new_link};
+ghost use Rattle.ipx_configuration.specs.Wholes.{IsBlank};
 ghost use Rattle.ipx_configuration.specs.Configurations.{unlinked, is_below_tunnel, head_or_none, names_link, network_of, has_number, number_fault, more_links, network_fault, add_network, after_network, link_line_fault, add_link, link_line, extended, link_extended, tunnel_fault, below_network, below_link, taken_below, taken, told, after};
 
 use crate::carrier::{Carrier, TUNNEL};
@@ -9,7 +10,9 @@ use crate::clash::{carrier_in, line_fault, link_fault};
 use crate::fault::Fault;
 use crate::lines::link_taken;
 use crate::memory::{LinkList, MOST_LINKS, MOST_NETWORKS, NetworkList};
-use crate::said::{ClientsSaid, LinkSetting, NetworkSetting, NumberSaid, Ranges, RateSaid, Sockets};
+use crate::said::{
+    ClientsSaid, LinkSetting, NetworkSetting, NumberSaid, Ranges, RateSaid, Sockets,
+};
 use crate::sockets::network_taken;
 use ipx_settings::{Context, Expected, Head, Line, LinkBegun, NetworkBegun, Reading};
 
@@ -60,6 +63,23 @@ pub struct Told {
 }
 
 /// What the lines of a configuration say so far. All bytes 0 are that of no line.
+///
+/// ```
+/// let capacity = Capacity {
+///     has_cards: true,
+///     networks: 32,
+///     links: 32,
+///     clients: 4096,
+///     routes: 64,
+///     services: 32,
+/// };
+/// let mut all = Configuration::new();
+/// let _ = all.line(capacity, 1, b"network 10 1 1424 dosbox 2130");
+/// let told = all.line(capacity, 2, b"network 20 1 1424 dosbox 2130");
+/// let is_taken = told.fault == Some(Fault::OtherPort(1));
+/// println!(rt; "line 1 has the port: {is_taken}")?;
+/// // prints line 1 has the port: true
+/// ```
 #[repr(C)]
 #[derive(Clone, Copy)]
 pub struct Configuration {
@@ -141,12 +161,7 @@ fn more_links(
 }
 
 /// A network, as its line says it.
-fn network_of(
-    line: usize,
-    first: usize,
-    begun: NetworkBegun,
-    is_of_several: bool,
-) -> NetworkSetting
+fn network_of(line: usize, first: usize, begun: NetworkBegun, is_of_several: bool) -> NetworkSetting
     ensures { result ≡ network_of line first begun is_of_several }
 {
     let head = head_or_none(begun);
@@ -197,6 +212,25 @@ fn new_link(line: usize, network: usize, carrier: Carrier) -> LinkSetting
 }
 
 impl Configuration {
+    /// That of no line.
+    pub fn new() -> Configuration
+        ensures { IsBlank result }
+    {
+        let networks = [network_of(0, 0, NetworkBegun::Nothing, true); 32];
+        let links = [new_link(0, 0, Carrier::none()); 64];
+        Configuration {
+            networks: NetworkList {
+                list: networks,
+                count: 0,
+            },
+            links: LinkList {
+                list: links,
+                count: 0,
+            },
+            above: NOTHING,
+        }
+    }
+
     /// Whether a line here stands below a tunnel.
     pub fn is_below_tunnel(&self) -> bool
         ensures { result ≡ is_below_tunnel self.now }

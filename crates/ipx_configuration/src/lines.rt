@@ -140,11 +140,7 @@ fn first_kilobits(links: &[LinkSetting]) -> Option<NumberSaid>
 }
 
 /// All networks that are reached by a line share one.
-fn other_kilobits(
-    link: LinkSetting,
-    begun: Option<u32>,
-    links: &[LinkSetting],
-) -> Option<Fault>
+fn other_kilobits(link: LinkSetting, begun: Option<u32>, links: &[LinkSetting]) -> Option<Fault>
     ensures { result ≡ other_kilobits link begun links.now }
 {
     match (begun, first_kilobits(links)) {

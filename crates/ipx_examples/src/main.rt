@@ -256,6 +256,7 @@ fn serve(rt: &HostRuntime) -> Result<()> {
     tunnels::tunnel(rt, from, &REGISTRATION, &ANSWER)?;
     plans::plan(rt)?;
     settings::line(rt)?;
+    settings::configuration(rt)?;
     segments::segment(rt, Node([0, 0, 0, 0, 0, 2]), Node([0, 0, 0, 0, 0, 0xAA]))?;
     shares::receivers(rt)?;
     shares::meters(rt)?;
