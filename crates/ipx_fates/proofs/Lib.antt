@@ -2,6 +2,7 @@ pub mod Shapes
 pub mod Ends
 pub mod EndsOfDatagrams
 pub mod Somewhere
+pub mod Order
 pub mod Calm
 pub mod Nowhere
 pub mod Adding

@@ -1,16 +1,18 @@
 -- The words of the laws.
-use Rattle.std.specs.Prelude.{ℕ, ◌+◌, ◌==◌, Bool, true, false, not, List, [], ◌∷◌}
+use Rattle.std.specs.Prelude.{ℕ, ◌+◌, ◌<◌, ◌==◌, Bool, true, false, not, List, [], ◌∷◌}
 use Rattle.std.specs.List.{list_any}
 use Rattle.ipx_fates.specs.declared.counts.Counts.{Counts}
+use Rattle.ipx_fates.specs.declared.course.Course.{Course}
+use Rattle.ipx_fates.specs.declared.course.Course.TheVariants.{Goes, Ends}
 use Rattle.ipx_fates.specs.declared.fate.Fate.{Fate}
 use Rattle.ipx_fates.specs.declared.fate.Fate.TheVariants.{Elsewhere, Heard, Dropped, HandedOn, Answered, Stays, Awaited, Probe, Lost}
 use Rattle.ipx_fates.specs.declared.reason.Reason.{Reason}
 use Rattle.ipx_fates.specs.declared.step.FrameStep.{FrameStep}
-use Rattle.ipx_fates.specs.declared.step.FrameStep.TheVariants.{PutOnLinks}
+use Rattle.ipx_fates.specs.declared.step.FrameStep.TheVariants as asks
 use Rattle.ipx_fates.specs.declared.step.WordStep.{WordStep}
-use Rattle.ipx_fates.specs.declared.step.WordStep.TheVariants.{Carry}
+use Rattle.ipx_fates.specs.declared.step.WordStep.TheVariants as says
 use Rattle.ipx_fates.specs.declared.step.RouterStep.{RouterStep}
-use Rattle.ipx_fates.specs.declared.step.RouterStep.TheVariants.{LetsHear, IsForAll, Extend, IsAwaited, Hear, Outcome}
+use Rattle.ipx_fates.specs.declared.step.RouterStep.TheVariants as routes
 use Rattle.ipx_fates.specs.declared.step.DatagramStep.{DatagramStep}
 use Rattle.ipx_fates.specs.declared.step.DatagramStep.TheVariants as hears
 use Rattle.ipx_fates.specs.declared.step.Step.{Step}
@@ -22,21 +24,21 @@ use Rattle.ipx_fates.specs.Counting.{nothing, has_place, counted}
 
 -- others of its network
 abbrev pub is_put : FrameStep → Bool
-is_put PutOnLinks = true
+is_put asks.PutOnLinks = true
 is_put other = false
 
 abbrev pub is_carry : WordStep → Bool
-is_carry Carry = true
+is_carry says.Carry = true
 is_carry other = false
 
 -- other networks, somebody who asked, or the router
 abbrev pub is_hearing : RouterStep → Bool
-is_hearing LetsHear = false
-is_hearing IsForAll = false
-is_hearing Extend = true
-is_hearing IsAwaited = true
-is_hearing Hear = true
-is_hearing Outcome = false
+is_hearing routes.LetsHear = false
+is_hearing routes.IsForAll = false
+is_hearing routes.Extend = true
+is_hearing routes.IsAwaited = true
+is_hearing routes.Hear = true
+is_hearing routes.Outcome = false
 
 abbrev pub goes_on : Step → Bool
 goes_on (Frame step) = false
@@ -68,6 +70,78 @@ reaches_nobody steps = not (list_any reaches steps)
 -- the router doesn't hear it, nor do other networks get copies
 abbrev pub is_unheard : List Step → Bool
 is_unheard steps = not (list_any goes_on steps)
+
+-- ---- the order in which steps are taken
+
+abbrev pub frame_place : FrameStep → ℕ
+frame_place asks.IsFrame = 0
+frame_place asks.HasNetwork = 1
+frame_place asks.IsHeardBeside = 2
+frame_place asks.IsTooLong = 3
+frame_place asks.IsOwn = 4
+frame_place asks.IsProbe = 5
+frame_place asks.IsOfItsKind = 6
+frame_place asks.IsForAnother = 7
+frame_place asks.Capture = 8
+frame_place asks.LetsIn = 9
+frame_place asks.HasLinks = 10
+frame_place asks.IsPacket = 11
+frame_place asks.IsBeyondLink = 12
+frame_place asks.NamesClient = 13
+frame_place asks.PutOnLinks = 14
+frame_place asks.IsForRouter = 15
+frame_place asks.WasPut = 16
+frame_place asks.IsFromClient = 17
+frame_place asks.IsWhole = 18
+
+abbrev pub datagram_place : DatagramStep → ℕ
+datagram_place hears.IsTooLong = 0
+datagram_place hears.Capture = 1
+datagram_place hears.IsAllowed = 2
+datagram_place hears.Hear = 3
+datagram_place hears.IsPacket = 4
+datagram_place hears.IsAnswered = 5
+datagram_place hears.IsClient = 6
+datagram_place hears.LetsAnswer = 7
+datagram_place hears.Answer = 8
+datagram_place hears.LetsStranger = 9
+datagram_place hears.AnswerStranger = 10
+datagram_place hears.IsClientNow = 11
+datagram_place hears.IsFromClient = 12
+datagram_place hears.IsPinged = 13
+datagram_place hears.LetsPing = 14
+datagram_place hears.Ping = 15
+
+abbrev pub word_place : WordStep → ℕ
+word_place says.IsPing = 20
+word_place says.LetsReply = 21
+word_place says.Reply = 22
+word_place says.LeaveUnanswered = 23
+word_place says.IsForSomebody = 24
+word_place says.IsForFarRouters = 25
+word_place says.LetsSay = 26
+word_place says.Carry = 27
+word_place says.IsHeard = 28
+word_place says.WasCarried = 29
+
+abbrev pub router_place : RouterStep → ℕ
+router_place routes.LetsHear = 40
+router_place routes.IsForAll = 41
+router_place routes.Extend = 42
+router_place routes.IsAwaited = 43
+router_place routes.Hear = 44
+router_place routes.Outcome = 45
+
+abbrev pub place : Step → ℕ
+place (Frame step) = frame_place step
+place (Datagram step) = datagram_place step
+place (Word step) = word_place step
+place (Router step) = router_place step
+
+-- what is next comes behind a place, if anything is
+abbrev pub IsBehind : ℕ → Course → Type 0
+IsBehind before (Goes step) = before < place step
+IsBehind before (Ends fate) = Unit {0}
 
 -- ---- counts of many packets, the latest first
 

@@ -11,11 +11,12 @@ ghost use Rattle.ipx_fates.specs.declared.step.RouterStep.TheVariants as routes;
 ghost use Rattle.ipx_fates.specs.declared.step.Step.TheVariants.{Router, Frame, Word};
 ghost use Rattle.ipx_fates.specs.Fates.{reason_at, reason_number};
 ghost use Rattle.ipx_fates.specs.Datagrams.{speaks};
-ghost use Rattle.ipx_fates.specs.Courses.{of_frame, of_datagram};
+ghost use Rattle.ipx_fates.specs.declared.step.Step.{Step};
+ghost use Rattle.ipx_fates.specs.Courses.{of_frame, of_datagram, after_step};
 ghost use Rattle.ipx_fates.specs.Walks.{Answers, fate_of, steps_of};
 ghost use Rattle.ipx_fates.specs.Conditions.{first_of, frame, datagram, word, is_said, frame_conditions, datagram_conditions};
 ghost use Rattle.ipx_fates.specs.Counting.{largest};
-ghost use Rattle.ipx_fates.specs.Laws.{reaches_nobody, is_unheard, tunnel_hears, counts_of, number_of, is_taken, is_here, can_be, is_lost_for};
+ghost use Rattle.ipx_fates.specs.Laws.{place, IsBehind, reaches_nobody, is_unheard, tunnel_hears, counts_of, number_of, is_taken, is_here, can_be, is_lost_for};
 
 /// Each packet has one fate, after at most twenty steps: of the conditions that hold of it, the first says which. Some condition always holds.
 pub fn each_packet_has_one_fate()
@@ -23,6 +24,12 @@ pub fn each_packet_has_one_fate()
     ensures datagram { (told : Answers) → fate_of told of_datagram ≡ first_of (datagram_conditions told) }
     ensures some_frame { (told : Answers) → is_some (fate_of told of_frame) ≡ true }
     ensures some_datagram { (told : Answers) → is_some (fate_of told of_datagram) ≡ true }
+{}
+
+/// What is next comes later in the order in which the steps are listed, whatever is answered. So no step is taken twice: what costs something is
+/// asked once.
+pub fn no_step_is_taken_twice()
+    ensures { (answer : ℕ) (step : Step) → IsBehind (place step) (after_step answer step) }
 {}
 
 /// A frame of the gateway's own that came back reaches nobody: no other link, no other network, and not the router.

@@ -1,5 +1,5 @@
 -- Three packets are counted.
-use Rattle.std.proofs.Common.{◌≡◌, refl, true, List, [], ◌∷◌, get_or}
+use Rattle.std.proofs.Common.{◌≡◌, refl, List, [], ◌∷◌, get_or}
 use Rattle.std.specs.List.{sum}
 use Rattle.ipx_fates.specs.declared.fate.Fate.{Fate}
 use Rattle.ipx_fates.specs.declared.fate.Fate.TheVariants.{Elsewhere, Dropped, HandedOn, Lost}

@@ -1,6 +1,6 @@
 -- A few packets, and their fates.
-use Rattle.std.proofs.Common.{◌≡◌, refl, ℕ, Some, List, [], ◌∷◌}
-use Rattle.ipx_fates.specs.declared.fate.Fate.TheVariants.{Elsewhere, Heard, Dropped, HandedOn, Answered, Stays, Awaited, Probe, Lost}
+use Rattle.std.proofs.Common.{◌≡◌, refl, ℕ, Some, [], ◌∷◌}
+use Rattle.ipx_fates.specs.declared.fate.Fate.TheVariants.{Dropped, HandedOn, Lost}
 use Rattle.ipx_fates.specs.declared.reason.Reason.TheVariants as reason
 use Rattle.ipx_fates.specs.declared.step.FrameStep.TheVariants as asks
 use Rattle.ipx_fates.specs.declared.step.DatagramStep.TheVariants as hears
@@ -8,7 +8,7 @@ use Rattle.ipx_fates.specs.declared.step.WordStep.TheVariants as says
 use Rattle.ipx_fates.specs.declared.step.RouterStep.TheVariants as routes
 use Rattle.ipx_fates.specs.declared.step.Step.TheVariants.{Frame, Datagram, Word, Router}
 use Rattle.ipx_fates.specs.Datagrams.{registers, speaks}
-use Rattle.ipx_fates.specs.Courses.{of_frame, of_datagram}
+use Rattle.ipx_fates.specs.Courses.{of_frame}
 use Rattle.ipx_fates.specs.Walks.{Answers, fate_by, steps_by, fate_of, steps_of}
 use Rattle.ipx_fates.specs.Conditions.{first_of, frame_conditions, datagram_conditions}
 
