@@ -44,7 +44,7 @@ unfolding bytes_digits
 bytes_all [] each = tt
 bytes_all (b ∷ bs) each = byte_all b (bytes_digits bs) each.0 (bytes_all bs each.1)
 
-in_digit : (c : ℕ) → digit_value c < 16 → IsInWord c
+pub in_digit : (c : ℕ) → digit_value c < 16 → IsInWord c
 in_digit c low = (grind (arith, nat_tests), grind (arith, nat_tests))
 
 some_bytes : (b : ℕ) (bs : List ℕ) → 0 < length (bytes_digits (b ∷ bs))

@@ -16,6 +16,7 @@ pub mod WordsAgain
 pub mod LinksAgain
 pub mod DigitsAgain
 pub mod LinesAgain
+pub mod ListsAgain
 -- laws
 pub mod Begun
 pub mod Endings

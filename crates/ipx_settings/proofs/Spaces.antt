@@ -1,8 +1,10 @@
-use Rattle.std.proofs.Common.{◌≡◌, ℕ, ◌<◌, List, [], ◌∷◌, ◌++◌, length, refl, sym, ap, ◌∙◌, arith, Option, append_assoc, append-nil}
-use Rattle.std.proofs.lemmas.List.{length-append}
+use Rattle.std.proofs.Common.{◌≡◌, ℕ, ◌+◌, ◌<◌, List, [], ◌∷◌, ◌++◌, length, refl, sym, ap, ◌∙◌, arith, Option, ◌≤◌, map, flat_map, le-leb, append_assoc, append-nil}
+use Rattle.std.proofs.lemmas.List.{length-append, length-map}
 use Rattle.std.specs.Prelude.{codes}
 use Rattle.ipx_settings.specs.WritingLinks.{spaced, frames_word, end_words, link_words}
-use Rattle.ipx_settings.specs.WritingLines.{bytes_digits, head_words, maybe_link_words, network_words}
+use Rattle.ipx_settings.specs.Writing.{written_size, written_into}
+use Rattle.ipx_settings.specs.declared.addresses.HostRange.{HostRange}
+use Rattle.ipx_settings.specs.WritingLines.{socket_word, range_word, sockets_words, list_size, list_into, bytes_digits, head_words, maybe_link_words, network_words}
 use Rattle.ipx_settings.specs.declared.link.End.{End}
 use Rattle.ipx_settings.specs.declared.link.End.TheVariants as ends
 use Rattle.ipx_settings.specs.declared.link.Frames.{Frames}
@@ -61,3 +63,23 @@ node_behind head it node =
 pub three_put : (a b c d x y z all : List ℕ) → b ≡ a ++ x → c ≡ b ++ y → d ≡ c ++ z → all ≡ x ++ (y ++ z) → d ≡ a ++ all
 three_put a b c d x y z all first second third e =
     third ∙ ap (λ l. l ++ z) (second ∙ ap (λ l. l ++ y) first) ∙ append_assoc (a ++ x) y z ∙ append_assoc a x (y ++ z) ∙ ap (λ l. a ++ l) (sym e)
+
+-- ---- lists
+
+listed : {A : Type 0} (f : A → List ℕ) (word : List ℕ) (xs : List A) → spaced (word ∷ map f xs) ≡ word ++ flat_map (λ x. 32 ∷ f x) xs
+listed f word [] = sym (append-nil word)
+listed f word (x ∷ xs) = ap (λ l. word ++ 32 ∷ l) (listed f (f x) xs)
+
+pub sockets_listed : (sockets : List ℕ) → spaced (sockets_words sockets) ≡ codes "extend" ++ flat_map (λ socket. 32 ∷ socket_word socket) sockets
+sockets_listed sockets = listed socket_word (codes "extend") sockets
+
+pub ranges_listed : (word : List ℕ) (ranges : List HostRange) → spaced (word ∷ map range_word ranges) ≡ word ++ flat_map (λ range. 32 ∷ range_word range) ranges
+ranges_listed word ranges = listed range_word word ranges
+
+-- what is given of a list that has room in a line
+pub given : (words : List (List ℕ)) (text out : List ℕ) (n : ℕ) → length words ≡ n + 1 → n ≤ 31 → text ≡ spaced words
+    → (written_size text out ≡ list_size words out) × (written_into text out ≡ list_into words out)
+given words text out n size few same = rw (same, le-leb (length words) 32 (omega (arith, size, few))) (refl, refl)
+
+pub list_length : {A : Type 0} (f : A → List ℕ) (word : List ℕ) (xs : List A) → length (word ∷ map f xs) ≡ length xs + 1
+list_length f word xs = omega (arith, length-map xs f)

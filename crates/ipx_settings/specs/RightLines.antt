@@ -1,10 +1,12 @@
 -- Lines that are right, by what they say.
-use Rattle.std.specs.Prelude.{◌≡◌, ℕ, Bool, true, ◌^◌, ◌<◌, ◌≤◌, List, Option, Some, None}
+use Rattle.std.specs.Prelude.{◌≡◌, ℕ, Bool, true, ◌^◌, ◌<◌, ◌≤◌, List, length, Option, Some, None}
+use Rattle.std.specs.List.{AllByRecursion}
 use Rattle.ipx_settings.specs.Addresses.{host_bits, is_first}
 use Rattle.ipx_settings.specs.Lines.{most_rate, most_kilobits}
 use Rattle.ipx_settings.specs.Networks.{last_network, least_longest, most_longest, may_have_node}
 use Rattle.ipx_settings.specs.Nodes.{is_single}
 use Rattle.ipx_settings.specs.Right.{AreNumbers, IsLink}
+use Rattle.ipx_settings.specs.Words.{most_words}
 use Rattle.ipx_settings.specs.declared.addresses.HostRange.{HostRange}
 use Rattle.ipx_settings.specs.declared.line.ClientsBegun.{ClientsBegun}
 use Rattle.ipx_settings.specs.declared.line.ClientsBegun.TheVariants as clients
@@ -88,3 +90,7 @@ IsRight c (line.Kilobits it) = IsMost 1 most_kilobits it
 -- a range whose address is its first
 abbrev pub IsRange : HostRange → Type 0
 IsRange range = AreNumbers 4 8 range.first × (range.bits ≤ host_bits) × (is_first range ≡ true)
+
+-- what a list in a line can be: these, one or more, and no more than there are words
+abbrev pub AreListed : {A : Type 0} → (A → Type 0) → List A → Type 0
+AreListed Is them = (0 < length them) × (length them < most_words) × AllByRecursion Is them

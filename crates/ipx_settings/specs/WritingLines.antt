@@ -1,9 +1,11 @@
 -- What is written: whole lines.
-use Rattle.std.specs.Prelude.{ℕ, true, ◌/◌, ◌%◌, ◌==◌, if◌then◌else◌, List, [], ◌∷◌, ◌++◌, flat_map, map, codes, decimal, Option, Some, None}
+use Rattle.std.specs.Prelude.{ℕ, true, ◌/◌, ◌%◌, ◌==◌, if◌then◌else◌, List, [], ◌∷◌, ◌++◌, flat_map, map, length, nat_le, codes, decimal, Option, Some, None}
 use Rattle.std.specs.Fmt.{digit_glyph}
 use Rattle.std.specs.Int.{to_be_bytes, w16, w32}
 use Rattle.std.specs.Net.Text.{ipv4_text}
-use Rattle.ipx_settings.specs.WritingLinks.{link_words}
+use Rattle.ipx_settings.specs.Words.{most_words}
+use Rattle.ipx_settings.specs.Writing.{written_size, written_into}
+use Rattle.ipx_settings.specs.WritingLinks.{spaced, link_words}
 use Rattle.ipx_settings.specs.declared.addresses.HostRange.{HostRange}
 use Rattle.ipx_settings.specs.declared.line.ClientsBegun.{ClientsBegun}
 use Rattle.ipx_settings.specs.declared.line.ClientsBegun.TheVariants as clients
@@ -108,3 +110,10 @@ allow_words ranges = codes "allow" ∷ map range_word ranges
 
 abbrev pub trust_words : List HostRange → List (List ℕ)
 trust_words ranges = codes "trust" ∷ map range_word ranges
+
+-- how many bytes a line with a list has, if it hasn't too many words
+abbrev pub list_size : List (List ℕ) → List ℕ → Option ℕ
+list_size words room = if nat_le (length words) most_words then written_size (spaced words) room else None
+
+abbrev pub list_into : List (List ℕ) → List ℕ → List ℕ
+list_into words room = if nat_le (length words) most_words then written_into (spaced words) room else room

@@ -1,18 +1,19 @@
 //! What follows from the definitions alone, for every line.
-ghost use Rattle.std.specs.Prelude.{◌≡◌, ℕ, Bool, ◌+◌, ◌<◌, ◌≤◌, List, length, take, None, Some};
-ghost use Rattle.ipx_settings.specs.Addresses.{address_of};
+ghost use Rattle.std.specs.Prelude.{◌≡◌, ℕ, Bool, true, map, ◌+◌, ◌<◌, ◌≤◌, List, length, take, None, Some};
+ghost use Rattle.ipx_settings.specs.Addresses.{address_of, range_of};
 ghost use Rattle.ipx_settings.specs.Beginnings.{IsLine, BeginLine, link_said};
-ghost use Rattle.ipx_settings.specs.Lines.{read_from, read_to, reading_of};
+ghost use Rattle.ipx_settings.specs.Lines.{read_from, read_to, reading_of, socket_of};
 ghost use Rattle.ipx_settings.specs.Right.{IsAddress, IsLink};
-ghost use Rattle.ipx_settings.specs.RightLines.{IsRight};
+ghost use Rattle.ipx_settings.specs.RightLines.{Within, IsRight, IsRange, AreListed};
 ghost use Rattle.ipx_settings.specs.WritingAddresses.{address_words};
 ghost use Rattle.ipx_settings.specs.WritingLinks.{spaced, link_words};
-ghost use Rattle.ipx_settings.specs.WritingLines.{line_words};
+ghost use Rattle.ipx_settings.specs.WritingLines.{line_words, socket_word, range_word, sockets_words, allow_words, trust_words};
 ghost use Rattle.ipx_settings.specs.declared.addresses.Address.{Address};
+ghost use Rattle.ipx_settings.specs.declared.addresses.HostRange.{HostRange};
 ghost use Rattle.ipx_settings.specs.declared.expected.Expected.{Expected};
 ghost use Rattle.ipx_settings.specs.declared.line.Context.{Context};
 ghost use Rattle.ipx_settings.specs.declared.line.Line.{Line};
-ghost use Rattle.ipx_settings.specs.declared.line.Line.TheVariants.{Nothing};
+ghost use Rattle.ipx_settings.specs.declared.line.Line.TheVariants.{Nothing, Extend, Allow, Trust};
 ghost use Rattle.ipx_settings.specs.declared.link.Link.{Link};
 ghost use Rattle.ipx_settings.specs.declared.link.LinkBegun.TheVariants as begun;
 
@@ -48,4 +49,14 @@ pub fn lines_are_read_again()
     ensures again { (c : Context) (line : Line) → IsRight c line → IsLine c line (line_words line) }
     ensures text { (c : Context) (line : Line) → IsRight c line → (reading_of c (spaced (line_words line)) ≡ read_to line (length (line_words line)) None) }
     ensures once { (c : Context) (a b : Line) → IsRight c a → IsRight c b → spaced (line_words a) ≡ spaced (line_words b) → a ≡ b }
+{}
+
+/// And so is each line with a list: of it each word is read again as what it was.
+pub fn lists_are_read_again()
+    ensures sockets { (c : Context) (sockets : List ℕ) → AreListed (Within 1 65535) sockets
+        → (reading_of c (spaced (sockets_words sockets)) ≡ read_to (Extend true) (length (sockets_words sockets)) None) × (map socket_of (map socket_word sockets) ≡ map Some sockets) }
+    ensures allowed { (c : Context) (ranges : List HostRange) → AreListed IsRange ranges
+        → (reading_of c (spaced (allow_words ranges)) ≡ read_to (Allow true) (length (allow_words ranges)) None) × (map range_of (map range_word ranges) ≡ map Some ranges) }
+    ensures trusted { (c : Context) (ranges : List HostRange) → AreListed IsRange ranges
+        → reading_of c (spaced (trust_words ranges)) ≡ read_to (Trust true) (length (trust_words ranges)) None }
 {}

@@ -5,6 +5,8 @@
 //!   there.
 //! - `Reading::of` reads a line: what its words say, how many of them could be read, and what was expected where they couldn't be. Its contract
 //!   is exact, by the definitions in `specs/`, one word after the other.
+//! - `write_line` and its like write lines, links and addresses into a room that they are given. What was written of a value that a right line
+//!   can have is read again as this value (`laws`).
 //! - It stands on nothing, takes no memory, and knows no other line.
 #![tactic(auto)]
 
@@ -26,6 +28,7 @@ mod writing_addresses;
 mod writing_hosts;
 mod writing_lines;
 mod writing_links;
+mod writing_lists;
 
 pub use crate::addresses::{Address, Host, HostRange, Place, read_range};
 pub use crate::expected::Expected;
@@ -39,3 +42,4 @@ pub use crate::words::Span;
 pub use crate::writing_addresses::{LONGEST_ADDRESS, write_address};
 pub use crate::writing_lines::{LONGEST_LINE, write_line};
 pub use crate::writing_links::{LONGEST_LINK, write_link};
+pub use crate::writing_lists::{LONGEST_LIST, write_allowed, write_sockets, write_trusted};

@@ -1,7 +1,6 @@
 /* sockets.h of a made-up system. */
 #include "systems/sockets.h"
 
-#include <arpa/inet.h>
 #include <errno.h>
 #include <string.h>
 
