@@ -302,8 +302,10 @@ static void let_tunnel_hear(incoming *in)
     if (in->client == NULL)
         return;
     in->by = (origin){in->client->speaks, in->client, ipxr_kind_of(in->bytes, in->carried.length)};
-    if (has_replied(in->client, in->said))
+    if (has_replied(in->client, in->said)) {
         ipxr_asked_answer(&in->client->ping.moment);
+        in->client->silent = 0;
+    }
     if (in->said != IPXR_SAID_NOTHING)
         segment_client(on, in->client->place, true); /* (it may be a client at another link of the network, too) */
 }
