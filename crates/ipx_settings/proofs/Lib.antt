@@ -17,6 +17,9 @@ pub mod LinksAgain
 pub mod DigitsAgain
 pub mod LinesAgain
 pub mod ListsAgain
+pub mod AddressesRight
+pub mod LinksRight
+pub mod LinesRight
 -- laws
 pub mod Begun
 pub mod Endings

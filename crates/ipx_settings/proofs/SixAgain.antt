@@ -27,7 +27,7 @@ AreGroups groups = (k : ℕ) → get_or groups k 0 < 2 ^ 16
 rest_are : (g : ℕ) (gs : List ℕ) → AreGroups (g ∷ gs) → AreGroups gs
 rest_are g gs are k = are (suc k)
 
-take_are : (n : ℕ) (gs : List ℕ) → AreGroups gs → AreGroups (take n gs)
+pub take_are : (n : ℕ) (gs : List ℕ) → AreGroups gs → AreGroups (take n gs)
 take_are zero gs are k = omega arith
 take_are (suc n) [] are k = omega arith
 take_are (suc n) (g ∷ gs) are zero = are zero

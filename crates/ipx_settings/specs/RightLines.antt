@@ -94,3 +94,16 @@ IsRange range = AreNumbers 4 8 range.first × (range.bits ≤ host_bits) × (is_
 -- what a list in a line can be: these, one or more, and no more than there are words
 abbrev pub AreListed : {A : Type 0} → (A → Type 0) → List A → Type 0
 AreListed Is them = (0 < length them) × (length them < most_words) × AllByRecursion Is them
+
+-- what a right line says; of a list, only that there is one
+abbrev pub IsSaid : Context → Line → Type 0
+IsSaid c line.Nothing = Unit {0}
+IsSaid c (line.Network it) = IsNetwork c.has_cards it
+IsSaid c (line.Link it) = IsWhole c.has_cards it
+IsSaid c (line.Extend has_some) = has_some ≡ true
+IsSaid c (line.Clients it) = IsClients c.most_clients it
+IsSaid c (line.Allow has_some) = has_some ≡ true
+IsSaid c (line.Trust has_some) = has_some ≡ true
+IsSaid c (line.Rate it) = IsRate c.is_below_tunnel it
+IsSaid c (line.Strangers it) = IsMost 0 most_rate it
+IsSaid c (line.Kilobits it) = IsMost 1 most_kilobits it

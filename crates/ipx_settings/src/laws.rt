@@ -1,10 +1,11 @@
 //! What follows from the definitions alone, for every line.
 ghost use Rattle.std.specs.Prelude.{◌≡◌, ℕ, Bool, true, map, ◌+◌, ◌<◌, ◌≤◌, List, length, take, None, Some};
+ghost use Rattle.std.specs.List.{AllByRecursion};
 ghost use Rattle.ipx_settings.specs.Addresses.{address_of, range_of};
 ghost use Rattle.ipx_settings.specs.Beginnings.{IsLine, BeginLine, link_said};
 ghost use Rattle.ipx_settings.specs.Lines.{read_from, read_to, reading_of, socket_of};
-ghost use Rattle.ipx_settings.specs.Right.{IsAddress, IsLink};
-ghost use Rattle.ipx_settings.specs.RightLines.{Within, IsRight, IsRange, AreListed};
+ghost use Rattle.ipx_settings.specs.Right.{IsAddress, IsWord, IsLink};
+ghost use Rattle.ipx_settings.specs.RightLines.{Within, IsRight, IsSaid, IsRange, AreListed};
 ghost use Rattle.ipx_settings.specs.WritingAddresses.{address_words};
 ghost use Rattle.ipx_settings.specs.WritingLinks.{spaced, link_words};
 ghost use Rattle.ipx_settings.specs.WritingLines.{line_words, socket_word, range_word, sockets_words, allow_words, trust_words};
@@ -32,20 +33,23 @@ pub fn faults_are_first()
     ensures ended { (c : Context) (e : Expected) (l : Line) (words : List (List ℕ)) → (read_from c Nothing 0 words).fault ≡ Some e → IsLine c l words → ⊥ }
 {}
 
-/// An address that was written is read again as it was; so each has words of its own.
+/// An address that was written is read again as it was; so each has words of its own. What is read as an address can be written.
 pub fn addresses_are_read_again()
     ensures again { (address : Address) → IsAddress address → address_of (address_words address) ≡ Some address }
+    ensures right { (word : List ℕ) (address : Address) → address_of word ≡ Some address → IsAddress address }
     ensures once { (a b : Address) → IsAddress a → IsAddress b → address_words a ≡ address_words b → a ≡ b }
 {}
 
 /// So is a link.
 pub fn links_are_read_again()
+    ensures right { (has_cards : Bool) (words : List (List ℕ)) (link : Link) → AllByRecursion IsWord words → link_said has_cards begun.Nothing words ≡ Some (begun.Whole link) → IsLink has_cards link }
     ensures again { (has_cards : Bool) (link : Link) → IsLink has_cards link → link_said has_cards begun.Nothing (link_words link) ≡ Some (begun.Whole link) }
     ensures once { (has_cards : Bool) (a b : Link) → IsLink has_cards a → IsLink has_cards b → spaced (link_words a) ≡ spaced (link_words b) → a ≡ b }
 {}
 
 /// And so is a line.
 pub fn lines_are_read_again()
+    ensures right { (c : Context) (text : List ℕ) → (reading_of c text).fault ≡ None → IsSaid c (reading_of c text).line }
     ensures again { (c : Context) (line : Line) → IsRight c line → IsLine c line (line_words line) }
     ensures text { (c : Context) (line : Line) → IsRight c line → (reading_of c (spaced (line_words line)) ≡ read_to line (length (line_words line)) None) }
     ensures once { (c : Context) (a b : Line) → IsRight c a → IsRight c b → spaced (line_words a) ≡ spaced (line_words b) → a ≡ b }

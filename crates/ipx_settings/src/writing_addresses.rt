@@ -10,7 +10,7 @@ use crate::writing_hosts::{LONGEST_SIX, put_four, put_six};
 const LONGEST_HOST: usize = LONGEST_SIX + 2;
 
 /// How many bytes an address has at most in words: this is room for each.
-pub const LONGEST_ADDRESS: usize = LONGEST_HOST + 1 + LONGEST_NUMBER;
+pub const LONGEST_ADDRESS: usize = 63;
 
 /// Puts the host of an address.
 fn put_host(room: &mut [u8], at: usize, host: &Host) -> usize

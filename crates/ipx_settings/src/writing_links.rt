@@ -15,7 +15,7 @@ const LONGEST_PLACE: usize = HOST_ROOM + 1 + LONGEST_NUMBER;
 const LONGEST_END: usize = 10 + LONGEST_ADDRESS + LONGEST_PLACE;
 
 /// How many bytes a link has at most in words: this is room for each.
-pub const LONGEST_LINK: usize = LONGEST_END + 10;
+pub const LONGEST_LINK: usize = 348;
 
 /// Where the first 0 stands.
 fn zero_at(bytes: &[u8]) -> Option<usize>

@@ -1,0 +1,349 @@
+use Rattle.std.proofs.Common.{◌≡◌, ℕ, zero, suc, ◌*◌, ◌^◌, ◌<◌, ◌≤◌, ◌==◌, ◌&&◌, nat_lt, not, Bool, true, false, List, [], ◌∷◌, length, get_or, take, drop, filter, refl, sym, subst, arith, Option, Some, None, one-add}
+use Rattle.std.specs.List.{AllByRecursion, slice_split, onto_first}
+use Rattle.std.specs.Option.{is_some, is_none}
+use Rattle.std.specs.Prelude.{Result, Ok, Err, codes}
+use Rattle.ipx_settings.specs.Addresses.{range_of, is_first}
+use Rattle.ipx_settings.specs.Beginnings.{if_right, said_by}
+use Rattle.ipx_settings.specs.Lines.{most_rate, most_kilobits, rate_or_none, socket_of, line_first, clients_step, share_behind, rate_step, strangers_step, kilobits_step, range_by, with_network, line_step, line_ends, read_from, read_to, reading_by, reading_of}
+use Rattle.ipx_settings.specs.Lines as lines
+use Rattle.ipx_settings.specs.Links.{said, is_the, link_step, link_ends}
+use Rattle.ipx_settings.specs.Networks.{last_network, least_longest, most_longest, head_of, with_shares, is_share, with_link, behind_head, may_have_node, behind_whole, network_step, network_ends}
+use Rattle.ipx_settings.specs.Nodes.{byte_at, bytes_by, step_of, is_single, node_bytes_of, node_of}
+use Rattle.ipx_settings.specs.Numbers.{number_of, hexadecimal_of}
+use Rattle.ipx_settings.specs.Right.{AreNumbers, IsInWord, IsWord, IsLink}
+use Rattle.ipx_settings.specs.RightLines.{Within, IsHead, IsNode, MayHaveNode, IsWhole, IsNetwork, IsClients, IsRate, IsMost, IsSaid}
+use Rattle.ipx_settings.specs.Words.{is_blank, is_mark, before_mark, words, most_words}
+use Rattle.ipx_settings.specs.declared.addresses.HostRange.{HostRange}
+use Rattle.ipx_settings.specs.declared.expected.Expected.{Expected}
+use Rattle.ipx_settings.specs.declared.expected.Expected.TheVariants as expected
+use Rattle.ipx_settings.specs.declared.line.ClientsBegun.{ClientsBegun}
+use Rattle.ipx_settings.specs.declared.line.ClientsBegun.TheVariants as clients
+use Rattle.ipx_settings.specs.declared.line.Context.{Context}
+use Rattle.ipx_settings.specs.declared.line.Line.{Line}
+use Rattle.ipx_settings.specs.declared.line.Line.TheVariants as line
+use Rattle.ipx_settings.specs.declared.line.RateBegun.{RateBegun}
+use Rattle.ipx_settings.specs.declared.line.RateBegun.TheVariants as rate
+use Rattle.ipx_settings.specs.declared.link.Link.{Link}
+use Rattle.ipx_settings.specs.declared.link.LinkBegun.{LinkBegun}
+use Rattle.ipx_settings.specs.declared.link.LinkBegun.TheVariants as begun
+use Rattle.ipx_settings.specs.declared.network.Head.{Head}
+use Rattle.ipx_settings.specs.declared.network.NetworkBegun.{NetworkBegun}
+use Rattle.ipx_settings.specs.declared.network.NetworkBegun.TheVariants as network
+use Rattle.ipx_settings.proofs.AddressesAgain.{one_value}
+use Rattle.ipx_settings.proofs.AddressesRight.{bound, chosen, no_value, decimal_within, hexadecimal_within}
+use Rattle.ipx_settings.proofs.FirstWrong.{right}
+use Rattle.ipx_settings.proofs.LinksRight.{IsPart, no_error, said_right, chosen_right, ok_right, step_right}
+use Rattle.ipx_settings.proofs.Parts.{has_bytes, keeps}
+
+-- ---- words of a text
+
+unmarked : (text : List ℕ) → AllByRecursion (λ c. is_mark c ≡ false) (before_mark text)
+unmarked [] = tt
+unmarked (c ∷ text) = by (is_mark c) refl (unmarked text)
+  where
+    by : (b : Bool) → is_mark c ≡ b → AllByRecursion (λ x. is_mark x ≡ false) (before_mark text) → AllByRecursion (λ x. is_mark x ≡ false) (before_mark (c ∷ text))
+    by true is more = rw is tt
+    by false is more = rw (is, one-add) (is, more)
+
+-- a byte more of the first part
+onto : (c : ℕ) (parts : List (List ℕ)) → IsInWord c → AllByRecursion (AllByRecursion IsInWord) parts → AllByRecursion (AllByRecursion IsInWord) (onto_first c parts)
+onto c [] is each = ((is, tt), tt)
+onto c (part ∷ parts) is each = ((is, each.0), each.1)
+
+parts_each : (text : List ℕ) → AllByRecursion (λ c. is_mark c ≡ false) text → AllByRecursion (AllByRecursion IsInWord) (slice_split is_blank text)
+parts_each [] each = (tt, tt)
+parts_each (c ∷ text) each = by (is_blank c) refl (parts_each text each.1)
+  where
+    by : (b : Bool) → is_blank c ≡ b → AllByRecursion (AllByRecursion IsInWord) (slice_split is_blank text) → AllByRecursion (AllByRecursion IsInWord) (slice_split is_blank (c ∷ text))
+    by true is more = rw is (tt, more)
+    by false is more = rw is (onto c (slice_split is_blank text) (is, each.0) more)
+
+filled : (parts : List (List ℕ)) → AllByRecursion (AllByRecursion IsInWord) parts → AllByRecursion IsWord (filter has_bytes parts)
+filled [] each = tt
+filled ([] ∷ parts) each = filled parts each.1
+filled ((c ∷ part) ∷ parts) each = subst (AllByRecursion IsWord) (sym (keeps (c ∷ part) parts (omega arith))) ((omega arith, each.0), filled parts each.1)
+
+pub words_are : (text : List ℕ) → AllByRecursion IsWord (words (before_mark text))
+words_are text = filled (slice_split is_blank (before_mark text)) (parts_each (before_mark text) (unmarked text))
+
+-- ---- numbers and nodes
+
+rate_most : (word : List ℕ) (r : ℕ) → rate_or_none word ≡ Some r → r ≤ most_rate
+rate_most word r e =
+    chosen (λ n. n ≤ most_rate) (is_the word (codes "none")) (Some 0) (number_of 1 most_rate word) r
+    (λ _ f. subst (λ n. n ≤ most_rate) (one_value 0 r f) (omega arith)) (λ _ f. (decimal_within 1 most_rate r word f).1) e
+
+byte_low : (word : List ℕ) (at n : ℕ) → byte_at word at ≡ Some n → n < 2 ^ 8
+byte_low word at n e = omega (arith, hexadecimal_within 2 0 255 n (take 2 (drop at word)) e)
+
+six_numbers : (a b c d e f : ℕ) → a < 2 ^ 8 → b < 2 ^ 8 → c < 2 ^ 8 → d < 2 ^ 8 → e < 2 ^ 8 → f < 2 ^ 8 → AreNumbers 6 8 (a ∷ b ∷ c ∷ d ∷ e ∷ f ∷ [])
+six_numbers a b c d e f la lb lc ld le lf = (refl, each)
+  where
+    each : (k : ℕ) → get_or (a ∷ b ∷ c ∷ d ∷ e ∷ f ∷ []) k 0 < 2 ^ 8
+    each zero = la
+    each (suc zero) = lb
+    each (suc (suc zero)) = lc
+    each (suc (suc (suc zero))) = ld
+    each (suc (suc (suc (suc zero)))) = le
+    each (suc (suc (suc (suc (suc zero))))) = lf
+    each (suc (suc (suc (suc (suc (suc k)))))) = omega arith
+
+bytes_right : (step : ℕ) (word node : List ℕ) → bytes_by step word ≡ Some node → AreNumbers 6 8 node
+bytes_right step word node e0 =
+    bound (AreNumbers 6 8) (byte_at word 0) _ node (λ a ia e1.
+    bound (AreNumbers 6 8) (byte_at word step) _ node (λ b ib e2.
+    bound (AreNumbers 6 8) (byte_at word (2 * step)) _ node (λ c ic e3.
+    bound (AreNumbers 6 8) (byte_at word (3 * step)) _ node (λ d id e4.
+    bound (AreNumbers 6 8) (byte_at word (4 * step)) _ node (λ e ie e5.
+    bound (AreNumbers 6 8) (byte_at word (5 * step)) _ node (λ f if6 e6.
+    subst (AreNumbers 6 8) (one_value (a ∷ b ∷ c ∷ d ∷ e ∷ f ∷ []) node e6)
+    (six_numbers a b c d e f (byte_low word 0 a ia) (byte_low word step b ib) (byte_low word (2 * step) c ic) (byte_low word (3 * step) d id) (byte_low word (4 * step) e ie) (byte_low word (5 * step) f if6)))
+    e5) e4) e3) e2) e1) e0
+
+node_right : (word node : List ℕ) → node_of word ≡ Some node → IsNode node
+node_right word node e =
+    bound IsNode (node_bytes_of word) _ node (λ bytes ibytes e1.
+    chosen IsNode (is_single bytes) (Some bytes) None node
+    (λ single f. subst IsNode (one_value bytes node f) (bound (AreNumbers 6 8) (step_of word) _ bytes (λ step _ e2. bytes_right step word bytes e2) ibytes, single))
+    (λ _ f. absurd (no_value node f)) e1) e
+
+-- ---- networks, as far as they were read
+
+abbrev NetworkPart : Bool → NetworkBegun → Type 0
+NetworkPart has_cards network.Nothing = Unit {0}
+NetworkPart has_cards (network.Number number) = Within 1 last_network number
+NetworkPart has_cards (network.Cost number cost) = Within 1 last_network number × Within 1 65535 cost
+NetworkPart has_cards (network.Head head) = IsHead head
+NetworkPart has_cards (network.Routes head routes) = IsHead head × (routes < 2 ^ 16)
+NetworkPart has_cards (network.Link head b) = IsHead head × IsPart has_cards b
+NetworkPart has_cards (network.Node head it) = IsHead head × MayHaveNode has_cards it
+NetworkPart has_cards (network.Whole head it node) = IsHead head × MayHaveNode has_cards it × IsNode node
+
+link_part : (has_cards : Bool) (head : Head) (b : LinkBegun) (word : List ℕ) (r : Result LinkBegun Expected) (next : NetworkBegun) → IsHead head → IsWord word → IsPart has_cards b → link_step has_cards b word ≡ r
+    → with_link head r ≡ Ok next → NetworkPart has_cards next
+link_part has_cards head b word (Ok it) next is one part read e = ok_right (NetworkPart has_cards) (network.Link head it) next (is, step_right has_cards b it word one part read) e
+link_part has_cards head b word (Err why) next is one part read e = absurd (no_error why next e)
+
+behind_part : (has_cards : Bool) (head : Head) (b : LinkBegun) (word : List ℕ) (next : NetworkBegun) → IsHead head → IsWord word → IsPart has_cards b
+    → with_link head (link_step has_cards b word) ≡ Ok next → NetworkPart has_cards next
+behind_part has_cards head b word next is one part e = link_part has_cards head b word (link_step has_cards b word) next is one part refl e
+
+head_part : (has_cards : Bool) (head : Head) (word : List ℕ) (next : NetworkBegun) → IsHead head → IsWord word → behind_head head has_cards word ≡ Ok next → NetworkPart has_cards next
+head_part has_cards head word next is one e =
+    let P = NetworkPart has_cards in
+    chosen_right P (is_none head.shares && is_share word) _ _ next
+    (λ _ f. said_right P expected.Routes (network.Routes head) (number_of 0 65535 word) next (λ routes read. (is, omega (arith, decimal_within 0 65535 routes word read))) f)
+    (λ _ e1. chosen_right P (is_the word (codes "node")) _ _ next (λ _ f. ok_right P (network.Node head None) next (is, tt) f) (λ _ f. behind_part has_cards head begun.Nothing word next is one tt f) e1) e
+
+whole_part : (has_cards : Bool) (head : Head) (it : Link) (word : List ℕ) (next : NetworkBegun) → IsHead head → IsLink has_cards it → behind_whole head it word ≡ Ok next → NetworkPart has_cards next
+whole_part has_cards head it word next is one e =
+    let P = NetworkPart has_cards in
+    chosen_right P (not (may_have_node it)) _ _ next (λ _ f. absurd (no_error expected.Nothing next f)) (λ may e1.
+    chosen_right P (not (is_the word (codes "node"))) _ _ next (λ _ f. absurd (no_error expected.NodeWord next f))
+    (λ _ f. ok_right P (network.Node head (Some it)) next (is, (one, no_false (may_have_node it) may)) f) e1) e
+  where
+    no_false : (b : Bool) → not b ≡ false → b ≡ true
+    no_false b fails = grind arith
+
+network_part : (has_cards : Bool) (b next : NetworkBegun) (word : List ℕ) → IsWord word → NetworkPart has_cards b → network_step has_cards b word ≡ Ok next → NetworkPart has_cards next
+network_part has_cards network.Nothing next word one part e =
+    said_right (NetworkPart has_cards) expected.Network network.Number (hexadecimal_of 8 1 last_network word) next (λ n read. hexadecimal_within 8 1 last_network n word read) e
+network_part has_cards (network.Number number) next word one part e =
+    said_right (NetworkPart has_cards) expected.Cost (network.Cost number) (number_of 1 65535 word) next (λ n read. (part, decimal_within 1 65535 n word read)) e
+network_part has_cards (network.Cost number cost) next word one part e =
+    said_right (NetworkPart has_cards) expected.Longest (λ longest. network.Head (head_of number cost None longest)) (number_of least_longest most_longest word) next
+    (λ n read. (part.0, part.1, decimal_within least_longest most_longest n word read, tt)) e
+network_part has_cards (network.Head head) next word one part e = head_part has_cards head word next part one e
+network_part has_cards (network.Routes head routes) next word one part e =
+    said_right (NetworkPart has_cards) expected.Services (λ services. network.Head (with_shares head routes services)) (number_of 0 65535 word) next
+    (λ n read. (part.0.0, part.0.1, part.0.2, (part.1, omega (arith, decimal_within 0 65535 n word read)))) e
+network_part has_cards (network.Link head (begun.Whole it)) next word one part e = whole_part has_cards head it word next part.0 part.1 e
+network_part has_cards (network.Link head begun.Nothing) next word one part e = behind_part has_cards head begun.Nothing word next part.0 one part.1 e
+network_part has_cards (network.Link head begun.Tunnel) next word one part e = behind_part has_cards head begun.Tunnel word next part.0 one part.1 e
+network_part has_cards (network.Link head begun.Udp) next word one part e = behind_part has_cards head begun.Udp word next part.0 one part.1 e
+network_part has_cards (network.Link head (begun.UdpFrom local)) next word one part e = behind_part has_cards head (begun.UdpFrom local) word next part.0 one part.1 e
+network_part has_cards (network.Link head begun.Tcp) next word one part e = behind_part has_cards head begun.Tcp word next part.0 one part.1 e
+network_part has_cards (network.Link head begun.Listen) next word one part e = behind_part has_cards head begun.Listen word next part.0 one part.1 e
+network_part has_cards (network.Link head begun.Connect) next word one part e = behind_part has_cards head begun.Connect word next part.0 one part.1 e
+network_part has_cards (network.Link head begun.Tap) next word one part e = behind_part has_cards head begun.Tap word next part.0 one part.1 e
+network_part has_cards (network.Link head begun.Interface) next word one part e = behind_part has_cards head begun.Interface word next part.0 one part.1 e
+network_part has_cards (network.Link head (begun.End end)) next word one part e = behind_part has_cards head (begun.End end) word next part.0 one part.1 e
+network_part has_cards (network.Node head it) next word one part e =
+    said_right (NetworkPart has_cards) expected.Node (network.Whole head it) (node_of word) next (λ node read. (part.0, part.1, node_right word node read)) e
+network_part has_cards (network.Whole head it node) next word one part e = absurd (no_error expected.Nothing next e)
+
+link_whole : (has_cards : Bool) (b : LinkBegun) → IsPart has_cards b → link_ends b ≡ true → IsWhole has_cards b
+link_whole has_cards (begun.Whole it) part ends = part
+link_whole has_cards begun.Nothing part ends = absurd cc
+link_whole has_cards begun.Tunnel part ends = absurd cc
+link_whole has_cards begun.Udp part ends = absurd cc
+link_whole has_cards (begun.UdpFrom local) part ends = absurd cc
+link_whole has_cards begun.Tcp part ends = absurd cc
+link_whole has_cards begun.Listen part ends = absurd cc
+link_whole has_cards begun.Connect part ends = absurd cc
+link_whole has_cards begun.Tap part ends = absurd cc
+link_whole has_cards begun.Interface part ends = absurd cc
+link_whole has_cards (begun.End end) part ends = absurd cc
+
+network_right : (has_cards : Bool) (b : NetworkBegun) → NetworkPart has_cards b → network_ends b ≡ true → IsNetwork has_cards b
+network_right has_cards network.Nothing part ends = absurd cc
+network_right has_cards (network.Number number) part ends = absurd cc
+network_right has_cards (network.Cost number cost) part ends = absurd cc
+network_right has_cards (network.Head head) part ends = part
+network_right has_cards (network.Routes head routes) part ends = absurd cc
+network_right has_cards (network.Link head b) part ends = (part.0, link_whole has_cards b part.1 ends)
+network_right has_cards (network.Node head it) part ends = absurd cc
+network_right has_cards (network.Whole head it node) part ends = part
+
+-- ---- lines, as far as they were read
+
+abbrev ClientsPart : ℕ → ClientsBegun → Type 0
+ClientsPart most clients.Nothing = Unit {0}
+ClientsPart most (clients.All n) = Within 1 most n
+ClientsPart most (clients.OfAddress n m) = Within 1 most n × Within 1 n m
+
+abbrev RatePart : Bool → RateBegun → Type 0
+RatePart is_below_tunnel rate.Nothing = Unit {0}
+RatePart is_below_tunnel (rate.Rate r) = r ≤ most_rate
+RatePart is_below_tunnel (rate.Share r share) = (r ≤ most_rate) × Within 1 r share
+RatePart is_below_tunnel (rate.Household r share household) = (r ≤ most_rate) × Within 1 r share × (household ≤ most_rate) × (is_below_tunnel ≡ true)
+
+abbrev MostPart : ℕ → ℕ → Option ℕ → Type 0
+MostPart least most None = Unit {0}
+MostPart least most (Some n) = Within least most n
+
+abbrev LinePart : Context → Line → Type 0
+LinePart c line.Nothing = Unit {0}
+LinePart c (line.Network b) = NetworkPart c.has_cards b
+LinePart c (line.Link b) = IsPart c.has_cards b
+LinePart c (line.Extend has_some) = Unit {0}
+LinePart c (line.Clients it) = ClientsPart c.most_clients it
+LinePart c (line.Allow has_some) = Unit {0}
+LinePart c (line.Trust has_some) = Unit {0}
+LinePart c (line.Rate it) = RatePart c.is_below_tunnel it
+LinePart c (line.Strangers it) = MostPart 0 most_rate it
+LinePart c (line.Kilobits it) = MostPart 1 most_kilobits it
+
+first_part : (c : Context) (word : List ℕ) (next : Line) → line_first word ≡ Ok next → LinePart c next
+first_part c word next e =
+    let P = LinePart c in
+    chosen_right P (is_the word (codes "network")) _ _ next (λ _ f. ok_right P (line.Network network.Nothing) next tt f) (λ _ e1.
+    chosen_right P (is_the word (codes "link")) _ _ next (λ _ f. ok_right P (line.Link begun.Nothing) next tt f) (λ _ e2.
+    chosen_right P (is_the word (codes "extend")) _ _ next (λ _ f. ok_right P (line.Extend false) next tt f) (λ _ e3.
+    chosen_right P (is_the word (codes "clients")) _ _ next (λ _ f. ok_right P (line.Clients clients.Nothing) next tt f) (λ _ e4.
+    chosen_right P (is_the word (codes "allow")) _ _ next (λ _ f. ok_right P (line.Allow false) next tt f) (λ _ e5.
+    chosen_right P (is_the word (codes "trust")) _ _ next (λ _ f. ok_right P (line.Trust false) next tt f) (λ _ e6.
+    chosen_right P (is_the word (codes "rate")) _ _ next (λ _ f. ok_right P (line.Rate rate.Nothing) next tt f) (λ _ e7.
+    chosen_right P (is_the word (codes "strangers")) _ _ next (λ _ f. ok_right P (line.Strangers None) next tt f) (λ _ e8.
+    chosen_right P (is_the word (codes "line")) _ _ next (λ _ f. ok_right P (line.Kilobits None) next tt f) (λ _ f. absurd (no_error expected.Line next f))
+    e8) e7) e6) e5) e4) e3) e2) e1) e
+
+network_line_part : (c : Context) (b : NetworkBegun) (word : List ℕ) (r : Result NetworkBegun Expected) (next : Line) → IsWord word → NetworkPart c.has_cards b → network_step c.has_cards b word ≡ r
+    → with_network r ≡ Ok next → LinePart c next
+network_line_part c b word (Ok it) next one part read e = ok_right (LinePart c) (line.Network it) next (network_part c.has_cards b it word one part read) e
+network_line_part c b word (Err why) next one part read e = absurd (no_error why next e)
+
+link_line_part : (c : Context) (b : LinkBegun) (word : List ℕ) (r : Result LinkBegun Expected) (next : Line) → IsWord word → IsPart c.has_cards b → link_step c.has_cards b word ≡ r
+    → lines.with_link r ≡ Ok next → LinePart c next
+link_line_part c b word (Ok it) next one part read e = ok_right (LinePart c) (line.Link it) next (step_right c.has_cards b it word one part read) e
+link_line_part c b word (Err why) next one part read e = absurd (no_error why next e)
+
+range_part : (c : Context) (into next : Line) (o : Option HostRange) → LinePart c into → range_by into o ≡ Ok next → LinePart c next
+range_part c into next None part e = absurd (no_error expected.Range next e)
+range_part c into next (Some range) part e =
+    chosen_right (LinePart c) (is_first range) _ _ next (λ _ f. ok_right (LinePart c) into next part f) (λ _ f. absurd (no_error (expected.FirstOf range.bits) next f)) e
+
+truth : (b : Bool) → not b ≡ false → b ≡ true
+truth b fails = grind arith
+
+rate_part : (c : Context) (it : RateBegun) (word : List ℕ) (next : Line) → RatePart c.is_below_tunnel it → rate_step it c.is_below_tunnel word ≡ Ok next → LinePart c next
+rate_part c rate.Nothing word next part e = said_right (LinePart c) expected.Rate (λ r. line.Rate (rate.Rate r)) (rate_or_none word) next (λ r read. rate_most word r read) e
+rate_part c (rate.Rate r) word next part e =
+    chosen_right (LinePart c) (r == 0) _ _ next (λ _ f. absurd (no_error expected.Nothing next f))
+    (λ _ f. said_right (LinePart c) expected.Share (λ share. line.Rate (rate.Share r share)) (number_of 1 r word) next (λ share read. (part, decimal_within 1 r share word read)) f) e
+rate_part c (rate.Share r share) word next part e =
+    chosen_right (LinePart c) (not c.is_below_tunnel) _ _ next (λ _ f. absurd (no_error expected.Nothing next f))
+    (λ below f. said_right (LinePart c) expected.Household (λ household. line.Rate (rate.Household r share household)) (rate_or_none word) next
+    (λ household read. (part.0, part.1, rate_most word household read, truth c.is_below_tunnel below)) f) e
+rate_part c (rate.Household r share household) word next part e = absurd (no_error expected.Nothing next e)
+
+clients_part : (c : Context) (it : ClientsBegun) (word : List ℕ) (next : Line) → ClientsPart c.most_clients it → clients_step it c.most_clients word ≡ Ok next → LinePart c next
+clients_part c clients.Nothing word next part e =
+    said_right (LinePart c) expected.Clients (λ n. line.Clients (clients.All n)) (number_of 1 c.most_clients word) next (λ n read. decimal_within 1 c.most_clients n word read) e
+clients_part c (clients.All n) word next part e =
+    said_right (LinePart c) expected.ClientsOfAddress (λ m. line.Clients (clients.OfAddress n m)) (number_of 1 n word) next (λ m read. (part, decimal_within 1 n m word read)) e
+clients_part c (clients.OfAddress n m) word next part e = absurd (no_error expected.Nothing next e)
+
+strangers_part : (c : Context) (it : Option ℕ) (word : List ℕ) (next : Line) → strangers_step it word ≡ Ok next → LinePart c next
+strangers_part c it word next e =
+    chosen_right (LinePart c) (is_some it) _ _ next (λ _ f. absurd (no_error expected.Nothing next f))
+    (λ _ f. said_right (LinePart c) expected.Strangers (λ r. line.Strangers (Some r)) (rate_or_none word) next (λ r read. (omega arith, rate_most word r read)) f) e
+
+kilobits_part : (c : Context) (it : Option ℕ) (word : List ℕ) (next : Line) → kilobits_step it word ≡ Ok next → LinePart c next
+kilobits_part c it word next e =
+    chosen_right (LinePart c) (is_some it) _ _ next (λ _ f. absurd (no_error expected.Nothing next f))
+    (λ _ f. said_right (LinePart c) expected.Kilobits (λ n. line.Kilobits (Some n)) (number_of 1 most_kilobits word) next (λ n read. decimal_within 1 most_kilobits n word read) f) e
+
+line_part : (c : Context) (l next : Line) (word : List ℕ) → IsWord word → LinePart c l → line_step c l word ≡ Ok next → LinePart c next
+line_part c line.Nothing next word one part e = first_part c word next e
+line_part c (line.Network b) next word one part e = network_line_part c b word (network_step c.has_cards b word) next one part refl e
+line_part c (line.Link b) next word one part e = link_line_part c b word (link_step c.has_cards b word) next one part refl e
+line_part c (line.Extend has_some) next word one part e = said_right (LinePart c) expected.Socket (λ socket. line.Extend true) (socket_of word) next (λ socket read. tt) e
+line_part c (line.Clients it) next word one part e = clients_part c it word next part e
+line_part c (line.Allow has_some) next word one part e = range_part c (line.Allow true) next (range_of word) tt e
+line_part c (line.Trust has_some) next word one part e = range_part c (line.Trust true) next (range_of word) tt e
+line_part c (line.Rate it) next word one part e = rate_part c it word next part e
+line_part c (line.Strangers it) next word one part e = strangers_part c it word next e
+line_part c (line.Kilobits it) next word one part e = kilobits_part c it word next e
+
+said_part : (c : Context) (l last : Line) (ws : List (List ℕ)) → AllByRecursion IsWord ws → LinePart c l → said_by c l ws ≡ Some last → LinePart c last
+said_part c l last [] are part e = subst (LinePart c) (one_value l last e) part
+said_part c l last (w ∷ ws) are part e = by (λ next. said_part c next last ws are.1) (line_step c l w) refl e
+  where
+    by : ((next : Line) → LinePart c next → said_by c next ws ≡ Some last → LinePart c last) → (r : Result Line Expected) → line_step c l w ≡ r
+        → if_right r (λ next. said_by c next ws) ≡ Some last → LinePart c last
+    by each (Ok next) is said = each next (line_part c l next w are.0 part is) said
+    by each (Err why) is said = absurd (no_value last said)
+
+clients_right : (most : ℕ) (it : ClientsBegun) → ClientsPart most it → lines.clients_end it ≡ true → IsClients most it
+clients_right most clients.Nothing part ends = absurd cc
+clients_right most (clients.All n) part ends = part
+clients_right most (clients.OfAddress n m) part ends = part
+
+rate_right : (is_below_tunnel : Bool) (it : RateBegun) → RatePart is_below_tunnel it → lines.rate_ends it ≡ true → IsRate is_below_tunnel it
+rate_right is_below_tunnel rate.Nothing part ends = absurd cc
+rate_right is_below_tunnel (rate.Rate r) part ends = part
+rate_right is_below_tunnel (rate.Share r share) part ends = part
+rate_right is_below_tunnel (rate.Household r share household) part ends = part
+
+most_right : (least most : ℕ) (it : Option ℕ) → MostPart least most it → is_some it ≡ true → IsMost least most it
+most_right least most None part ends = absurd cc
+most_right least most (Some n) part ends = part
+
+line_said : (c : Context) (l : Line) → LinePart c l → line_ends l ≡ true → IsSaid c l
+line_said c line.Nothing part ends = tt
+line_said c (line.Network b) part ends = network_right c.has_cards b part ends
+line_said c (line.Link b) part ends = link_whole c.has_cards b part ends
+line_said c (line.Extend has_some) part ends = ends
+line_said c (line.Clients it) part ends = clients_right c.most_clients it part ends
+line_said c (line.Allow has_some) part ends = ends
+line_said c (line.Trust has_some) part ends = ends
+line_said c (line.Rate it) part ends = rate_right c.is_below_tunnel it part ends
+line_said c (line.Strangers it) part ends = most_right 0 most_rate it part ends
+line_said c (line.Kilobits it) part ends = most_right 1 most_kilobits it part ends
+
+words_said : (c : Context) (ws : List (List ℕ)) → AllByRecursion IsWord ws → (reading_by c ws).fault ≡ None → IsSaid c (reading_by c ws).line
+words_said c ws are none = by (nat_lt most_words (length ws)) refl
+  where
+    by : (b : Bool) → nat_lt most_words (length ws) ≡ b → IsSaid c (reading_by c ws).line
+    by true is = absurd (no_fault (sym (rw is at none)))
+      where
+        no_fault : None ≡ Some expected.FewerWords → ⊥
+        no_fault bad = cc
+    by false is = (
+        let known = right c ws (rw is at none) in
+        rw is (line_said c (read_from c line.Nothing 0 ws).line (said_part c line.Nothing (read_from c line.Nothing 0 ws).line ws are tt known.0) known.1))
+
+-- a line that was read without a fault says something right
+pub text_said : (c : Context) (text : List ℕ) → (reading_of c text).fault ≡ None → IsSaid c (reading_of c text).line
+text_said c text none = words_said c (words (before_mark text)) (words_are text) none
