@@ -4,3 +4,4 @@ pub mod Following
 pub mod Growing
 pub mod Apart
 pub mod Listing
+pub mod Meaning

@@ -1,5 +1,7 @@
 -- Whole configurations: lists of lines.
-use Rattle.std.specs.Prelude.{◌≡◌, ℕ, ◌+◌, ◌<◌, ◌≤◌, List, [], ◌∷◌, length, Some, None, slice_get}
+use Rattle.std.specs.Prelude.{Bool, true, false, ◌≡◌, ℕ, ◌+◌, ◌<◌, ◌≤◌, List, [], ◌∷◌, length, Some, None, slice_get}
+use Rattle.ipx_settings.specs.declared.line.Line.{Line}
+use Rattle.ipx_settings.specs.declared.line.Line.TheVariants as line
 use Rattle.ipx_configuration.specs.Clashes.{clash}
 use Rattle.ipx_configuration.specs.Configurations.{after, nothing}
 use Rattle.ipx_configuration.specs.Memory.{most_networks, most_links}
@@ -27,3 +29,9 @@ AreApart links = (i j : ℕ) (a b : LinkSetting) → i < j → slice_get links i
 -- links stand in the order of their networks: those of one network behind each other
 abbrev pub AreOrdered : List LinkSetting → Type 0
 AreOrdered links = (i j : ℕ) (a b : LinkSetting) → i < j → slice_get links i ≡ Some a → slice_get links j ≡ Some b → a.network ≤ b.network
+
+-- a line that begins with network or link
+abbrev pub is_of_network_or_link : Line → Bool
+is_of_network_or_link (line.Network begun) = true
+is_of_network_or_link (line.Link begun) = true
+is_of_network_or_link other = false

@@ -1,9 +1,15 @@
 //! What follows from the definitions alone, for all lines.
-ghost use Rattle.std.specs.Prelude.{◌≡◌, ℕ, ◌<◌, ◌≤◌, true, List};
+ghost use Rattle.std.specs.Prelude.{◌≡◌, ℕ, ◌<◌, ◌≤◌, ◌==◌, true, false, List, None, Some};
 ghost use Rattle.std.specs.Option.{is_some};
+ghost use Rattle.ipx_configuration.specs.Carriers.{tunnel, any_frames, same_carrier, take_the_same};
+ghost use Rattle.ipx_configuration.specs.Clashes.{clash};
+ghost use Rattle.ipx_configuration.specs.Configurations.{read_in, told, after};
 ghost use Rattle.ipx_configuration.specs.Configured.{configured};
 ghost use Rattle.ipx_configuration.specs.Memory.{most_networks, links_in};
-ghost use Rattle.ipx_configuration.specs.Wholes.{after_lines, IsBlank, AreApart, AreOrdered};
+ghost use Rattle.ipx_configuration.specs.Wholes.{after_lines, IsBlank, AreApart, AreOrdered, is_of_network_or_link};
+ghost use Rattle.ipx_configuration.specs.declared.carrier.Carrier.{Carrier};
+ghost use Rattle.ipx_configuration.specs.declared.fault.Fault.{Fault};
+ghost use Rattle.ipx_configuration.specs.declared.said.LinkSetting.{LinkSetting};
 ghost use Rattle.ipx_configuration.specs.declared.configuration.Capacity.{Capacity};
 ghost use Rattle.ipx_configuration.specs.declared.configuration.Configuration.{Configuration};
 
@@ -19,4 +25,18 @@ pub fn links_are_told()
     ensures ordered { (capacity : Capacity) (n : ℕ) (c : Configuration) (lines : List (List ℕ)) → IsBlank c → AreOrdered (links_in (after_lines capacity n c lines).links) }
     ensures told { (capacity other : Capacity) (n k : ℕ) (c : Configuration) (lines : List (List ℕ)) → IsBlank c → k < (after_lines capacity n c lines).links.count
         → is_some (configured other k (after_lines capacity n c lines)) ≡ true }
+{}
+
+/// Of two links that don't clash, those on one carrier have two different kinds of frames, and others take no address of this machine both.
+pub fn what_apart_is()
+    ensures kinds { (carrier : Carrier) (other : LinkSetting) → clash carrier other ≡ None → (carrier.number == tunnel) ≡ false → same_carrier carrier other.carrier ≡ true
+        → ((other.carrier.frames == any_frames) ≡ false) × ((carrier.frames == any_frames) ≡ false) × ((carrier.frames == other.carrier.frames) ≡ false) }
+    ensures tunnels { (carrier : Carrier) (other : LinkSetting) → clash carrier other ≡ None → (carrier.number == tunnel) ≡ true → take_the_same carrier other.carrier ≡ false }
+    ensures others { (carrier : Carrier) (other : LinkSetting) → clash carrier other ≡ None → same_carrier carrier other.carrier ≡ false → take_the_same carrier other.carrier ≡ false }
+{}
+
+/// A network or a link whose line is wrong leaves all networks and links as they were.
+pub fn wrong_lines_change_nothing()
+    ensures { (capacity : Capacity) (n : ℕ) (text : List ℕ) (c : Configuration) (f : Fault) → is_of_network_or_link (read_in capacity text c).line ≡ true
+        → (told capacity n text c).fault ≡ Some f → ((after capacity n text c).networks ≡ c.networks) × ((after capacity n text c).links ≡ c.links) }
 {}
