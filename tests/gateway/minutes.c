@@ -13,6 +13,7 @@
  *     minutes crowds             three addresses with 20 silent clients each flood five players by a line of 1 Mbit/s
  *     minutes itself             two addresses with a client each flood a third, and themselves, by a line of 1 Mbit/s
  *     minutes pings              somebody floods four players with answers to pings by a line of 1 Mbit/s, beside a PC of QEMU
+ *     minutes networks           two of four addresses flood the others by a line of 1 Mbit/s, beside a PC of QEMU, which has no part of it
  *     minutes numbers            126 addresses speak to four players by a line once, and then those who got the players' numbers flood
  *     minutes router             clients and a link say to the router what it limits: for ten minutes it hears as much as it is to
  *     minutes links              eleven links tell the router as much as each may, for a minute: it hears no more than of one, and a twelfth
@@ -537,6 +538,35 @@ static void pings_by_line(void)
     expect(lost == 0 && said > 0, "beside a flood of answers to pings a PC of QEMU is heard by a line");
 }
 
+/* Two addresses flood two players, who say less than their parts, and each other; a PC of QEMU speaks to all. What it says has no part of the
+ * line: how much of that is lost is only told. */
+static void networks(void)
+{
+    enum { FLOOD = 2, ALL = 4, GAME = 10, KILOBITS = 1000, LASTS = 2 * MINUTE };
+    uint64_t said = 0, lost = 0, of_pc = 0;
+    begin_on_line(ALL, KILOBITS);
+    for (uint64_t at = 1; at <= LASTS; at++) {
+        pass_millisecond(at);
+        for (size_t who = 0; who < FLOOD; who++) {
+            line_begin(&speakers[who]->line, 400);
+            for (size_t k = 0; k < ALL; k++)
+                (void)(k != who && goes_to(k));
+        }
+        for (; said < said_by(GAME, at); said++) {
+            for (size_t who = FLOOD; who < ALL; who++) {
+                line_begin(&speakers[who]->line, SHORT);
+                for (size_t k = 0; k < ALL; k++)
+                    lost += k != who && !goes_to(k);
+            }
+            line_begin(NULL, SHORT);
+            for (size_t k = 0; k < ALL; k++)
+                of_pc += !goes_to(k);
+        }
+    }
+    printf("%" PRIu64 " copies of the players are lost, and %" PRIu64 " of %" PRIu64 " of the PC\n", lost, of_pc, ALL * said);
+    expect(lost == 0 && said > 0, "beside two addresses that flood players within their parts of a line lose nothing");
+}
+
 /* More addresses than there are numbers speak once; of those who share a number with a player each speaks again, so that it keeps its own. From
  * the 40th second on they flood. Players say less than their part, and from the 60th on nothing of it is lost. */
 static void numbers(void)
@@ -892,7 +922,7 @@ static const struct {
     void (*does)(void);
 } WORDS_ALONE[] = {
     {"once", once}, {"two", two}, {"address", of_address}, {"narrow", narrow}, {"silent", silent}, {"crowds", crowds},
-    {"itself", itself}, {"pings", pings_by_line}, {"numbers", numbers},
+    {"itself", itself}, {"pings", pings_by_line}, {"networks", networks}, {"numbers", numbers},
     {"router", router}, {"links", links}, {"accounts", accounts}, {"none", none}, {"gateway", gateway},
 };
 
