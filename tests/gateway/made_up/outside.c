@@ -62,7 +62,7 @@ static bool will_answer(const uint8_t place[6])
 void outside_hears_datagram(int fd, descriptor *on, const departure *what)
 {
     uint8_t place[NODE];
-    made_packet made;
+    made_packet made = {.length = 0};
     memcpy(place, what->to.host, sizeof what->to.host);
     put16(place + 4, what->to.port);
     (void)fd;
@@ -138,7 +138,7 @@ void frame_comes(int fd, const uint8_t *frame, size_t length)
 /* The answer of a station to what the gateway asked it in a frame. */
 static void reply(int fd, const uint8_t *frame, size_t length)
 {
-    made_packet made;
+    made_packet made = {.length = 0};
     uint8_t back[IPXR_LONGEST_FRAME];
     size_t front = 0;
     uint8_t kind = ipxr_frame_read(frame, length, &front);

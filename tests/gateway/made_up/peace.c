@@ -87,7 +87,7 @@ static address player_on(const gateway *it, const network *on)
 
 static void comes_in(gateway *it, network *on)
 {
-    made_packet made;
+    made_packet made = {.length = 0};
     address from = player_on(it, on);
     make_registration(&made);
     comes(descriptor_at(on->cable->fd, DATAGRAMS), &from, made.bytes, made.length);

@@ -43,7 +43,7 @@ bool steady_begins(void)
 /* A player says something to all of his network, or to another. */
 static void say(network *on, size_t player)
 {
-    made_packet made;
+    made_packet made = {.length = 0};
     uint8_t data[MOST_MADE] = {0};
     const uint8_t *to_node = steady.places[below((uint32_t)steady.count)], *own = steady.places[player];
     ipxr_address from = {.network = on->set->network, .socket = GAME}, to = from;

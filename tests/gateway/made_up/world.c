@@ -66,7 +66,7 @@ static void make_word(made_packet *it, network *on, const uint8_t place[6])
 
 static void say(unsigned times)
 {
-    made_packet made;
+    made_packet made = {.length = 0};
     uint8_t place[NODE];
     int fd = any_tunnel();
     network *on = fd >= 0 ? network_at(fd) : NULL;
@@ -125,7 +125,7 @@ static void any_destination(const network *on, uint8_t node[6])
 /* Makes a frame up. Returns its length. */
 static size_t make_frame(network *on, uint8_t frame[MOST_RECEIVED])
 {
-    made_packet made;
+    made_packet made = {.length = 0};
     uint8_t to[NODE];
     station from = {.network = one_in(4) ? 0 : on->set->network};
     uint8_t kind = on->set->kind != ANY_KIND && !one_in(8) ? on->set->kind : (uint8_t)between(1, IPXR_FRAME_KINDS);
