@@ -982,11 +982,12 @@ static void line_copies(void)
     CALLS(ipxr_line_send(&line, NOW, SPOKE, SHORT_BYTES, IPXR_LINE_WITHIN, &said, &to));
     WROTE(801000, line.used);
     WROTE(5297554, to.within[SPOKE]);
+    WROTE(4801000, to.spoken[SPOKE]);
     WROTE(1601000, to.received);
     CALLS(ipxr_line_send(&line, NOW, SPOKE, SHORT_BYTES, IPXR_LINE_LITTLE, &said, &to));
     WROTE(76801000, said);
     CALLS(ipxr_line_send(&line, NOW, SPOKE, SHORT_BYTES, IPXR_LINE_OF_SPEAKER, &said, &to));
-    WROTE(4801000, to.spoken[SPOKE]);
+    WROTE(9601000, to.spoken[SPOKE]);
     WROTE(2401000, line.used);
     CALLS(ipxr_line_send(&line, NOW, SPOKE, SHORT_BYTES, IPXR_LINE_OF_ADDRESS, &said, &to));
     WROTE(6401000, to.received);

@@ -13,7 +13,7 @@
  *     minutes crowds             three addresses with 20 silent clients each flood five players by a line of 1 Mbit/s
  *     minutes itself             two addresses with a client each flood a third, and themselves, by a line of 1 Mbit/s
  *     minutes pings              somebody floods four players with answers to pings by a line of 1 Mbit/s, beside a PC of QEMU
- *     minutes networks           two of four addresses flood the others by a line of 1 Mbit/s, beside a PC of QEMU, which has no part of it
+ *     minutes networks           two of four addresses flood the others by a line of 1 Mbit/s, beside a PC of QEMU
  *     minutes numbers            126 addresses speak to four players by a line once, and then those who got the players' numbers flood
  *     minutes router             clients and a link say to the router what it limits: for ten minutes it hears as much as it is to
  *     minutes links              eleven links tell the router as much as each may, for a minute: it hears no more than of one, and a twelfth
@@ -538,8 +538,7 @@ static void pings_by_line(void)
     expect(lost == 0 && said > 0, "beside a flood of answers to pings a PC of QEMU is heard by a line");
 }
 
-/* Two addresses flood two players, who say less than their parts, and each other; a PC of QEMU speaks to all. What it says has no part of the
- * line: how much of that is lost is only told. */
+/* Two addresses flood two players, who say less than their parts, and each other; a PC of QEMU speaks to all. */
 static void networks(void)
 {
     enum { FLOOD = 2, ALL = 4, GAME = 10, KILOBITS = 1000, LASTS = 2 * MINUTE };
@@ -565,6 +564,7 @@ static void networks(void)
     }
     printf("%" PRIu64 " copies of the players are lost, and %" PRIu64 " of %" PRIu64 " of the PC\n", lost, of_pc, ALL * said);
     expect(lost == 0 && said > 0, "beside two addresses that flood players within their parts of a line lose nothing");
+    expect(10 * of_pc < ALL * said, "and a PC of QEMU is heard");
 }
 
 /* More addresses than there are numbers speak once; of those who share a number with a player each speaks again, so that it keeps its own. From

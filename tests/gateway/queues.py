@@ -43,7 +43,7 @@ TESTS = (
           plays, "crowds"),
     named("for two minutes two addresses flood a line of 1 Mbit/s, and themselves: a player within his parts loses nothing", plays, "itself"),
     named("for two minutes answers to pings flood a line of 1 Mbit/s: a PC of QEMU is heard", plays, "pings"),
-    named("for two minutes two of four addresses flood a line of 1 Mbit/s: the others lose nothing; what a PC of QEMU loses is told", plays,
+    named("for two minutes two of four addresses flood a line of 1 Mbit/s: the others lose nothing, and a PC of QEMU is heard", plays,
           "networks"),
     named("of 130 addresses that spoke to a line those who speak on have numbers of their own again: four players lose nothing", plays,
           "numbers"),

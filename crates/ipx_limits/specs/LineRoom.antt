@@ -112,8 +112,10 @@ abbrev pub is_of_part : Rank → Bool
 is_of_part Within = true
 is_of_part _ = false
 
+-- (what is within his part counts there, too: so a speaker has no second part beside it, and leaves room to whoever has none)
 abbrev pub is_spoken : Rank → Bool
 is_spoken OfSpeaker = true
+is_spoken Within = true
 is_spoken _ = false
 
 abbrev pub is_received : Rank → Bool

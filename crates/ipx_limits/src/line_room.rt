@@ -80,16 +80,15 @@ impl Line {
     {
         let cost = self.cost(bytes);
         let place = usize::from(number % NUMBERS);
+        let of_pair = times(cost, self.pairs(to));
         match rank {
             Rank::Within => {
                 let of_part = self.pair_cost(to, bytes);
                 to.within[place] = further(now, to.within[place], of_part);
-            }
-            Rank::Little => *said = further(now, *said, self.said_cost(bytes)),
-            Rank::OfSpeaker => {
-                let of_pair = times(cost, self.pairs(to));
                 to.spoken[place] = further(now, to.spoken[place], of_pair);
             }
+            Rank::Little => *said = further(now, *said, self.said_cost(bytes)),
+            Rank::OfSpeaker => to.spoken[place] = further(now, to.spoken[place], of_pair),
             _ => (),
         }
         if rank != Rank::Beyond {

@@ -178,7 +178,7 @@ none = replicate 64 0
 abbrev of_two : ℕ → List ℕ
 of_two moment = set none 2 moment
 
-pub takes_of_part : LineSent 1000 2 line_short Within three (busy_line 1000 3 1778777) 0 0 household (received 5334331 (of_two 17656165) none)
+pub takes_of_part : LineSent 1000 2 line_short Within three (busy_line 1000 3 1778777) 0 0 household (received 5334331 (of_two 17656165) (of_two 16000993))
 takes_of_part = record { of_line = refl; of_speaker = refl; of_address = refl }
 
 pub takes_of_all : LineSent 1000 2 line_short Little three (busy_line 1000 3 1778777) 0 170667592 household (received 5334331 none none)
