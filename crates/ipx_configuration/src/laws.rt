@@ -13,7 +13,7 @@ ghost use Rattle.ipx_configuration.specs.declared.said.LinkSetting.{LinkSetting}
 ghost use Rattle.ipx_configuration.specs.declared.configuration.Capacity.{Capacity};
 ghost use Rattle.ipx_configuration.specs.declared.configuration.Configuration.{Configuration};
 
-/// Whatever the lines are, right or wrong: no two links take one address of this machine, and no two on one carrier have one kind of frames.
+/// Whatever the lines are, right or wrong: no link clashes with one above it.
 pub fn links_are_apart()
     ensures { (capacity : Capacity) (n : ℕ) (c : Configuration) (lines : List (List ℕ)) → IsBlank c → AreApart (links_in (after_lines capacity n c lines).links) }
 {}
@@ -27,7 +27,8 @@ pub fn links_are_told()
         → is_some (configured other k (after_lines capacity n c lines)) ≡ true }
 {}
 
-/// Of two links that don't clash, those on one carrier have two different kinds of frames, and others take no address of this machine both.
+/// Of two links that don't clash, those on one carrier have two different kinds of frames; two tunnels, and two links on different carriers,
+/// don't take one address of this machine.
 pub fn what_apart_is()
     ensures kinds { (carrier : Carrier) (other : LinkSetting) → clash carrier other ≡ None → (carrier.number == tunnel) ≡ false → same_carrier carrier other.carrier ≡ true
         → ((other.carrier.frames == any_frames) ≡ false) × ((carrier.frames == any_frames) ≡ false) × ((carrier.frames == other.carrier.frames) ≡ false) }
