@@ -5,3 +5,4 @@ pub mod Growing
 pub mod Apart
 pub mod Listing
 pub mod Meaning
+pub mod Sharing

@@ -1,10 +1,11 @@
 //! What follows from the definitions alone, for all lines.
-ghost use Rattle.std.specs.Prelude.{◌≡◌, ℕ, ◌<◌, ◌≤◌, ◌==◌, true, false, List, None, Some};
+ghost use Rattle.std.specs.Prelude.{◌≡◌, ℕ, ◌<◌, ◌≤◌, ◌==◌, true, false, List, None, Some, slice_get};
 ghost use Rattle.std.specs.Option.{is_some};
 ghost use Rattle.ipx_configuration.specs.Carriers.{tunnel, any_frames, same_carrier, take_the_same};
 ghost use Rattle.ipx_configuration.specs.Clashes.{clash};
 ghost use Rattle.ipx_configuration.specs.Configurations.{read_in, told, after};
-ghost use Rattle.ipx_configuration.specs.Configured.{configured};
+ghost use Rattle.ipx_configuration.specs.Configured.{configured, rate_or_usual};
+ghost use Rattle.ipx_configuration.specs.Lines.{rate_of};
 ghost use Rattle.ipx_configuration.specs.Memory.{most_networks, links_in};
 ghost use Rattle.ipx_configuration.specs.Wholes.{after_lines, IsBlank, AreApart, AreOrdered, is_of_network_or_link};
 ghost use Rattle.ipx_configuration.specs.declared.carrier.Carrier.{Carrier};
@@ -40,4 +41,10 @@ pub fn what_apart_is()
 pub fn wrong_lines_change_nothing()
     ensures { (capacity : Capacity) (n : ℕ) (text : List ℕ) (c : Configuration) (f : Fault) → is_of_network_or_link (read_in capacity text c).line ≡ true
         → (told capacity n text c).fault ≡ Some f → ((after capacity n text c).networks ≡ c.networks) × ((after capacity n text c).links ≡ c.links) }
+{}
+
+/// Two links on one carrier, which is no tunnel's, receive at one rate.
+pub fn links_share_a_rate()
+    ensures { (links : List LinkSetting) (i j : ℕ) (a b : LinkSetting) → slice_get links i ≡ Some a → slice_get links j ≡ Some b
+        → (a.carrier.number == tunnel) ≡ false → same_carrier a.carrier b.carrier ≡ true → rate_or_usual (rate_of a links) ≡ rate_or_usual (rate_of b links) }
 {}
