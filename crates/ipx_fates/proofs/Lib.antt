@@ -3,6 +3,7 @@ pub mod Ends
 pub mod EndsOfDatagrams
 pub mod Somewhere
 pub mod Order
+pub mod Happened
 pub mod Calm
 pub mod Nowhere
 pub mod Adding

@@ -71,6 +71,52 @@ reaches_nobody steps = not (list_any reaches steps)
 abbrev pub is_unheard : List Step → Bool
 is_unheard steps = not (list_any goes_on steps)
 
+-- the router heard a packet, and took it or dropped it
+abbrev pub is_heard : Fate → Bool
+is_heard Elsewhere = false
+is_heard Heard = true
+is_heard (Dropped number) = true
+is_heard HandedOn = false
+is_heard Answered = false
+is_heard Stays = false
+is_heard Awaited = false
+is_heard Probe = false
+is_heard (Lost why) = false
+
+-- it went to others of its network alone
+abbrev pub is_handed : Fate → Bool
+is_handed Elsewhere = false
+is_handed Heard = false
+is_handed (Dropped number) = false
+is_handed HandedOn = true
+is_handed Answered = false
+is_handed Stays = false
+is_handed Awaited = false
+is_handed Probe = false
+is_handed (Lost why) = false
+
+-- the step by which the router hears it
+abbrev pub is_hear : RouterStep → Bool
+is_hear routes.LetsHear = false
+is_hear routes.IsForAll = false
+is_hear routes.Extend = false
+is_hear routes.IsAwaited = false
+is_hear routes.Hear = true
+is_hear routes.Outcome = false
+
+abbrev pub router_hears : Step → Bool
+router_hears (Frame step) = false
+router_hears (Datagram step) = false
+router_hears (Word step) = false
+router_hears (Router step) = is_hear step
+
+-- those by which it goes to others of its network
+abbrev pub hands_on : Step → Bool
+hands_on (Frame step) = is_put step
+hands_on (Datagram step) = false
+hands_on (Word step) = is_carry step
+hands_on (Router step) = false
+
 -- ---- the order in which steps are taken
 
 abbrev pub frame_place : FrameStep → ℕ

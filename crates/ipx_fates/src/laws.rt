@@ -16,7 +16,7 @@ ghost use Rattle.ipx_fates.specs.Courses.{of_frame, of_datagram, after_step};
 ghost use Rattle.ipx_fates.specs.Walks.{Answers, fate_of, steps_of};
 ghost use Rattle.ipx_fates.specs.Conditions.{first_of, frame, datagram, word, is_said, frame_conditions, datagram_conditions};
 ghost use Rattle.ipx_fates.specs.Counting.{largest};
-ghost use Rattle.ipx_fates.specs.Laws.{place, IsBehind, reaches_nobody, is_unheard, tunnel_hears, counts_of, number_of, is_taken, is_here, can_be, is_lost_for};
+ghost use Rattle.ipx_fates.specs.Laws.{is_heard, is_handed, router_hears, hands_on, place, IsBehind, reaches_nobody, is_unheard, tunnel_hears, counts_of, number_of, is_taken, is_here, can_be, is_lost_for};
 
 /// Each packet has one fate, after at most twenty steps: of the conditions that hold of it, the first says which. Some condition always holds.
 pub fn each_packet_has_one_fate()
@@ -30,6 +30,18 @@ pub fn each_packet_has_one_fate()
 /// asked once.
 pub fn no_step_is_taken_twice()
     ensures { (answer : ℕ) (step : Step) → IsBehind (place step) (after_step answer step) }
+{}
+
+/// What is heard, or dropped by the router, the router heard; and what is handed on went to others of its network.
+pub fn fates_say_what_happened()
+    ensures heard_frame { (told : Answers) (fate : Fate) → fate_of told of_frame ≡ Some fate → is_heard fate ≡ true
+        → list_any router_hears (steps_of told of_frame) ≡ true }
+    ensures heard_datagram { (told : Answers) (fate : Fate) → fate_of told of_datagram ≡ Some fate → is_heard fate ≡ true
+        → list_any router_hears (steps_of told of_datagram) ≡ true }
+    ensures handed_frame { (told : Answers) (fate : Fate) → fate_of told of_frame ≡ Some fate → is_handed fate ≡ true
+        → list_any hands_on (steps_of told of_frame) ≡ true }
+    ensures handed_datagram { (told : Answers) (fate : Fate) → fate_of told of_datagram ≡ Some fate → is_handed fate ≡ true
+        → list_any hands_on (steps_of told of_datagram) ≡ true }
 {}
 
 /// A frame of the gateway's own that came back reaches nobody: no other link, no other network, and not the router.
