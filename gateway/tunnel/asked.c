@@ -3,12 +3,15 @@
 #include "limits/meter.h"
 #include "systems/clock.h"
 
+/* How many moments were chosen, for all networks: else who is on two of them would see on one what comes on the other. */
+static uint64_t count;
+
 void asked_again(asked *it, asks *all, const uint8_t key[SIPHASH_KEY])
 {
-    uint8_t number[sizeof all->count];
-    all->count++;
+    uint8_t number[sizeof count];
+    count++;
     for (size_t k = 0; k < sizeof number; k++)
-        number[k] = (uint8_t)(all->count >> 8 * k);
+        number[k] = (uint8_t)(count >> 8 * k);
     ipxr_asked_ask(&it->moment, &all->moments, limit_clock(), siphash(key, number, sizeof number));
 }
 

@@ -19,7 +19,6 @@ typedef struct asked {
 /* When the next of a network's clients is asked again. */
 typedef struct asks {
     ipxr_asks moments;
-    uint64_t count; /* how many moments were chosen */
 } asks;
 
 /* A client gets a ping, or gets the last once more. A moment for the next is chosen by a hash whose key nobody knows. */
