@@ -891,6 +891,8 @@ static void queues(void)
     ANSWERS(24, ipxr_queues_unshare(&given, 21, 21, 24));
     WROTE(1, given.users[21]);
     WROTE(1, given.users[24]);
+    CALLS(ipxr_queues_give_back(&given, 22));
+    ANSWERS(22, ipxr_queues_unshare(&given, 23, 21, 24));
 }
 
 static void strangers(void)
@@ -1288,7 +1290,7 @@ static void twins(void)
 
 static void who_is_asked_again(void)
 {
-    const uint64_t now = 1000000007u, number = 1100000000u; /* 350 ms later */
+    const uint64_t now = 1000000007u, number = 100000000u; /* 350 ms later */
     ipxr_asked one = {0}, other = {0};
     ipxr_asks all = {0};
     ANSWERS(0, ipxr_asks_are_due(&all, now));
