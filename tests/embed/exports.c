@@ -1533,7 +1533,7 @@ static void all_is_kept(void)
     const ipxr_link_setting *link = &all.links.list[0];
     a_network_is_kept(0, 11, 0, 1, 0, 0, 0);
     a_network_is_kept(1, 21, 1, 1, 1, 0, 1);
-    a_network_is_kept(2, 31, 2, 1, 0, 1, 0);
+    a_network_is_kept(2, 31, 2, 1, 1, 1, 0);
     WROTE(3, all.networks.count);
     WROTE(4, all.links.count);
     WROTE(2, all.above);
@@ -1599,7 +1599,8 @@ static void all_is_told(void)
     WROTE(31, link.network_line);
     WROTE(2, link.port);
     WROTE(256, link.clients);
-    WROTE(65535, link.routes);
+    WROTE(42, link.routes);
+    WROTE(43, link.services);
     WROTE(1, link.is_of_several);
     WROTE_BYTES("4162 0000", link.carrier.name);
     ANSWERS(0, ipxr_configuration_link(&all, 4, &link));
@@ -1646,7 +1647,7 @@ static void a_configuration(void)
     WROTE(0, wrong.word);
     WROTE(1, wrong.is_below_tunnel);
     ANSWERS(0, SAYS(21, "network B 4 1300 40 41 qemu-udp 1.2.3.4:52 6.7.8.9:53 llc node 02:00:00:00:00:07"));
-    ANSWERS(0, SAYS(31, "network C 5 1200"));
+    ANSWERS(0, SAYS(31, "network C 5 1200 42 43"));
     ANSWERS(31, ipxr_configuration_unlinked(&all));
     ANSWERS(0, SAYS(32, "link tap Aa raw"));
     ANSWERS(0, SAYS(33, "link tap Ab raw"));
