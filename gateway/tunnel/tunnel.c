@@ -51,10 +51,10 @@ void tunnel_close(network *on)
 
 /* ---- Sending ---- */
 
-/* Whether what goes to strangers of a network is limited by a narrow line, whatever number a second there is. */
+/* Whether what goes to strangers of a network is limited by a narrow line. */
 static bool are_by_line(const network *on)
 {
-    return on->set->kilobits > 0;
+    return on->set->kilobits > 0 && !on->strangers.has_no_limit;
 }
 
 /* Sends a datagram of the gateway's own, which is counted. */
