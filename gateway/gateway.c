@@ -216,6 +216,7 @@ static size_t receive_next(gateway *it, cable *carrier)
 {
     arrivals *in = &it->arrivals;
     if (cable_receive(carrier, in)) {
+        limits_look_at_clock(); /* (in a turn more may come than a limit lets pass at once) */
         hear_all(it, carrier, in);
         return in->count;
     }
@@ -236,7 +237,8 @@ static bool receive(gateway *it, cable *carrier)
         next = receive_next(it, carrier);
         heard += next;
     }
-    return heard >= MOST_AT_ONCE;
+    carrier->is_behind = heard >= MOST_AT_ONCE;
+    return carrier->is_behind;
 }
 
 /* One second for tunnels, segments and kinds of frames, however many have passed: who could not be asked meanwhile isn't put out. */
@@ -250,6 +252,9 @@ static void let_tunnels_pass(gateway *it, uint64_t passed)
         if (it->networks[k].set->type == LINK_DOSBOX)
             tunnel_second(&it->networks[k]);
     speakers_second();
+    for (size_t k = 0; k < it->count; k++)
+        line_second(&it->networks[k].speaks.line);
+    line_router_second();
     segments_second(it);
     for (size_t k = 0; k < it->count; k++)
         ipxr_kinds_second(&it->networks[k].kinds);

@@ -230,8 +230,11 @@ void gateway_stop(gateway *it)
     ipxr_free(&it->router);
     for (size_t k = 0; k < it->port_count; k++)
         segment_close(&it->ports[k]);
-    for (size_t k = 0; k < it->count; k++)
+    line_router_end();
+    for (size_t k = 0; k < it->count; k++) {
+        line_end(&it->networks[k].speaks.line);
         tunnel_close(&it->networks[k]);
+    }
     for (size_t k = 0; k < it->cable_count; k++)
         cable_close(&it->cables[k]);
 }

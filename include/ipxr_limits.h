@@ -286,7 +286,7 @@ IPXR_CALL void ipxr_line_second(ipxr_line *line, ipxr_line_address *address);
 IPXR_CALL void ipxr_line_silence(ipxr_line *line, ipxr_line_address *address);
 
 /* Whether there is room for a copy of a packet of so many bytes to an address: its rank, or IPXR_LINE_FULL. The speaker has that number, or 0
- * if it is the router or a network of another kind; `said` is the moment until which his part of what he says to all is used, 0 at first.
+ * if it has no part; `said` is the moment until which his part of what he says to all is used, 0 at first.
  * Nothing is used yet but that debts of the parts are held to what is owed now. What an address says to its only client there is never
  * IPXR_LINE_WITHIN. */
 IPXR_CALL uint8_t ipxr_line_room(const ipxr_line *line, uint64_t now, uint8_t number, size_t bytes, uint64_t *said, ipxr_line_address *to);
@@ -299,12 +299,15 @@ IPXR_CALL void ipxr_line_send(ipxr_line *line, uint64_t now, uint8_t number, siz
  * the line with that. */
 IPXR_CALL ipxr_flag ipxr_line_lets_beyond(const ipxr_line *line, uint64_t now);
 
-/* Whether an answer of your own goes out to a client; and it does, or a ping, for which there is always room: by it clients stay. */
-IPXR_CALL ipxr_flag ipxr_line_lets_own(const ipxr_line *line, uint64_t now);
-IPXR_CALL void ipxr_line_send_own(ipxr_line *line, uint64_t now, size_t bytes);
+/* Whether an answer of your own goes out to a client; and it does. `address` is the moment until which the part is used which his address has
+ * of all such answers, 0 at first. */
+IPXR_CALL ipxr_flag ipxr_line_lets_answer(const ipxr_line *line, uint64_t now, uint64_t *address);
+IPXR_CALL void ipxr_line_send_answer(ipxr_line *line, uint64_t now, size_t bytes, uint64_t *address);
 
-/* Whether there is room for what you say to one who is no client; and it goes out. `address` is the moment until which the part is used which
- * his address has of what goes to all who are none, 0 at first. */
+/* A ping goes out, for which there is always room: by it clients stay. */
+IPXR_CALL void ipxr_line_send_ping(ipxr_line *line, uint64_t now, size_t bytes);
+
+/* The same of what you say to one who is no client, and of the part which his address has of that. */
 IPXR_CALL ipxr_flag ipxr_line_lets_stranger(ipxr_line *line, uint64_t now, uint64_t *address);
 IPXR_CALL void ipxr_line_send_to_stranger(ipxr_line *line, uint64_t now, size_t bytes, uint64_t *address);
 

@@ -228,6 +228,7 @@ static void remove_networks(gateway *it, changed *what)
             continue;
         if (on->set->type == LINK_DOSBOX)
             tunnel_end(on);
+        line_end(&on->speaks.line);
         tell_removed(on);
         what->removed++;
     }

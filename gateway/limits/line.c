@@ -7,6 +7,9 @@ enum { MOST_ADDRESSES = 4096, HOST = 4 };
 
 static ipxr_line line;
 
+/* What the router uses of it. */
+static line_use router;
+
 /* The packet whose copies are sent: the number of who says it, what he uses, and its bytes; and the rank of the copy that found room. */
 static struct {
     uint8_t number;
@@ -47,18 +50,30 @@ void line_end(line_use *it)
     ipxr_line_silence(&line, &it->at);
 }
 
+void line_router_second(void)
+{
+    line_second(&router);
+}
+
+void line_router_end(void)
+{
+    line_end(&router);
+}
+
 void line_begin(line_use *from, size_t length)
 {
-    bool is_address = from != NULL && from->is_address;
-    copies.number = is_address ? ipxr_line_speak(&line, &from->at) : 0;
-    copies.said = is_address ? &from->said : &nobody;
+    line_use *speaks = from != NULL ? from : &router;
+    copies.number = ipxr_line_speak(&line, &speaks->at);
+    copies.said = &speaks->said;
     copies.length = length;
     copies.is_of_pings = false;
 }
 
 void line_begin_ping(size_t length)
 {
-    line_begin(NULL, length);
+    copies.number = 0;
+    copies.said = &nobody;
+    copies.length = length;
     copies.is_of_pings = true;
 }
 
@@ -77,14 +92,19 @@ void line_send(line_use *to)
     ipxr_line_send(&line, limit_clock(), copies.number, copies.length, copies.rank, copies.said, &to->at);
 }
 
-bool line_lets_own(void)
+bool line_lets_answer(line_use *to)
 {
-    return ipxr_line_lets_own(&line, limit_clock());
+    return ipxr_line_lets_answer(&line, limit_clock(), &to->answered);
 }
 
-void line_send_own(size_t length)
+void line_send_answer(line_use *to, size_t length)
 {
-    ipxr_line_send_own(&line, limit_clock(), length);
+    ipxr_line_send_answer(&line, limit_clock(), length, &to->answered);
+}
+
+void line_send_ping(size_t length)
+{
+    ipxr_line_send_ping(&line, limit_clock(), length);
 }
 
 bool line_lets_again(void)

@@ -11,11 +11,11 @@
 #include "ipxr_limits.h"
 #include "siphash.h"
 
-/* What an address uses of the line. */
+/* What an address uses of the line, or a network of another kind, or the router. */
 typedef struct line_use {
-    bool is_address; /* it is none of a network of another kind */
     ipxr_line_address at;
-    uint64_t said; /* the moment until which its part of what it says to all is used */
+    uint64_t said;     /* the moment until which its part of what it says to all is used, */
+    uint64_t answered; /* and until which that of what the gateway answers its clients is */
 } line_use;
 
 /* The line that a configuration names, if it names one. */
@@ -25,12 +25,14 @@ void line_set(const settings *set);
 void line_join(line_use *it);
 void line_leave(line_use *it);
 
-/* A second passes for an address, which speaks no more where it was silent for long; and nobody has it any more. */
+/* A second passes for an address, a network or the router: who was silent for long has no part any more. And one of them is gone. */
 void line_second(line_use *it);
 void line_end(line_use *it);
+void line_router_second(void);
+void line_router_end(void);
 
-/* Copies of a packet of so many bytes are to go out: an address says it, which has clients there or on another network; or the router
- * itself, or a network of another kind, where that is NULL. If it belongs to pings, it goes out beyond all parts. */
+/* Copies of a packet of so many bytes are to go out: an address says it, which has clients there or on another network; or a network of
+ * another kind; or the router itself, where that is NULL. If it belongs to pings, it goes out beyond all parts. */
 void line_begin(line_use *from, size_t length);
 void line_begin_ping(size_t length);
 
@@ -38,9 +40,12 @@ void line_begin_ping(size_t length);
 bool line_has_room(line_use *to);
 void line_send(line_use *to);
 
-/* Whether an answer of the gateway's own goes out to a client; and it does, or a ping, for which there is always room: by it clients stay. */
-bool line_lets_own(void);
-void line_send_own(size_t length);
+/* Whether an answer of the gateway's own goes out to a client of an address; and it does. */
+bool line_lets_answer(line_use *to);
+void line_send_answer(line_use *to, size_t length);
+
+/* A ping goes out, for which there is always room: by it clients stay. */
+void line_send_ping(size_t length);
 
 /* Whether the line is nearly idle, so that a client that hasn't answered may be pinged again; and it is. */
 bool line_lets_again(void);

@@ -16,7 +16,7 @@ typedef struct meter {
     uint64_t clock;
 } meter;
 
-/* From now on limits know what time it is, in nanoseconds of the clock: it is read once a turn. */
+/* From now on limits know what time it is, in nanoseconds of the clock: it is read once a turn, and for what comes together. */
 void limits_look_at_clock(void);
 uint64_t limit_clock(void);
 

@@ -26,7 +26,6 @@ static speaker *new_speaker(const uint8_t host[4])
         return &spare;
     memset(it, 0, sizeof *it);
     memcpy(it->host, host, sizeof it->host);
-    it->line.is_address = true;
     it->next = speakers;
     speakers = it;
     return it;

@@ -32,6 +32,7 @@ typedef struct origin {
     speaker *speaks;
     member *client; /* or NULL */
     uint8_t kind;
+    line_use *line; /* what it uses of a narrow line: all links of a network have that in common */
 } origin;
 
 /* Sets the limits of a network, by its line and those below it. */

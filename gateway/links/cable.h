@@ -37,6 +37,7 @@ typedef struct cable {
     uint8_t card[6];            /* the interface's own address; zeros while it isn't known */
     const char *lacks;          /* what it had to have to be up, when one looked last; */
     int fault;                  /* and the system's number for it, or 0 */
+    bool is_behind;             /* at its last turn more waited than one turn hears */
 } cable;
 
 /* Opens what the setting says. An address or a card that isn't there yet is waited for: cable_is_up opens it later. Returns NULL, or in

@@ -116,7 +116,7 @@ static bool is_client_elsewhere(gateway *it, const network *on, const uint8_t *n
 static bool is_in_clients_name(gateway *it, const network *on, const uint8_t *packet)
 {
     uint32_t from = get32(packet + AT_FROM_NETWORK);
-    return (from == 0 || from == on->set->network) && is_client_elsewhere(it, on, packet + AT_FROM_NODE);
+    return (from == 0 || from == EVERY_NETWORK || from == on->set->network) && is_client_elsewhere(it, on, packet + AT_FROM_NODE);
 }
 
 /* Tells of a node that is heard on two links by turns. */
@@ -190,7 +190,8 @@ typedef struct incoming {
 static reason lets_in(incoming *in)
 {
     arrived *what = &in->carried;
-    in->by = (origin){.speaks = &what->on->speaks, .kind = ipxr_kind_of(what->packet, in->rest)};
+    line_use *line = &first_of(in->it, port_of(in->it, what->on))->speaks.line;
+    in->by = (origin){.speaks = &what->on->speaks, .kind = ipxr_kind_of(what->packet, in->rest), .line = line};
     in->is_whole = has_length(what->packet, in->rest);
     what->length = in->is_whole ? get16(what->packet + AT_LENGTH) : in->rest;
     what->by = in->is_whole ? &in->by : NULL;

@@ -11,6 +11,7 @@
 enum {
     LOOP_SOCKET = 0x8A5E, /* no program's: whoever hears such a packet lets go of it */
     SEAL = 8,             /* bytes by which the gateway knows its own packet */
+    MOST_ROOM = 64,       /* frames that go, at most, so that there is room for it */
 };
 
 /* The data of such a packet: the link, the second, and a hash of both that nobody can make but this gateway. Once links have changed, their
@@ -147,8 +148,20 @@ bool loop_hears(gateway *it, network *on, const uint8_t *packet, size_t length)
     return true;
 }
 
+/* Where three links or more are one cable, each packet comes back more than once, and soon the system's room for what waits is full: then a probe
+ * that comes back is lost. So some of what waits goes, unheard; as much would find no room anyway. */
+static void make_room(gateway *it, network *on)
+{
+    size_t gone = 0;
+    while (on->cable->is_behind && on->cable->fd >= 0 && gone < MOST_ROOM && cable_receive(on->cable, &it->arrivals))
+        gone += it->arrivals.count;
+}
+
 void loops_second(gateway *it)
 {
+    for (size_t k = 0; k < it->count; k++)
+        if (is_cable(&it->networks[k]) && has_another(it, &it->networks[k]))
+            make_room(it, &it->networks[k]);
     for (size_t k = 0; k < it->count; k++) {
         network *on = &it->networks[k];
         if (on->is_up)

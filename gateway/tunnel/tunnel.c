@@ -64,21 +64,24 @@ static void send_counted(network *on, const ipxr_own *own, bool is_client)
     capture_packet(own->bytes, sizeof own->bytes, on->node);
 }
 
-static void send_one(network *on, const ipxr_own *own, bool is_client)
+/* Sends a client an answer; or, where that is NULL, a stranger an answer or a ping. */
+static void send_one(network *on, const ipxr_own *own, member *to)
 {
-    if (!is_client && are_by_line(on))
+    if (to != NULL && on->set->kilobits > 0)
+        line_send_answer(&to->speaks->line, sizeof own->bytes);
+    else if (are_by_line(on))
         line_send_to_stranger(on->strangers.key, own->place, sizeof own->bytes);
     else if (on->set->kilobits > 0)
-        line_send_own(sizeof own->bytes);
-    send_counted(on, own, is_client);
+        line_send_ping(sizeof own->bytes);
+    send_counted(on, own, to != NULL);
 }
 
-/* Sends the answers and pings that the tunnel gave. */
-static void send_own(network *on, bool are_clients)
+/* Sends a client, or a stranger, what the tunnel gave. */
+static void send_own(network *on, member *to)
 {
     ipxr_own own;
     for (size_t k = 0; ipxr_tunnel_own(&on->tunnel, k, &own) == 0; k++)
-        send_one(on, &own, are_clients);
+        send_one(on, &own, to);
 }
 
 /* Why a client doesn't get the copy of a packet; REASONS where it does. What it doesn't get is counted. */
@@ -110,7 +113,7 @@ static size_t send_carried(network *on, const origin *by, const uint8_t *packet,
     if (on->set->kilobits > 0 && queue == OF_PINGS)
         line_begin_ping(length);
     else if (on->set->kilobits > 0)
-        line_begin(by != NULL ? &by->speaks->line : NULL, length);
+        line_begin(by != NULL ? by->line : NULL, length);
     outgoing_begin(on, packet, length);
     for (size_t k = 0; ipxr_tunnel_receiver(&on->tunnel, k, place) == 0; k++) {
         if (why_not(on, place, queue, length) == REASONS)
@@ -179,7 +182,7 @@ static void ping_again(network *on)
     for (size_t k = 0; k < MOST_NEW; k++) {
         const ipxr_own *ping = strangers_due(&on->strangers, k);
         if (ping != NULL && lets_stranger(on, ping->place, 1))
-            send_one(on, ping, false);
+            send_one(on, ping, NULL);
     }
 }
 
@@ -187,7 +190,9 @@ static void ping_again(network *on)
 static void ping_one(network *on, const ipxr_own *own)
 {
     member *to = roster_find(&on->roster, own->place);
-    send_one(on, own, true);
+    if (on->set->kilobits > 0)
+        line_send_ping(sizeof own->bytes);
+    send_counted(on, own, true);
     if (to != NULL)
         asked_ping(&to->ping, &on->asks, on->strangers.key, own);
 }
@@ -301,7 +306,7 @@ static void let_tunnel_hear(incoming *in)
     in->client = roster_find(&on->roster, in->sender.place);
     if (in->client == NULL)
         return;
-    in->by = (origin){in->client->speaks, in->client, ipxr_kind_of(in->bytes, in->carried.length)};
+    in->by = (origin){in->client->speaks, in->client, ipxr_kind_of(in->bytes, in->carried.length), &in->client->speaks->line};
     if (has_replied(in->client, in->said)) {
         ipxr_asked_answer(&in->client->ping.moment);
         in->client->silent = 0;
@@ -313,7 +318,7 @@ static void let_tunnel_hear(incoming *in)
 /* Whether a client's registration or ping is answered now. (somebody may ask in its name, so that it would hear nothing else) */
 static bool lets_answer(network *on, member *to)
 {
-    bool has_room = on->set->kilobits == 0 || line_lets_own();
+    bool has_room = on->set->kilobits == 0 || line_lets_answer(&to->speaks->line);
     return has_room && throttle_lets_answer(&on->throttle, to);
 }
 
@@ -321,7 +326,7 @@ static bool lets_answer(network *on, member *to)
 static void answer_stranger(network *on)
 {
     ipxr_own last;
-    send_own(on, false);
+    send_own(on, NULL);
     if (ipxr_tunnel_own(&on->tunnel, ipxr_tunnel_owns(&on->tunnel) - 1, &last) == 0 && is_broadcast(last.bytes + AT_TO_NODE))
         strangers_keep(&on->strangers, &last);
 }
@@ -344,12 +349,14 @@ static void carry(incoming *in)
     in->is_carried = carry_over(in->it, what->on, what->by, what->packet, what->length) || in->is_received;
 }
 
-/* Whether it is for routers of another network. Where it names no network as its source, they would take it for a neighbour's, and learn
- * beyond what this network may advertise; nobody else than routers says such a thing, which they say to their own networks. */
+/* Whether it is for routers of another network, or goes there, too, since it is propagated. Where it names no network as its source, they would
+ * take it for a neighbour's, and learn beyond what this network may advertise; nobody else than routers says such a thing, which they say to
+ * their own networks. */
 static bool is_for_far_routers(incoming *in)
 {
     uint16_t socket = get16(in->bytes + AT_TO_SOCKET);
-    bool is = (socket == IPXR_RIP_SOCKET || socket == IPXR_SAP_SOCKET) && !is_for_here(in->carried.on, in->bytes);
+    bool goes_far = in->bytes[AT_TYPE] == PROPAGATED || !is_for_here(in->carried.on, in->bytes);
+    bool is = goes_far && (socket == IPXR_RIP_SOCKET || socket == IPXR_SAP_SOCKET);
     in->client->dropped[DROPPED_FOR_ROUTER] += is;
     return is;
 }
@@ -364,7 +371,7 @@ static uint16_t answer_word(incoming *in, uint8_t next)
     case IPXR_NEXT_WORD_LETS_REPLY:
         return lets_answer(on, in->client);
     case IPXR_NEXT_WORD_REPLY:
-        send_own(on, true);
+        send_own(on, in->client);
         return 0;
     case IPXR_NEXT_WORD_LEAVE_UNANSWERED:
         counts_lose(&on->counts, TOO_MANY_ANSWERS);
@@ -415,7 +422,7 @@ static uint16_t answer(incoming *in, uint8_t next)
     case IPXR_NEXT_DATAGRAM_LETS_ANSWER:
         return lets_answer(on, in->client);
     case IPXR_NEXT_DATAGRAM_ANSWER:
-        send_own(on, true);
+        send_own(on, in->client);
         return 0;
     case IPXR_NEXT_DATAGRAM_LETS_STRANGER:
     case IPXR_NEXT_DATAGRAM_LETS_PING:
@@ -424,7 +431,7 @@ static uint16_t answer(incoming *in, uint8_t next)
         answer_stranger(on);
         return 0;
     case IPXR_NEXT_DATAGRAM_PING:
-        send_own(on, false);
+        send_own(on, NULL);
         return 0;
     }
     return answer_word(in, next);

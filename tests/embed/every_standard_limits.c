@@ -54,15 +54,16 @@ static int is_said(const ipxr_limits *limits)
 
 static int is_sent(void)
 {
-    uint64_t said = 0, between = 0, stranger = 0;
+    uint64_t said = 0, between = 0, stranger = 0, answered = 0;
     int is_right;
     ipxr_line_join(&line, &from);
     ipxr_line_join(&line, &to);
     is_right = ipxr_line_speak(&line, &from) == 1 && ipxr_line_room(&line, 0, 1, 100, &said, &to) == IPXR_LINE_WITHIN;
     ipxr_line_send(&line, 0, 1, 100, IPXR_LINE_WITHIN, &said, &to);
     is_right = is_right && line.used == 1297777777 && ipxr_line_room(&line, 0, 1, 100, &said, &to) == IPXR_LINE_FULL &&
-               ipxr_line_lets_own(&line, 0);
-    ipxr_line_send_own(&line, 0, 30);
+               ipxr_line_lets_answer(&line, 0, &answered);
+    ipxr_line_send_answer(&line, 0, 30, &answered);
+    ipxr_line_send_ping(&line, 0, 30);
     is_right = is_right && ipxr_line_lets_stranger(&line, line.own, &stranger);
     ipxr_line_send_to_stranger(&line, line.own, 30, &stranger);
     ipxr_line_between_pings(&line, 30, &between);

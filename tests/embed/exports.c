@@ -1041,8 +1041,13 @@ static void line_itself(void)
 static void line_own(void)
 {
     ipxr_line line = LINE;
-    uint64_t between = 0, address = 0;
-    CALLS(ipxr_line_send_own(&line, NOW, SHORT_BYTES));
+    uint64_t between = 0, address = 0, answered = 0;
+    CALLS(ipxr_line_send_ping(&line, NOW, SHORT_BYTES));
+    WROTE(801000, line.used);
+    WROTE(25601000, line.own);
+    line = LINE;
+    CALLS(ipxr_line_send_answer(&line, NOW, SHORT_BYTES, &answered));
+    WROTE(204801000, answered);
     WROTE(801000, line.used);
     WROTE(25601000, line.own);
     CALLS(ipxr_line_send_to_stranger(&line, NOW, SHORT_BYTES, &address));
@@ -1054,15 +1059,21 @@ static void line_own(void)
     WROTE(25600000, between);
     line.used = 20001001;
     line.own = 1000001001;
-    ANSWERS(0, ipxr_line_lets_own(&line, NOW));
+    ANSWERS(0, ipxr_line_lets_answer(&line, NOW, &answered));
     ANSWERS(1, ipxr_line_lets_stranger(&line, NOW, &address));
     line.own = 0;
     line.to_strangers = 1000001001;
-    ANSWERS(1, ipxr_line_lets_own(&line, NOW));
+    ANSWERS(1, ipxr_line_lets_answer(&line, NOW, &answered));
     ANSWERS(0, ipxr_line_lets_stranger(&line, NOW, &address));
     line.to_strangers = 0;
-    address = 1000001001;
+    address = answered = 1000001001;
     ANSWERS(0, ipxr_line_lets_stranger(&line, NOW, &address));
+    ANSWERS(0, ipxr_line_lets_answer(&line, NOW, &answered));
+    answered = UINT64_MAX;
+    ANSWERS(0, ipxr_line_lets_answer(&line, NOW, &answered));
+    WROTE(4518009832, answered);
+    line.used = 20001000;
+    ANSWERS(1, ipxr_line_lets_answer(&line, NOW, &answered));
 }
 
 static void limits(void)

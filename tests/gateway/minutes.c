@@ -417,7 +417,7 @@ static void silent(void)
     for (uint64_t at = 1; at <= LASTS; at++) {
         pass_millisecond(at);
         if (at % BETWEEN_PINGS == 0)
-            line_send_own(A_PING);
+            line_send_ping(A_PING);
         for (size_t who = 0; who < PLAY; who++)
             for (; said[who] < said_by(GAME, at + who); said[who]++) {
                 line_begin(&speakers[who]->line, PACKET);
@@ -494,6 +494,16 @@ static void begin_on_line(size_t count, uint32_t kilobits)
     }
 }
 
+/* How many copies of a packet are lost, which one says who is no player, or the router where that is NULL. */
+static uint64_t lost_to_all(line_use *from, size_t count)
+{
+    uint64_t lost = 0;
+    line_begin(from, SHORT);
+    for (size_t k = 0; k < count; k++)
+        lost += !goes_to(k);
+    return lost;
+}
+
 /* Two addresses say as much as they can to a third and to themselves. */
 static void itself(void)
 {
@@ -521,6 +531,7 @@ static void itself(void)
 static void pings_by_line(void)
 {
     enum { ALL = 5, GAME = 10, LONG = 1400, KILOBITS = 1000, LASTS = 2 * MINUTE };
+    static line_use pc;
     uint64_t said = 0, lost = 0;
     begin_on_line(ALL, KILOBITS);
     for (uint64_t at = 1; at <= LASTS; at++) {
@@ -528,21 +539,19 @@ static void pings_by_line(void)
         line_begin_ping(LONG);
         for (size_t k = 0; k < ALL; k++)
             (void)goes_to(k);
-        for (; said < said_by(GAME, at); said++) {
-            line_begin(NULL, SHORT);
-            for (size_t k = 0; k < ALL; k++)
-                lost += !goes_to(k);
-        }
+        for (; said < said_by(GAME, at); said++)
+            lost += lost_to_all(&pc, ALL);
     }
     printf("%" PRIu64 " of %" PRIu64 " copies of the PC are lost\n", lost, ALL * said);
     expect(lost == 0 && said > 0, "beside a flood of answers to pings a PC of QEMU is heard by a line");
 }
 
-/* Two addresses flood two players, who say less than their parts, and each other; a PC of QEMU speaks to all. */
+/* Two addresses flood two players, who say less than their parts, and each other; a PC of QEMU and the router speak to all. */
 static void networks(void)
 {
     enum { FLOOD = 2, ALL = 4, GAME = 10, KILOBITS = 1000, LASTS = 2 * MINUTE };
-    uint64_t said = 0, lost = 0, of_pc = 0;
+    static line_use pc;
+    uint64_t said = 0, lost = 0;
     begin_on_line(ALL, KILOBITS);
     for (uint64_t at = 1; at <= LASTS; at++) {
         pass_millisecond(at);
@@ -557,14 +566,61 @@ static void networks(void)
                 for (size_t k = 0; k < ALL; k++)
                     lost += k != who && !goes_to(k);
             }
-            line_begin(NULL, SHORT);
-            for (size_t k = 0; k < ALL; k++)
-                of_pc += !goes_to(k);
+            lost += lost_to_all(&pc, ALL) + lost_to_all(NULL, ALL);
         }
     }
-    printf("%" PRIu64 " copies of the players are lost, and %" PRIu64 " of %" PRIu64 " of the PC\n", lost, of_pc, ALL * said);
-    expect(lost == 0 && said > 0, "beside two addresses that flood players within their parts of a line lose nothing");
-    expect(10 * of_pc < ALL * said, "and a PC of QEMU is heard");
+    printf("%" PRIu64 " copies of those within their parts are lost, who said %" PRIu64 " packets each\n", lost, said);
+    expect(lost == 0 && said > 0, "beside two addresses that flood players, a PC of QEMU and the router lose nothing of a line");
+}
+
+/* Players say more than a line carries; a PC of QEMU and the router say little to all. */
+static void beyond(void)
+{
+    enum { ALL = 7, GAME = 35, PACKET = 100, FEW = 2, KILOBITS = 1000, LASTS = 2 * MINUTE };
+    static line_use pc;
+    uint64_t said = 0, few = 0, lost = 0, of_players = 0;
+    begin_on_line(ALL, KILOBITS);
+    for (uint64_t at = 1; at <= LASTS; at++) {
+        pass_millisecond(at);
+        for (; said < said_by(GAME, at); said++)
+            for (size_t who = 0; who < ALL; who++) {
+                line_begin(&speakers[who]->line, PACKET);
+                for (size_t k = 0; k < ALL; k++)
+                    of_players += k != who && !goes_to(k);
+            }
+        for (; few < said_by(FEW, at); few++)
+            lost += lost_to_all(&pc, ALL) + lost_to_all(NULL, ALL);
+    }
+    printf("%" PRIu64 " of %" PRIu64 " copies of a PC and the router are lost, and %" PRIu64 " of the players\n", lost, 2 * ALL * few, of_players);
+    expect(lost == 0 && few > 0, "where players say more than a line carries a PC of QEMU and the router are heard");
+    expect(of_players > 0, "and the players lose what is too much");
+}
+
+/* Two addresses with clients register again and again, and flood a line; a client of a third registers every two seconds. */
+static void again(void)
+{
+    enum { FLOOD = 2, ALL = 3, AN_ANSWER = 30, LONG = 1400, KILOBITS = 300, LASTS = 2 * MINUTE, BETWEEN = 2 * SECOND };
+    uint64_t answered = 0, asked = 0;
+    begin_on_line(ALL, KILOBITS);
+    for (uint64_t at = 1; at <= LASTS; at++) {
+        pass_millisecond(at);
+        for (size_t who = 0; who < FLOOD; who++) {
+            line_begin(&speakers[who]->line, LONG);
+            for (size_t k = 0; k < ALL; k++)
+                (void)goes_to(k);
+            if (line_lets_answer(&speakers[who]->line))
+                line_send_answer(&speakers[who]->line, AN_ANSWER);
+        }
+        if (at % BETWEEN == 0) {
+            bool lets = line_lets_answer(&speakers[FLOOD]->line);
+            if (lets)
+                line_send_answer(&speakers[FLOOD]->line, AN_ANSWER);
+            asked++;
+            answered += lets;
+        }
+    }
+    printf("%" PRIu64 " of %" PRIu64 " registrations are answered\n", answered, asked);
+    expect(answered == asked && asked > 0, "two addresses that register again and again leave others the answers to theirs");
 }
 
 /* More addresses than there are numbers speak once; of those who share a number with a player each speaks again, so that it keeps its own. From
@@ -922,7 +978,8 @@ static const struct {
     void (*does)(void);
 } WORDS_ALONE[] = {
     {"once", once}, {"two", two}, {"address", of_address}, {"narrow", narrow}, {"silent", silent}, {"crowds", crowds},
-    {"itself", itself}, {"pings", pings_by_line}, {"networks", networks}, {"numbers", numbers},
+    {"itself", itself}, {"pings", pings_by_line}, {"networks", networks}, {"beyond", beyond},
+    {"again", again}, {"numbers", numbers},
     {"router", router}, {"links", links}, {"accounts", accounts}, {"none", none}, {"gateway", gateway},
 };
 

@@ -425,6 +425,27 @@ def a_bridge_behind_its_back():
     ip("link", "del", "brs")
 
 
+def four_in_one_bridge():
+    """Of four links that a bridge joins while a station speaks to all, all but the first are shut, though packets that go round fill them."""
+    names = [f"seg{it}" for it in "abcd"]
+    ip("link", "add", "brs", "type", "bridge")
+    ip("link", "set", "brs", "up")
+    pair("s0", "s1")
+    ip("link", "set", "s0", "master", "brs")
+    with Cable([f"tap {it} raw" for it in names]) as gate:
+        pc = Station(Packets("s1", "raw"), "raw", NUMBER, PC, gate.nodes[NUMBER])
+        for name in names:
+            ip("link", "set", name, "master", "brs")
+        ends = time.monotonic() + 1
+        while time.monotonic() < ends:
+            calls(pc)
+            time.sleep(0.02)
+        for name in names[1:]:
+            assert gate.told(f"network {NUMBER:08X} is down: tap {name} raw").endswith(": it is one cable with tap sega raw")
+    ip("link", "del", "s0")
+    ip("link", "del", "brs")
+
+
 TESTS = (a_call_finds_all, an_answer_goes_to_one, a_node_moves, two_with_one_node, nobody_takes_a_clients_name, the_router_is_a_station,
          each_client_is_sure, a_client_at_two_links)
 OF_LINUX = (stations_are_shown, links_change_while_it_runs, clients_are_sure_after_a_reload, links_change_beneath_a_packet,
@@ -439,7 +460,7 @@ def inside():
         return Counts()
     counts = tried(*((cards_and_taps,) if hears_all_frames() else ()))
     if has_bridges():
-        return counts + tried(a_bridge_behind_its_back)
+        return counts + tried(a_bridge_behind_its_back, four_in_one_bridge)
     left_out("a bridge behind the gateway's back", "none can be made")
     return counts
 

@@ -372,6 +372,10 @@ def routers_elsewhere():
         assert "services: 1\n" in one.until("routes: 2\n")
         assert one.counted(0x10, "for far routers") == 12
         other.until("\n  00000077 hops 2 ")
+        for socket in (RIP, SAP):
+            a.send(packet(address(0x10, EVERYONE, socket), address(0, a.node, socket), bytes(4) + struct.pack(">HIHH", 2, 0x78, 1, 2), kind=20))
+        assert comes_next(a, far), "nor does it by type 20, which goes to all networks"
+        assert one.counted(0x10, "for far routers") == 14
 
 
 def heard_again():

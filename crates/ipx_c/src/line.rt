@@ -1,7 +1,7 @@
 //! A narrow line, as C asks for it. It and its addresses lie in memory of C's own, and need no handle.
 ghost use Rattle.std.specs.Prelude.{◌≡◌, true};
 ghost use Rattle.ipx_limits.specs.LineMembers.{LineJoined, LineLeft, LineSpoken, LineSilent, LineSecond, is_silent};
-ghost use Rattle.ipx_limits.specs.LineRoom.{LineAsked, LineSent, lets_beyond, lets_own, own_after, taken, own_cost, stranger_cost, lets_stranger, strangers_owed, stranger_owed, stranger_after};
+ghost use Rattle.ipx_limits.specs.LineRoom.{LineAsked, LineSent, lets_beyond, own_after, taken, own_cost, one_cost, one_owed, lets_answer, lets_stranger, strangers_owed, stranger_after};
 ghost use Rattle.ipx_limits.specs.declared.rank.Rank.{Rank};
 ghost use Rattle.std.specs.Prelude.{Option};
 ghost use Rattle.ipx_c.specs.LimitValues.{rank_at, room_number};
@@ -95,20 +95,30 @@ pub extern "C" fn ipxr_line_lets_beyond(line: &Line, now: u64) -> bool
 
 // ---- What the gateway says itself
 
-/// Whether an answer of the gateway's own goes out to a client.
+/// Whether an answer of the gateway's own goes out to a client, whose address uses so much of the part that it has of them.
 #[unsafe(no_mangle)]
-pub extern "C" fn ipxr_line_lets_own(line: &Line, now: u64) -> bool
-    ensures { result ≡ lets_own now line.now }
+pub extern "C" fn ipxr_line_lets_answer(line: &Line, now: u64, address: &mut u64) -> bool
+    ensures room { result ≡ lets_answer now line.now address.new }
+    ensures address { address.new ≡ one_owed now line.now address.old }
 {
-    line.lets_own(now)
+    line.lets_answer(now, address)
 }
 
-/// It goes out, or a ping.
+/// It goes out.
 #[unsafe(no_mangle)]
-pub extern "C" fn ipxr_line_send_own(line: &mut Line, now: u64, bytes: usize)
+pub extern "C" fn ipxr_line_send_answer(line: &mut Line, now: u64, bytes: usize, address: &mut u64)
+    ensures line { line.new ≡ own_after now line.old bytes }
+    ensures address { address.new ≡ taken now true (one_cost line.old bytes) address.old }
+{
+    line.send_answer(now, bytes, address);
+}
+
+/// A ping goes out.
+#[unsafe(no_mangle)]
+pub extern "C" fn ipxr_line_send_ping(line: &mut Line, now: u64, bytes: usize)
     ensures { line.new ≡ own_after now line.old bytes }
 {
-    line.send_own(now, bytes);
+    line.send_ping(now, bytes);
 }
 
 /// Whether there is room for what the gateway says to one who is no client, whose address uses so much of the part that it has there.
@@ -116,7 +126,7 @@ pub extern "C" fn ipxr_line_send_own(line: &mut Line, now: u64, bytes: usize)
 pub extern "C" fn ipxr_line_lets_stranger(line: &mut Line, now: u64, address: &mut u64) -> bool
     ensures room { result ≡ lets_stranger now line.new address.new }
     ensures line { line.new ≡ strangers_owed now line.old }
-    ensures address { address.new ≡ stranger_owed now line.old address.old }
+    ensures address { address.new ≡ one_owed now line.old address.old }
 {
     line.lets_stranger(now, address)
 }
@@ -130,7 +140,7 @@ pub extern "C" fn ipxr_line_send_to_stranger(
     address: &mut u64,
 )
     ensures line { line.new ≡ stranger_after now line.old bytes }
-    ensures address { address.new ≡ taken now true (stranger_cost line.old bytes) address.old }
+    ensures address { address.new ≡ taken now true (one_cost line.old bytes) address.old }
 {
     line.send_to_stranger(now, bytes, address);
 }

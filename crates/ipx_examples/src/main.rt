@@ -7,6 +7,7 @@
 mod addresses;
 mod cables;
 mod captures;
+mod edges;
 mod ends;
 mod fates;
 mod internets;
@@ -152,6 +153,9 @@ fn keep(rt: &HostRuntime) -> Result<()> {
 /// The examples of a router.
 fn route(rt: &HostRuntime) -> Result<()> {
     routers::port(rt)?;
+    edges::numbered(rt, port(0x50, 1)?)?;
+    edges::held(rt, port(0x20, 1)?, &ROUTES)?;
+    edges::filtered(rt, port(0x20, 1)?, &ROUTES)?;
     let ports = ports(0x10, 1)?;
     routers::ports_fault(rt, &ports)?;
     routers::router(rt, &ports)?;

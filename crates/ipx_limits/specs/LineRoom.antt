@@ -5,7 +5,7 @@ use Rattle.ipx_limits.specs.declared.line.LineAddress.{LineAddress}
 use Rattle.ipx_limits.specs.declared.line_room.LineUse.{LineUse}
 use Rattle.ipx_limits.specs.declared.rank.Rank.{Rank}
 use Rattle.ipx_limits.specs.declared.rank.Rank.TheVariants.{Beyond, OfAddress, OfSpeaker, Little, Within}
-use Rattle.ipx_limits.specs.Numbers.{second, line_longest, line_short, room_beyond, room_of_address, room_of_speaker, room_within, received_at_once, own_parts, own_at_once, stranger_parts, line_numbers}
+use Rattle.ipx_limits.specs.Numbers.{second, line_longest, line_short, room_beyond, room_of_address, room_of_speaker, room_within, received_at_once, own_parts, own_at_once, parts_of_one, line_numbers}
 use Rattle.ipx_limits.specs.Queues.{users_of}
 use Rattle.ipx_limits.specs.LineParts.{ahead, from_now, owed, cost, longest, receivers, pairs, pair_cost, said_cost, most_within, most_said, most_spoken}
 
@@ -34,7 +34,7 @@ is_alone line number = nat_le (users_of line.numbers number) 1
 abbrev pub speaks_to_itself : Line → LineAddress → ℕ → Bool
 speaks_to_itself line to number = number == to.number && to.clients == 1 && is_alone line number
 
--- a speaker within his part of the address' part. (the number 0 is the router's and that of networks of other kinds, which have none)
+-- a speaker within his part of the address' part. (the number 0 is of those who have none)
 abbrev pub is_within : Line → LineAddress → ℕ → ℕ → LineUse → Bool
 is_within line to number bytes used =
     not (number == 0) && (not (speaks_to_itself line to number) && nat_le (used.within + pair_cost line to bytes) (most_within line to))
@@ -141,29 +141,33 @@ lets_beyond now line = nat_le (ahead now line.used) room_beyond
 abbrev pub own_cost : Line → ℕ → ℕ
 own_cost line bytes = own_parts * cost line bytes
 
-abbrev pub lets_own : ℕ → Line → Bool
-lets_own now line = (nat_le (ahead now line.own) own_at_once && nat_le (ahead now line.used) (most_room line)) || lets_beyond now line
-
 abbrev pub own_after : ℕ → Line → ℕ → Line
 own_after now line bytes = record (line_after now line bytes) { own = owed now own_at_once (own_cost line line_longest) (taken now true (own_cost line bytes) line.own) }
 
--- and so much of that part is one address'
-abbrev pub stranger_cost : Line → ℕ → ℕ
-stranger_cost line bytes = stranger_parts * own_cost line bytes
+-- and so much of each part is one address'
+abbrev pub one_cost : Line → ℕ → ℕ
+one_cost line bytes = parts_of_one * own_cost line bytes
 
 -- of which so much may be used at once, or a short packet: by a narrow line somebody may register, and another of his house at once
-abbrev pub most_of_stranger : Line → ℕ
-most_of_stranger line = max own_at_once (stranger_cost line line_short)
+abbrev pub most_of_one : Line → ℕ
+most_of_one line = max own_at_once (one_cost line line_short)
+
+abbrev pub one_owed : ℕ → Line → ℕ → ℕ
+one_owed now line address = owed now (most_of_one line) (one_cost line line_longest) address
+
+-- that part is used so far, and so is the address' of it
+abbrev pub lets_one : ℕ → Line → (part address : ℕ) → Bool
+lets_one now line part address =
+    nat_le (ahead now part) own_at_once && nat_le (ahead now address) (most_of_one line) && nat_le (ahead now line.used) (most_room line)
+
+abbrev pub lets_answer : ℕ → Line → ℕ → Bool
+lets_answer now line address = lets_one now line line.own address || lets_beyond now line
 
 abbrev pub lets_stranger : ℕ → Line → ℕ → Bool
-lets_stranger now line address =
-    nat_le (ahead now line.to_strangers) own_at_once && nat_le (ahead now address) (most_of_stranger line) && nat_le (ahead now line.used) (most_room line)
+lets_stranger now line address = lets_one now line line.to_strangers address
 
 abbrev pub strangers_owed : ℕ → Line → Line
 strangers_owed now line = record line { to_strangers = owed now own_at_once (own_cost line line_longest) line.to_strangers }
-
-abbrev pub stranger_owed : ℕ → Line → ℕ → ℕ
-stranger_owed now line address = owed now (most_of_stranger line) (stranger_cost line line_longest) address
 
 abbrev pub stranger_after : ℕ → Line → ℕ → Line
 stranger_after now line bytes = record (line_after now line bytes) { to_strangers = taken now true (own_cost line bytes) line.to_strangers }

@@ -220,8 +220,8 @@ abbrev pub pair_parts : ℕ
 pair_parts = 29
 
 -- of what goes to strangers one address gets one part in so many
-abbrev pub stranger_parts : ℕ
-stranger_parts = 8
+abbrev pub parts_of_one : ℕ
+parts_of_one = 8
 
 -- and how much of each of these at once
 abbrev pub own_at_once : ℕ

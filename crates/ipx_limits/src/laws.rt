@@ -17,8 +17,8 @@ ghost use Rattle.ipx_limits.specs.declared.line_room.LineUse.{LineUse};
 ghost use Rattle.ipx_limits.specs.declared.queues.Queues.{Queues};
 ghost use Rattle.ipx_limits.specs.declared.rank.Rank.{Rank};
 ghost use Rattle.ipx_limits.specs.declared.rank.Rank.TheVariants.{Little, Within};
-ghost use Rattle.ipx_limits.specs.LineParts.{ahead, from_now, longest, pair_cost, said_cost, most_within};
-ghost use Rattle.ipx_limits.specs.LineRoom.{place_of, speaks_to_itself, rank_of, most_room, room_of, room_for, has_room, most_used, is_little, is_of_part, LineSent, own_cost, own_after, most_of_stranger, lets_stranger, stranger_after};
+ghost use Rattle.ipx_limits.specs.LineParts.{ahead, from_now, cost, longest, receivers, pairs, pair_cost, said_cost, most_within};
+ghost use Rattle.ipx_limits.specs.LineRoom.{place_of, speaks_to_itself, rank_of, most_room, room_of, room_for, has_room, most_used, is_little, is_of_part, is_spoken, is_received, LineSent, own_cost, own_after, most_of_one, lets_stranger, stranger_after};
 ghost use Rattle.ipx_limits.specs.LineLaws.{Busy, quiet, busy_then, Event as OnLine, Runs as LineRuns, elapsed as time_on_line, copied, own_fill, fill_by, comes_first, room_behind, HasParts, IsWide, Saying, SayingRuns, said_fill, Stranger, StrangersRun, waited, sent as sent_on_line};
 ghost use Rattle.ipx_limits.specs.declared.uses.Address.{Address};
 ghost use Rattle.ipx_limits.specs.declared.uses.Client.{Client};
@@ -224,8 +224,8 @@ pub fn moments_last()
     ensures set { (now nanoseconds : ℕ) → now + nanoseconds < 2 ^ 64 → ahead now (from_now now nanoseconds) ≡ nanoseconds }
 {}
 
-/// What goes out by a narrow line takes of it, and of the part of its rank, what the steps say of which these laws speak. (what it leaves of all
-/// other parts is in the calls' contracts)
+/// What goes out by a narrow line takes of it, and of each part that its rank has, what the steps say of which these laws speak. (that other
+/// speakers' parts stay as they are is in the calls' contracts)
 pub fn sent_takes_its_part()
     ensures line { (now number bytes : ℕ) (rank : Rank) (old new : Line) (said said_then : ℕ) (to to_then : LineAddress)
         → LineSent now number bytes rank old new said said_then to to_then → now + most_used old < 2 ^ 64
@@ -238,9 +238,17 @@ pub fn sent_takes_its_part()
         → now + (ahead now (get_or to.within (place_of number) 0) + pair_cost old to bytes) < 2 ^ 64
         → ahead now (get_or to_then.within (place_of number) 0)
         ≡ (if is_of_part rank then ahead now (get_or to.within (place_of number) 0) + pair_cost old to bytes else ahead now (get_or to.within (place_of number) 0)) }
+    ensures spoken { (now number bytes : ℕ) (rank : Rank) (old new : Line) (said said_then : ℕ) (to to_then : LineAddress)
+        → LineSent now number bytes rank old new said said_then to to_then → place_of number < length to.spoken
+        → now + (ahead now (get_or to.spoken (place_of number) 0) + pairs old to * cost old bytes) < 2 ^ 64
+        → ahead now (get_or to_then.spoken (place_of number) 0)
+        ≡ (if is_spoken rank then ahead now (get_or to.spoken (place_of number) 0) + pairs old to * cost old bytes else ahead now (get_or to.spoken (place_of number) 0)) }
+    ensures received { (now number bytes : ℕ) (rank : Rank) (old new : Line) (said said_then : ℕ) (to to_then : LineAddress)
+        → LineSent now number bytes rank old new said said_then to to_then → now + (ahead now to.received + receivers old * cost old bytes) < 2 ^ 64
+        → ahead now to_then.received ≡ (if is_received rank then ahead now to.received + receivers old * cost old bytes else ahead now to.received) }
     ensures own { (now bytes : ℕ) (line : Line) → now + most_used line < 2 ^ 64 → ahead now (own_after now line bytes).used ≡ busy_then line bytes (ahead now line.used) }
     ensures strangers { (now bytes address : ℕ) (line : Line) → lets_stranger now line address ≡ true → now + (ahead now line.to_strangers + own_cost line bytes) < 2 ^ 64
-        → (nat_le (ahead now line.to_strangers) own_at_once ≡ true) × (nat_le (ahead now address) (most_of_stranger line) ≡ true)
+        → (nat_le (ahead now line.to_strangers) own_at_once ≡ true) × (nat_le (ahead now address) (most_of_one line) ≡ true)
         × (ahead now (stranger_after now line bytes).to_strangers ≡ ahead now line.to_strangers + own_cost line bytes) }
 {}
 

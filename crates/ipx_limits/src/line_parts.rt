@@ -1,7 +1,7 @@
 //! The parts of a narrow line.
 ghost use Rattle.std.specs.Prelude.{◌≡◌, ◌≤◌, ◌*◌, ◌^◌, ◌+◌, max, min};
 ghost use Rattle.ipx_limits.specs.LineParts.{ahead, from_now, held, owed, cost, longest, receivers, speakers, speaks_alone, pairs, more, pair_cost, said_cost, most_within, most_said, most_spoken};
-ghost use Rattle.ipx_limits.specs.LineRoom.{said_owed, own_cost, stranger_cost};
+ghost use Rattle.ipx_limits.specs.LineRoom.{said_owed, own_cost, one_cost};
 ghost use Rattle.ipx_limits.specs.Numbers.{line_short, line_longest};
 
 use crate::limits::SECOND;
@@ -35,8 +35,8 @@ const OWN_PARTS: u64 = 32;
 /// And so many are the parts that speakers have of addresses' parts.
 const PAIR_PARTS: u64 = 29;
 
-/// Of what goes to strangers one address gets one part in so many.
-const STRANGER_PARTS: u64 = 8;
+/// Of what the gateway answers clients, and of what goes to strangers, one address gets one part in so many.
+const PARTS_OF_ONE: u64 = 8;
 
 /// There are so many parts at most.
 const MOST_PARTS: u32 = 4096;
@@ -180,11 +180,11 @@ impl Line {
         times(self.cost(bytes), OWN_PARTS)
     }
 
-    pub(crate) fn stranger_cost(&self, bytes: usize) -> u64
-        ensures value { result ≡ stranger_cost self.now bytes }
+    pub(crate) fn one_cost(&self, bytes: usize) -> u64
+        ensures value { result ≡ one_cost self.now bytes }
         ensures most { result ≤ 2 ^ 61 }
     {
-        STRANGER_PARTS * self.own_cost(bytes)
+        PARTS_OF_ONE * self.own_cost(bytes)
     }
 }
 

@@ -1,7 +1,7 @@
 //! Which copies find room on a narrow line.
 ghost use Rattle.std.specs.Prelude.{◌≡◌, ◌≤◌, ◌^◌, true};
 ghost use Rattle.ipx_limits.specs.LineParts.{owed};
-ghost use Rattle.ipx_limits.specs.LineRoom.{place_of, use_at, is_alone, speaks_to_itself, is_within, has_part, says_little, rank_of, most_room, room_of, address_owed, LineAsked, most_used, line_after, LineSent, lets_beyond, taken, is_little, is_of_part, is_spoken, is_received, own_cost, lets_own, own_after, stranger_cost, most_of_stranger, lets_stranger, strangers_owed, stranger_owed, stranger_after};
+ghost use Rattle.ipx_limits.specs.LineRoom.{place_of, use_at, is_alone, speaks_to_itself, is_within, has_part, says_little, rank_of, most_room, room_of, address_owed, LineAsked, most_used, line_after, LineSent, lets_beyond, taken, is_little, is_of_part, is_spoken, is_received, own_cost, own_after, one_cost, most_of_one, one_owed, lets_one, lets_answer, lets_stranger, strangers_owed, stranger_after};
 
 use crate::limits::SECOND;
 use crate::line::{Line, LineAddress};
@@ -36,7 +36,7 @@ pub(crate) struct LineUse {
 
 impl Line {
     /// Whether there is room for a copy of a packet of so many bytes to an address, and with which rank it goes out: ask, and then send. The
-    /// speaker has a number, or 0 if it is the router or a network of another kind; `said` is the moment until which his part of what is said
+    /// speaker has a number, or 0 if it has no part; `said` is the moment until which his part of what is said
     /// to all is used. (whoever used parts while they were smaller owes no more for it than one of the longest packets takes of them now)
     pub fn room(
         &self,
@@ -105,16 +105,27 @@ impl Line {
         ahead(now, self.used) <= BEYOND
     }
 
-    /// Whether an answer of the gateway's own goes out to a client.
-    pub fn lets_own(&self, now: u64) -> bool
-        ensures { result ≡ lets_own now self.now }
+    /// Whether an answer of the gateway's own goes out to a client. `address` is the moment until which the part of that is used which his
+    /// address has: so whoever asks again and again uses up nobody else's.
+    pub fn lets_answer(&self, now: u64, address: &mut u64) -> bool
+        ensures room { result ≡ lets_answer now self.now address.new }
+        ensures address { address.new ≡ one_owed now self.now address.old }
     {
-        let is_within = ahead(now, self.own) <= SECOND && ahead(now, self.used) <= self.most_room();
-        is_within || self.lets_beyond(now)
+        *address = self.one_owed(now, *address);
+        self.lets_one(now, self.own, *address) || self.lets_beyond(now)
     }
 
-    /// It goes out; or a ping, for which there is always room, since by it clients stay.
-    pub fn send_own(&mut self, now: u64, bytes: usize)
+    /// It goes out.
+    pub fn send_answer(&mut self, now: u64, bytes: usize, address: &mut u64)
+        ensures line { self.new ≡ own_after now self.old bytes }
+        ensures address { address.new ≡ taken now true (one_cost self.old bytes) address.old }
+    {
+        *address = further(now, *address, self.one_cost(bytes));
+        self.send_ping(now, bytes);
+    }
+
+    /// A ping goes out, for which there is always room, since by it clients stay.
+    pub fn send_ping(&mut self, now: u64, bytes: usize)
         ensures { self.new ≡ own_after now self.old bytes }
     {
         let used = further(now, self.own, self.own_cost(bytes));
@@ -127,26 +138,19 @@ impl Line {
     pub fn lets_stranger(&mut self, now: u64, address: &mut u64) -> bool
         ensures room { result ≡ lets_stranger now self.new address.new }
         ensures line { self.new ≡ strangers_owed now self.old }
-        ensures address { address.new ≡ stranger_owed now self.old address.old }
+        ensures address { address.new ≡ one_owed now self.old address.old }
     {
-        *address = owed(
-            now,
-            self.most_of_stranger(),
-            self.stranger_cost(LONGEST),
-            *address,
-        );
+        *address = self.one_owed(now, *address);
         self.to_strangers = owed(now, SECOND, self.own_cost(LONGEST), self.to_strangers);
-        ahead(now, self.to_strangers) <= SECOND
-            && ahead(now, *address) <= self.most_of_stranger()
-            && ahead(now, self.used) <= self.most_room()
+        self.lets_one(now, self.to_strangers, *address)
     }
 
     /// It goes out.
     pub fn send_to_stranger(&mut self, now: u64, bytes: usize, address: &mut u64)
         ensures line { self.new ≡ stranger_after now self.old bytes }
-        ensures address { address.new ≡ taken now true (stranger_cost self.old bytes) address.old }
+        ensures address { address.new ≡ taken now true (one_cost self.old bytes) address.old }
     {
-        *address = further(now, *address, self.stranger_cost(bytes));
+        *address = further(now, *address, self.one_cost(bytes));
         self.to_strangers = further(now, self.to_strangers, self.own_cost(bytes));
         self.goes(now, bytes);
     }
@@ -168,12 +172,27 @@ impl Line {
         self.used = from_now(now, busy.min(self.most_used()));
     }
 
-    /// How much one address may use at once of what goes to strangers.
-    fn most_of_stranger(&self) -> u64
-        ensures value { result ≡ most_of_stranger self.now }
+    /// How much one address may use at once of what the gateway answers clients, or of what goes to strangers.
+    fn most_of_one(&self) -> u64
+        ensures value { result ≡ most_of_one self.now }
         ensures most { result ≤ 2 ^ 61 }
     {
-        SECOND.max(self.stranger_cost(SHORT))
+        SECOND.max(self.one_cost(SHORT))
+    }
+
+    fn one_owed(&self, now: u64, address: u64) -> u64
+        ensures { result ≡ one_owed now self.now address }
+    {
+        owed(now, self.most_of_one(), self.one_cost(LONGEST), address)
+    }
+
+    /// Whether there is room for a datagram of a part that is used until one moment, to an address whose part of it is until another.
+    fn lets_one(&self, now: u64, part: u64, address: u64) -> bool
+        ensures { result ≡ lets_one now self.now part address }
+    {
+        ahead(now, part) <= SECOND
+            && ahead(now, address) <= self.most_of_one()
+            && ahead(now, self.used) <= self.most_room()
     }
 
     fn most_room(&self) -> u64

@@ -46,17 +46,29 @@ static void count(gateway *it, size_t number, size_t *addresses, size_t users[NU
     }
 }
 
+/* The same of one that is no address: a network, or the router. */
+static void count_other(const line_use *one, size_t users[NUMBERS], size_t *speaking)
+{
+    if (one->at.clients != 0)
+        wrong("who is no address has %u clients by the line", (unsigned)one->at.clients);
+    *speaking += one->at.number > 0;
+    users[one->at.number]++;
+}
+
 void line_is_well(gateway *it)
 {
     size_t addresses = 0, speaking = 0, users[NUMBERS] = {0};
     for (size_t k = 0; k < it->count; k++)
         count(it, k, &addresses, users, &speaking);
+    for (size_t k = 0; k < it->count; k++)
+        count_other(&it->networks[k].speaks.line, users, &speaking);
+    count_other(&router, users, &speaking);
     if (addresses != line.addresses || speaking != line.speakers)
-        wrong("the line has %zu addresses, of which %zu speak, and counts %u and %u", addresses, speaking, (unsigned)line.addresses,
+        wrong("the line has %zu addresses, and %zu who speak, and counts %u and %u", addresses, speaking, (unsigned)line.addresses,
               (unsigned)line.speakers);
     for (size_t k = 1; k < NUMBERS; k++)
         if (users[k] != line.numbers.users[k])
-            wrong("%zu addresses have the number %zu on the line, and %u are counted", users[k], k, (unsigned)line.numbers.users[k]);
+            wrong("%zu have the number %zu on the line, and %u are counted", users[k], k, (unsigned)line.numbers.users[k]);
 }
 
 bool line_is_unused(void)

@@ -7,7 +7,7 @@ use Rattle.ipx_limits.specs.declared.rank.Rank.TheVariants.{Beyond, OfAddress, O
 use Rattle.ipx_limits.specs.Numbers.{line_short, line_longest}
 use Rattle.ipx_limits.specs.LineMembers.{LineJoined, LineLeft, is_silent}
 use Rattle.ipx_limits.specs.LineParts.{owed, cost, longest, receivers, speakers, pairs, pair_cost, said_cost, most_within, most_said, most_spoken}
-use Rattle.ipx_limits.specs.LineRoom.{rank_of, most_room, room_for, LineSent, own_cost, lets_own, own_after, stranger_cost, lets_stranger, stranger_after}
+use Rattle.ipx_limits.specs.LineRoom.{rank_of, most_room, room_for, LineSent, own_cost, own_after, one_cost, most_of_one, lets_answer, lets_stranger, stranger_after}
 use Rattle.ipx_limits.specs.LineLaws.{IsWide}
 
 -- so many kilobits a second; so many addresses, which all speak; and busy until a moment
@@ -202,20 +202,27 @@ owes_no_more = refl
 pub own_takes : own_cost three line_short ≡ 32 * 1777777
 own_takes = refl
 
-pub own_goes : lets_own 0 (record (busy_line 1000 3 327297776) { own = 1000000000 }) ≡ true
-own_goes = refl
+pub answer_goes : lets_answer 0 (record (busy_line 1000 3 327297776) { own = 1000000000 }) 1000000000 ≡ true
+answer_goes = refl
 
-pub own_waits : lets_own 0 (record (busy_line 1000 3 20000001) { own = 1000000001 }) ≡ false
-own_waits = refl
+pub answers_used_theirs : lets_answer 0 (record (busy_line 1000 3 20000001) { own = 1000000001 }) 0 ≡ false
+answers_used_theirs = refl
 
-pub own_waits_for_nobody : lets_own 0 (record (busy_line 1000 3 20000000) { own = 1000000001 }) ≡ true
-own_waits_for_nobody = refl
+-- an address has used its eighth, and another hasn't
+pub address_used_its_own : lets_answer 0 (busy_line 1000 3 20000001) 1000000001 ≡ false
+address_used_its_own = refl
+
+pub another_has_its_own : lets_answer 0 (busy_line 1000 3 20000001) 0 ≡ true
+another_has_its_own = refl
+
+pub answer_waits_for_nobody : lets_answer 0 (record (busy_line 1000 3 20000000) { own = 1000000001 }) 1000000001 ≡ true
+answer_waits_for_nobody = refl
 
 pub own_went : own_after 1000 three line_short ≡ record (busy_line 1000 3 1778777) { own = 1000 + 32 * 1777777 }
 own_went = refl
 
-pub stranger_takes : stranger_cost three line_short ≡ 8 * (32 * 1777777)
-stranger_takes = refl
+pub one_takes : one_cost three line_short ≡ 8 * (32 * 1777777)
+one_takes = refl
 
 pub stranger_goes : lets_stranger 0 (record (busy_line 1000 3 327297776) { to_strangers = 1000000000 }) 1000000000 ≡ true
 stranger_goes = refl

@@ -1,0 +1,5 @@
+-- Worked examples: each is checked by computing it.
+pub mod Entering
+pub mod Filtering
+pub mod Numbering
+pub mod Words

@@ -1,0 +1,6 @@
+use Rattle.std.proofs.Common.{◌≡◌, drop}
+use Rattle.ipx_edge.specs.Rules.{names_route, permits}
+use Rattle.ipx_edge.proofs.naming.permits_route.Given as goal
+
+abbrev pub invariant-loop-rule : goal.invariant-loop-rule
+invariant-loop-rule l = permits (names_route l.way l.entry) (drop l.rule-index l.rules) ≡ permits (names_route l.way l.entry) l.rules

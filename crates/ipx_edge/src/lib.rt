@@ -1,0 +1,30 @@
+//! The edge of a cable: what a packet passes between a network and the router's port on it.
+//!
+//! - A station that doesn't know its network's number says 0 for it, and nobody elsewhere can answer it. `number` fills the number in, as
+//!   that of the source and of the services that are advertised there. It changes the packet where it lies, and no other byte of it.
+//! - The router believes what neighbours say of routes and services. What came through a router was said elsewhere, so `enter` holds it,
+//!   and numbers all else.
+//! - `filter` denies packets by rules, the first that names one deciding; a response loses the routes or services that are denied.
+//! - Each call's contract is exact for all bytes, by the definitions in `specs/`. The laws say what follows: what was read is read again,
+//!   no packet names network 0 as its source, all else stays, twice is once; and whatever the router hears, by its own checks, no router
+//!   carried.
+//! - It has no socket, no clock and no state, and takes no memory: packet in, packet out.
+//!
+//! It stands on `ipx_wire`, for packets, and on `ipx_router`, for its ports and for what is near. A gateway, with a router behind it, can
+//! stand on this crate.
+#![tactic(auto)]
+
+mod entering;
+mod fields;
+mod filtering;
+pub mod laws;
+mod listing;
+mod naming;
+mod near;
+mod numbering;
+mod rule;
+
+pub use crate::entering::{enter, is_held};
+pub use crate::filtering::filter;
+pub use crate::numbering::number;
+pub use crate::rule::{Names, Rule, Way, What};
