@@ -98,7 +98,7 @@ def few_of_many_speak():
 class Bursts(Player):
     """A player that says several words at once."""
 
-    WORDS = 20
+    WORDS = 12
 
     def speak(self, now):
         if now < self.due:
@@ -111,7 +111,7 @@ class Bursts(Player):
 
 @played_anew
 def many_words_at_once():
-    """By a line of 1 Mbit/s that has room one player says 20 words at once, and three others 20 a second each: all are heard."""
+    """By a line of 1 Mbit/s that has room one player says 12 words at once, and three others 20 a second each: all are heard."""
     with Playground(by_a_line(1000), numbers=(0, 0, 3), more=1, begins=False) as it:
         for player in it.party.all:
             player.every = 1 / 20
