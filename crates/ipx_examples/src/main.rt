@@ -11,6 +11,7 @@ mod edges;
 mod ends;
 mod fates;
 mod internets;
+mod keyed;
 mod limited;
 mod offers;
 mod packets;
@@ -71,6 +72,12 @@ const REGISTRATION: [u8; 30] = [
 const ANSWER: [u8; 30] = [
     0xFF, 0xFF, 0, 0x1E, 0, 0, 0, 0, 0, 0x10, 2, 0x11, 0x22, 0x33, 0x44, 0x55, 0, 2, 0, 0, 0, 0x10,
     0x0A, 0, 0, 1, 8, 0x52, 0, 2,
+];
+
+/// A game's broadcast on network 10h, by node 02A1B2C3D4E5.
+const WORD: [u8; 30] = [
+    0xFF, 0xFF, 0, 0x1E, 0, 0, 0, 0, 0, 0x10, 0xFF, 0xFF, 0xFF, 0xFF, 0xFF, 0xFF, 0x86, 0x9C, 0, 0,
+    0, 0x10, 2, 0xA1, 0xB2, 0xC3, 0xD4, 0xE5, 0x86, 0x9C,
 ];
 
 /// The header of a capture file, and a record of sixty bytes, of which two are kept.
@@ -246,7 +253,7 @@ fn port(network: u32, node: u8) -> Result<Port, PortFault> {
     Port::new(Network(network), Node([0, 0, 0, 0, 0, node]), 1, 576)
 }
 
-/// The examples of a tunnel, of a plan, of a line of a configuration, of a segment, of receivers and meters, and of limits.
+/// The examples of both tunnels, of a plan, of a line of a configuration, of a segment, of receivers and meters, and of limits.
 fn serve(rt: &HostRuntime) -> Result<()> {
     let cookies = Cookies {
         current: Node([2, 0x11, 0x22, 0x33, 0x44, 0x55]),
@@ -258,6 +265,7 @@ fn serve(rt: &HostRuntime) -> Result<()> {
         is_trusted: false,
     };
     tunnels::tunnel(rt, from, &REGISTRATION, &ANSWER)?;
+    keyed::come(rt, from.place, cookies, &REGISTRATION, &WORD)?;
     plans::plan(rt)?;
     settings::line(rt)?;
     settings::configuration(rt)?;

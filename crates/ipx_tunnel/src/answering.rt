@@ -102,7 +102,8 @@ fn answer_to(setting: Setting, place: Node) -> Own
     }
 }
 
-fn ping_to(network: Network, place: Node, cookie: Node) -> Own
+/// A ping for one place alone, though for all by its destination; the answer goes to the cookie.
+pub fn ping_to(network: Network, place: Node, cookie: Node) -> Own
     ensures { result ≡ ping_to network place cookie }
 {
     Own {
@@ -113,7 +114,7 @@ fn ping_to(network: Network, place: Node, cookie: Node) -> Own
 }
 
 /// The tunnel's socket on a node.
-fn at_node(network: Network, node: Node) -> Address
+pub fn at_node(network: Network, node: Node) -> Address
     ensures { result ≡ at_node network node }
 {
     Address {
@@ -124,7 +125,7 @@ fn at_node(network: Network, node: Node) -> Address
 }
 
 /// Whether a packet is a ping of a client's, for all on this network.
-pub(crate) fn is_ping(network: Network, header: Header) -> bool
+pub fn is_ping(network: Network, header: Header) -> bool
     ensures { result ≡ is_ping network header }
 {
     is_here(network, header.destination.network) && is_to(header, Node::BROADCAST)

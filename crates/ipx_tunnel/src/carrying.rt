@@ -54,7 +54,8 @@ pub(crate) fn put_receivers<const C: usize>(
     }
 }
 
-fn is_for(to: Node, sender: Node, place: Node) -> bool
+/// Whether a packet from one node to another, or to all, is for the client of that node.
+pub fn is_for(to: Node, sender: Node, place: Node) -> bool
     ensures { result ≡ is_for to sender place }
 {
     if to == Node::BROADCAST {

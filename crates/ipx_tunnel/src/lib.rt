@@ -25,10 +25,14 @@ mod sender;
 mod setting;
 mod tunnel;
 
+pub use crate::answering::{at_node, is_ping, ping_to};
+pub use crate::carrying::is_for;
 pub use crate::client::Client;
 pub use crate::dispatch::Dispatch;
 pub use crate::extending::{extend, is_extended, is_named};
 pub use crate::own::{MOST_OWN, Own};
+pub use crate::places::same_address;
+pub use crate::reading::{is_from_here, is_here, is_to, packet_in};
 pub use crate::said::Said;
 pub use crate::sender::{Cookies, Sender};
 pub use crate::setting::Setting;

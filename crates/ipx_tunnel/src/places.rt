@@ -37,7 +37,8 @@ fn of_address(place: Node, clients: &[Client]) -> usize
         .count()
 }
 
-fn same_address(one: Node, other: Node) -> bool
+/// Whether two places have one IPv4 address.
+pub fn same_address(one: Node, other: Node) -> bool
     ensures { result ≡ same_address one other }
 {
     one.0[..ADDRESS_SIZE] == other.0[..ADDRESS_SIZE]

@@ -52,7 +52,7 @@ fn said_by(network: Network, from: Sender, header: Header) -> Said
 }
 
 /// Whether a packet is for the tunnel's socket on that node.
-pub(crate) fn is_to(header: Header, node: Node) -> bool
+pub fn is_to(header: Header, node: Node) -> bool
     ensures { result ≡ is_to header node }
 {
     header.destination.socket == TUNNEL && header.destination.node == node
@@ -64,14 +64,15 @@ fn names(network: Network, place: Node, header: Header) -> bool
     header.source.node == place && is_from_here(network, header.source.network)
 }
 
-fn is_from_here(network: Network, from: Network) -> bool
+/// Whether a source's network means this one: it is 0, of somebody who doesn't know it yet, or its number.
+pub fn is_from_here(network: Network, from: Network) -> bool
     ensures { result ≡ is_from_here network from }
 {
     from == LOCAL || from == network
 }
 
 /// Whether a destination's network means this one.
-pub(crate) fn is_here(network: Network, to: Network) -> bool
+pub fn is_here(network: Network, to: Network) -> bool
     ensures { result ≡ is_here network to }
 {
     to == LOCAL || to == ALL || to == network
@@ -90,7 +91,7 @@ pub(crate) fn lasts(is_trusted: bool, said: Said) -> u8
 }
 
 /// The packet in the bytes, without what lies behind it.
-pub(crate) fn packet_in(bytes: &[u8]) -> &[u8]
+pub fn packet_in(bytes: &[u8]) -> &[u8]
     ensures { result.now ≡ packet_in bytes.now (packet_of bytes.now) }
 {
     match Packet::read(bytes) {

@@ -1,0 +1,14 @@
+pub mod At
+pub mod Counting
+pub mod Due
+pub mod Entering
+pub mod First
+pub mod Heard
+pub mod Moved
+pub mod Reflected
+pub mod Remembered
+pub mod Sending
+pub mod Shown
+pub mod Silence
+pub mod Staying
+pub mod examples
