@@ -14,7 +14,7 @@ use Rattle.ipx_settings.specs.declared.reading.Reading.{Reading}
 use Rattle.ipx_configuration.specs.Carriers.{may_hear_itself, longest_on}
 use Rattle.ipx_configuration.specs.Clashes.{when, first_of, line_fault, first_clash, carrier_in, carrier_fault, link_by}
 use Rattle.ipx_configuration.specs.Configurations.{nothing, a_network, a_link, a_wrong_network, names_link, names_link_by, head_or_none, number_fault, more_links, network_fault, after_network, linked, link_line_by, link_line_fault, link_line, extended_by, link_extended_by, is_below_tunnel, below_network_by, below_link_by, tunnel_fault, now_linked, taken_below, taken_by, read_in, after}
-use Rattle.ipx_configuration.specs.Lines.{if_right, once, rate_of, clients_said, rate_said, number_said, with_clients, with_rate, with_strangers, with_kilobits, kilobits_fault, link_taken, link_by as line_by}
+use Rattle.ipx_configuration.specs.Lines.{if_right, once, rate_of, clients_said, rate_said, number_said, with_clients, with_rate, with_strangers, with_kilobits, with_nodes, kilobits_fault, link_taken, link_by as line_by}
 use Rattle.ipx_configuration.specs.Memory.{networks_in, links_in, last_network, last_link, with_link, with_last_link}
 use Rattle.ipx_configuration.specs.Said.{new_link}
 use Rattle.ipx_configuration.specs.declared.carrier.Carrier.{Carrier}
@@ -200,6 +200,7 @@ carrier_kept n text (line.Trust b) read own links link = refl
 carrier_kept n text (line.Rate b) read own links link = kept (once (rate_of link links).line own) link (with_rate link (rate_said n b)) refl
 carrier_kept n text (line.Strangers b) read own links link = kept (once link.strangers.line own) link (with_strangers link (number_said n b)) refl
 carrier_kept n text (line.Kilobits b) read own links link = kept (kilobits_fault link b own links) link (with_kilobits link (number_said n b)) refl
+carrier_kept n text (line.Nodes b) read own links link = kept (once link.nodes_line own) link (with_nodes link n) refl
 
 number_kept : (n : ℕ) (text : List ℕ) (l : Line) (read : ℕ) (own : Option Expected) (links : List LinkSetting) (link : LinkSetting)
     → (line_by n text l read own links link).0.network ≡ link.network
@@ -213,6 +214,7 @@ number_kept n text (line.Trust b) read own links link = refl
 number_kept n text (line.Rate b) read own links link = network_kept (once (rate_of link links).line own) link (with_rate link (rate_said n b)) refl
 number_kept n text (line.Strangers b) read own links link = network_kept (once link.strangers.line own) link (with_strangers link (number_said n b)) refl
 number_kept n text (line.Kilobits b) read own links link = network_kept (kilobits_fault link b own links) link (with_kilobits link (number_said n b)) refl
+number_kept n text (line.Nodes b) read own links link = network_kept (once link.nodes_line own) link (with_nodes link n) refl
 
 extends_follow : (c : Configuration) (text : List ℕ) (read : ℕ) (own : Option Expected) (o : Option NetworkSetting)
     → Follows (extended_by c text read own o).0.networks.count c.links (extended_by c text read own o).0.links
@@ -238,6 +240,7 @@ below_network_follows text r (line.Trust b) c = same refl
 below_network_follows text r (line.Rate b) c = same refl
 below_network_follows text r (line.Strangers b) c = same refl
 below_network_follows text r (line.Kilobits b) c = same refl
+below_network_follows text r (line.Nodes b) c = same refl
 
 either : (l : LinkList) (b : Bool) (x y : Configuration × Option Fault) → Follows x.0.networks.count l x.0.links → Follows y.0.networks.count l y.0.links
     → Follows (if b then x else y).0.networks.count l (if b then x else y).0.links
@@ -265,6 +268,7 @@ module _ (n : ℕ) (text : List ℕ) (r : Reading) (c : Configuration) where
   below_link_follows (line.Rate b) = last_follows
   below_link_follows (line.Strangers b) = tunnel_follows (tunnel_fault c)
   below_link_follows (line.Kilobits b) = tunnel_follows (tunnel_fault c)
+  below_link_follows (line.Nodes b) = tunnel_follows (tunnel_fault c)
 
   below_follows : Follows (taken_below n text r c).0.networks.count c.links (taken_below n text r c).0.links
   below_follows =
@@ -283,6 +287,7 @@ module _ (n : ℕ) (text : List ℕ) (r : Reading) (c : Configuration) where
   taken_follows capacity (line.Rate b) = below_follows
   taken_follows capacity (line.Strangers b) = below_follows
   taken_follows capacity (line.Kilobits b) = below_follows
+  taken_follows capacity (line.Nodes b) = below_follows
 
 pub follows : (capacity : Capacity) (n : ℕ) (text : List ℕ) (c : Configuration)
     → Follows (after capacity n text c).networks.count c.links (after capacity n text c).links

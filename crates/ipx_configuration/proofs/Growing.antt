@@ -89,6 +89,7 @@ module _ (n : ℕ) (text : List ℕ) (r : Reading) (c : Configuration) where
   below_network_grows (line.Rate b) = stays c.networks
   below_network_grows (line.Strangers b) = stays c.networks
   below_network_grows (line.Kilobits b) = stays c.networks
+  below_network_grows (line.Nodes b) = stays c.networks
 
   last_grows : Grows c.networks (link_extended_by c n text r (last_link c.links)).0.networks
   last_grows = link_extended_grows c n text r (last_link c.links)
@@ -107,6 +108,7 @@ module _ (n : ℕ) (text : List ℕ) (r : Reading) (c : Configuration) where
   below_link_grows (line.Rate b) = last_grows
   below_link_grows (line.Strangers b) = tunnel_grows
   below_link_grows (line.Kilobits b) = tunnel_grows
+  below_link_grows (line.Nodes b) = tunnel_grows
 
   below_grows : Grows c.networks (taken_below n text r c).0.networks
   below_grows =
@@ -125,6 +127,7 @@ module _ (n : ℕ) (text : List ℕ) (r : Reading) (c : Configuration) where
   taken_grows capacity (line.Rate b) = below_grows
   taken_grows capacity (line.Strangers b) = below_grows
   taken_grows capacity (line.Kilobits b) = below_grows
+  taken_grows capacity (line.Nodes b) = below_grows
 
 pub grows : (capacity : Capacity) (n : ℕ) (text : List ℕ) (c : Configuration) → Grows c.networks (after capacity n text c).networks
 grows capacity n text c = let r = read_in capacity text c in taken_grows n text r c capacity r.line

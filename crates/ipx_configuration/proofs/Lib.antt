@@ -6,3 +6,5 @@ pub mod Apart
 pub mod Listing
 pub mod Meaning
 pub mod Sharing
+pub mod Naming
+pub mod examples

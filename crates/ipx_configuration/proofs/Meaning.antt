@@ -103,3 +103,4 @@ unchanged capacity n text r c f (line.Trust b) is wrong = absurd (true≢false (
 unchanged capacity n text r c f (line.Rate b) is wrong = absurd (true≢false (sym is))
 unchanged capacity n text r c f (line.Strangers b) is wrong = absurd (true≢false (sym is))
 unchanged capacity n text r c f (line.Kilobits b) is wrong = absurd (true≢false (sym is))
+unchanged capacity n text r c f (line.Nodes b) is wrong = absurd (true≢false (sym is))

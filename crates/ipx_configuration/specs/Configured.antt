@@ -79,6 +79,7 @@ configured_at link network shares shared = record {
   sockets = network.sockets;
   allowed = link.allowed;
   trusted = link.trusted;
+  nodes_by_address = nat_lt 0 link.nodes_line;
 }
 
 abbrev pub configured_by : Capacity → LinkSetting → List LinkSetting → NetworkSetting → LinkConfigured

@@ -101,22 +101,25 @@ if_right None was next = (next, None)
 if_right (Some f) was next = (was, Some f)
 
 abbrev pub with_clients : LinkSetting → ClientsSaid → LinkSetting
-with_clients l said = link_at l.line l.network l.carrier said l.rate l.strangers l.kilobits l.allowed l.trusted
+with_clients l said = link_at l.line l.network l.carrier said l.rate l.strangers l.kilobits l.allowed l.trusted l.nodes_line
 
 abbrev pub with_rate : LinkSetting → RateSaid → LinkSetting
-with_rate l said = link_at l.line l.network l.carrier l.clients said l.strangers l.kilobits l.allowed l.trusted
+with_rate l said = link_at l.line l.network l.carrier l.clients said l.strangers l.kilobits l.allowed l.trusted l.nodes_line
 
 abbrev pub with_strangers : LinkSetting → NumberSaid → LinkSetting
-with_strangers l said = link_at l.line l.network l.carrier l.clients l.rate said l.kilobits l.allowed l.trusted
+with_strangers l said = link_at l.line l.network l.carrier l.clients l.rate said l.kilobits l.allowed l.trusted l.nodes_line
 
 abbrev pub with_kilobits : LinkSetting → NumberSaid → LinkSetting
-with_kilobits l said = link_at l.line l.network l.carrier l.clients l.rate l.strangers said l.allowed l.trusted
+with_kilobits l said = link_at l.line l.network l.carrier l.clients l.rate l.strangers said l.allowed l.trusted l.nodes_line
 
 abbrev pub with_allowed : LinkSetting → Ranges → LinkSetting
-with_allowed l said = link_at l.line l.network l.carrier l.clients l.rate l.strangers l.kilobits said l.trusted
+with_allowed l said = link_at l.line l.network l.carrier l.clients l.rate l.strangers l.kilobits said l.trusted l.nodes_line
 
 abbrev pub with_trusted : LinkSetting → Ranges → LinkSetting
-with_trusted l said = link_at l.line l.network l.carrier l.clients l.rate l.strangers l.kilobits l.allowed said
+with_trusted l said = link_at l.line l.network l.carrier l.clients l.rate l.strangers l.kilobits l.allowed said l.nodes_line
+
+abbrev pub with_nodes : LinkSetting → ℕ → LinkSetting
+with_nodes l said = link_at l.line l.network l.carrier l.clients l.rate l.strangers l.kilobits l.allowed l.trusted said
 
 abbrev pub clients_taken : ℕ → LinkSetting → ClientsBegun → Option Expected → LinkSetting × Option Fault
 clients_taken line link begun own = if_right (once link.clients.line own) link (with_clients link (clients_said line begun))
@@ -132,6 +135,9 @@ kilobits_fault link n own links = first_of (other_kilobits link n links ∷ once
 
 abbrev pub kilobits_taken : ℕ → LinkSetting → Option ℕ → Option Expected → List LinkSetting → LinkSetting × Option Fault
 kilobits_taken line link n own links = if_right (kilobits_fault link n own links) link (with_kilobits link (number_said line n))
+
+abbrev pub nodes_taken : ℕ → LinkSetting → Option Expected → LinkSetting × Option Fault
+nodes_taken line link own = if_right (once link.nodes_line own) link (with_nodes link line)
 
 -- ---- ranges
 
@@ -173,6 +179,7 @@ link_by n text (line.Strangers begun) read own links link = strangers_taken n li
 link_by n text (line.Kilobits begun) read own links link = kilobits_taken n link begun own links
 link_by n text (line.Allow has_some) read own links link = allowed_taken link text read own
 link_by n text (line.Trust has_some) read own links link = trusted_taken link text read own
+link_by n text (line.Nodes by_address) read own links link = nodes_taken n link own
 link_by n text other read own links link = (link, None)
 
 -- what a link is behind a line that says more of it, and what is wrong with that line

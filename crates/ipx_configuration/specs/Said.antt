@@ -50,8 +50,8 @@ no_rate = record { line = 0; rate = 0; share = 0; household = 0 }
 abbrev pub no_number : NumberSaid
 no_number = record { line = 0; number = 0 }
 
-abbrev pub link_at : ℕ → ℕ → Carrier → ClientsSaid → RateSaid → NumberSaid → NumberSaid → Ranges → Ranges → LinkSetting
-link_at line network carrier clients rate strangers kilobits allowed trusted = record {
+abbrev pub link_at : ℕ → ℕ → Carrier → ClientsSaid → RateSaid → NumberSaid → NumberSaid → Ranges → Ranges → ℕ → LinkSetting
+link_at line network carrier clients rate strangers kilobits allowed trusted nodes_line = record {
   line = line;
   network = network;
   carrier = carrier;
@@ -61,8 +61,9 @@ link_at line network carrier clients rate strangers kilobits allowed trusted = r
   kilobits = kilobits;
   allowed = allowed;
   trusted = trusted;
+  nodes_line = nodes_line;
 }
 
 -- a link of which its own line alone says something
 abbrev pub new_link : ℕ → ℕ → Carrier → LinkSetting
-new_link line network carrier = link_at line network carrier no_clients no_rate no_number no_number no_ranges no_ranges
+new_link line network carrier = link_at line network carrier no_clients no_rate no_number no_number no_ranges no_ranges 0

@@ -35,3 +35,8 @@ abbrev pub is_of_network_or_link : Line → Bool
 is_of_network_or_link (line.Network begun) = true
 is_of_network_or_link (line.Link begun) = true
 is_of_network_or_link other = false
+
+-- a line that begins with nodes
+abbrev pub is_of_nodes : Line → Bool
+is_of_nodes (line.Nodes by_address) = true
+is_of_nodes other = false

@@ -208,6 +208,7 @@ fn new_link(line: usize, network: usize, carrier: Carrier) -> LinkSetting
         kilobits: NumberSaid { line: 0, number: 0 },
         allowed: Ranges::none(),
         trusted: Ranges::none(),
+        nodes_line: 0,
     }
 }
 

@@ -65,6 +65,8 @@ pub struct LinkConfigured {
     pub sockets: Sockets,
     pub allowed: Ranges,
     pub trusted: Ranges,
+    /// The nodes of clients may be their addresses.
+    pub nodes_by_address: bool,
 }
 
 fn is_tunnel_of(port: usize, link: LinkSetting) -> bool
@@ -168,6 +170,7 @@ fn configured_at(
         sockets: network.sockets,
         allowed: link.allowed,
         trusted: link.trusted,
+        nodes_by_address: link.nodes_line > 0,
     }
 }
 

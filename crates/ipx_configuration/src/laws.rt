@@ -1,15 +1,17 @@
 //! What follows from the definitions alone, for all lines.
 ghost use Rattle.std.specs.Prelude.{◌≡◌, ℕ, ◌<◌, ◌≤◌, ◌==◌, true, false, List, None, Some, slice_get};
 ghost use Rattle.std.specs.Option.{is_some};
+ghost use Rattle.ipx_settings.specs.declared.reading.Reading.{Reading};
 ghost use Rattle.ipx_configuration.specs.Carriers.{tunnel, any_frames, same_carrier, take_the_same};
 ghost use Rattle.ipx_configuration.specs.Clashes.{clash};
 ghost use Rattle.ipx_configuration.specs.Configurations.{read_in, told, after};
 ghost use Rattle.ipx_configuration.specs.Configured.{configured, rate_or_usual};
-ghost use Rattle.ipx_configuration.specs.Lines.{rate_of};
+ghost use Rattle.ipx_configuration.specs.Lines.{rate_of, with_nodes, link_taken};
 ghost use Rattle.ipx_configuration.specs.Memory.{most_networks, links_in};
-ghost use Rattle.ipx_configuration.specs.Wholes.{after_lines, IsBlank, AreApart, AreOrdered, is_of_network_or_link};
+ghost use Rattle.ipx_configuration.specs.Wholes.{after_lines, IsBlank, AreApart, AreOrdered, is_of_network_or_link, is_of_nodes};
 ghost use Rattle.ipx_configuration.specs.declared.carrier.Carrier.{Carrier};
 ghost use Rattle.ipx_configuration.specs.declared.fault.Fault.{Fault};
+ghost use Rattle.ipx_configuration.specs.declared.fault.Fault.TheVariants.{Once};
 ghost use Rattle.ipx_configuration.specs.declared.said.LinkSetting.{LinkSetting};
 ghost use Rattle.ipx_configuration.specs.declared.configuration.Capacity.{Capacity};
 ghost use Rattle.ipx_configuration.specs.declared.configuration.Configuration.{Configuration};
@@ -47,4 +49,15 @@ pub fn wrong_lines_change_nothing()
 pub fn links_share_a_rate()
     ensures { (links : List LinkSetting) (i j : ℕ) (a b : LinkSetting) → slice_get links i ≡ Some a → slice_get links j ≡ Some b
         → (a.carrier.number == tunnel) ≡ false → same_carrier a.carrier b.carrier ≡ true → rate_or_usual (rate_of a links) ≡ rate_or_usual (rate_of b links) }
+{}
+
+/// The first right line `nodes` below a link says that of it and nothing else; one more is told where the first is, and changes nothing. No
+/// other line says it.
+pub fn nodes_are_said_once()
+    ensures first { (n : ℕ) (text : List ℕ) (r : Reading) (links : List LinkSetting) (link : LinkSetting) → is_of_nodes r.line ≡ true → r.fault ≡ None → link.nodes_line ≡ 0
+        → link_taken n text r links link ≡ (with_nodes link n, None) }
+    ensures again { (n : ℕ) (text : List ℕ) (r : Reading) (links : List LinkSetting) (link : LinkSetting) → is_of_nodes r.line ≡ true → 0 < link.nodes_line
+        → link_taken n text r links link ≡ (link, Some (Once link.nodes_line)) }
+    ensures others { (n : ℕ) (text : List ℕ) (r : Reading) (links : List LinkSetting) (link : LinkSetting) → is_of_nodes r.line ≡ false
+        → (link_taken n text r links link).0.nodes_line ≡ link.nodes_line }
 {}

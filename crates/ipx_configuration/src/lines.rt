@@ -1,7 +1,7 @@
 //! What a line below a link says of it.
 ghost use Rattle.std.specs.Prelude.{◌≡◌};
 ghost use Rattle.std.specs.List.{position};
-ghost use Rattle.ipx_configuration.specs.Lines.{once, clients_said, rate_at, rate_said, number_said, shares_rate, rate_of, first_kilobits, other_kilobits, clients_taken, rate_taken, strangers_taken, kilobits_taken, ranges_from, words_from, ranges_taken, allowed_taken, trusted_taken, link_taken, has_kilobits};
+ghost use Rattle.ipx_configuration.specs.Lines.{once, clients_said, rate_at, rate_said, number_said, shares_rate, rate_of, first_kilobits, other_kilobits, clients_taken, rate_taken, strangers_taken, kilobits_taken, ranges_from, words_from, ranges_taken, allowed_taken, trusted_taken, nodes_taken, link_taken, has_kilobits};
 
 use crate::carrier::{Carrier, TUNNEL};
 use crate::clash::line_fault;
@@ -292,6 +292,21 @@ fn trusted_taken(
     (taken, fault)
 }
 
+fn nodes_taken(
+    line: usize,
+    link: LinkSetting,
+    own: Option<Expected>,
+) -> (LinkSetting, Option<Fault>)
+    ensures { result ≡ nodes_taken line link own }
+{
+    let fault = once(link.nodes_line, own);
+    let mut taken = link;
+    if fault.is_none() {
+        taken.nodes_line = line;
+    }
+    (taken, fault)
+}
+
 /// What a link is behind a line that says more of it, and what is wrong with that line.
 pub(crate) fn link_taken(
     line: usize,
@@ -310,6 +325,7 @@ pub(crate) fn link_taken(
         Line::Kilobits(begun) => kilobits_taken(line, link, begun, own, links),
         Line::Allow(_) => allowed_taken(link, text, reading.read, own),
         Line::Trust(_) => trusted_taken(link, text, reading.read, own),
+        Line::Nodes(_) => nodes_taken(line, link, own),
         _ => (link, None),
     }
 }

@@ -121,6 +121,8 @@ pub struct LinkSetting {
     pub allowed: Ranges,
     /// Who may be one though he answers no ping.
     pub trusted: Ranges,
+    /// The number of the line that says that the nodes of clients may be their addresses, or 0.
+    pub nodes_line: usize,
 }
 
 impl Sockets {

@@ -117,6 +117,8 @@ can_end c (line.Strangers None) some = (codes "none" ∷ [], (line.Strangers (So
 can_end c (line.Strangers (Some r)) some = ends_now c (line.Strangers (Some r)) refl
 can_end c (line.Kilobits None) some = (codes "1" ∷ [], (line.Kilobits (Some 1), (refl, refl)))
 can_end c (line.Kilobits (Some n)) some = ends_now c (line.Kilobits (Some n)) refl
+can_end c (line.Nodes false) some = (codes "by-address" ∷ [], (line.Nodes true, (refl, refl)))
+can_end c (line.Nodes true) some = ends_now c (line.Nodes true) refl
 
 -- ---- what doesn't end says what was expected
 
@@ -174,3 +176,5 @@ refuses c (line.Strangers None) open_still = (expected.Strangers, refl)
 refuses c (line.Strangers (Some r)) open_still = absurd cc
 refuses c (line.Kilobits None) open_still = (expected.Kilobits, refl)
 refuses c (line.Kilobits (Some n)) open_still = absurd cc
+refuses c (line.Nodes false) open_still = (expected.ByAddress, refl)
+refuses c (line.Nodes true) open_still = absurd cc

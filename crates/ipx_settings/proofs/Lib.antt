@@ -24,3 +24,5 @@ pub mod LinesRight
 pub mod Begun
 pub mod Endings
 pub mod FirstWrong
+-- examples
+pub mod examples

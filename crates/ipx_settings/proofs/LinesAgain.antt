@@ -15,7 +15,7 @@ use Rattle.ipx_settings.specs.Right.{IsWord, IsLink}
 use Rattle.ipx_settings.specs.RightLines.{Within, IsShares, IsHead, IsNode, MayHaveNode, IsWhole, IsNetwork, IsClients, IsRate, IsMost, IsRight}
 use Rattle.ipx_settings.specs.Words.{most_words}
 use Rattle.ipx_settings.specs.WritingLinks.{spaced, link_words}
-use Rattle.ipx_settings.specs.WritingLines.{bytes_digits, number_word, shares_words, head_words, maybe_link_words, begun_words, network_words, clients_words, rates_words, strangers_words, kilobits_words, line_words}
+use Rattle.ipx_settings.specs.WritingLines.{bytes_digits, number_word, shares_words, head_words, maybe_link_words, begun_words, network_words, clients_words, rates_words, strangers_words, kilobits_words, nodes_words, line_words}
 use Rattle.ipx_settings.specs.declared.expected.Expected.{Expected}
 use Rattle.ipx_settings.specs.declared.line.ClientsBegun.{ClientsBegun}
 use Rattle.ipx_settings.specs.declared.line.ClientsBegun.TheVariants as clients
@@ -232,6 +232,10 @@ kilobits_line : (c : Context) (it : Option ℕ) → IsMost 1 most_kilobits it �
 kilobits_line c None is = absurd is
 kilobits_line c (Some n) is = (rw (number_again 1 most_kilobits n (omega (arith, is.1)) is.0 is.1) refl, refl)
 
+nodes_line : (c : Context) (by_address : Bool) → by_address ≡ true → IsLine c (line.Nodes by_address) (codes "nodes" ∷ nodes_words by_address)
+nodes_line c false is = absurd cc
+nodes_line c true is = (refl, refl)
+
 pub line_again : (c : Context) (l : Line) → IsRight c l → IsLine c l (line_words l)
 line_again c line.Nothing is = (refl, refl)
 line_again c (line.Network it) is = network_line c it is
@@ -243,6 +247,7 @@ line_again c (line.Trust has_some) is = absurd is
 line_again c (line.Rate it) is = rate_line c it is
 line_again c (line.Strangers it) is = strangers_line c it is
 line_again c (line.Kilobits it) is = kilobits_line c it is
+line_again c (line.Nodes by_address) is = nodes_line c by_address is
 
 -- ---- its words
 
@@ -309,6 +314,10 @@ kilobits_are_words : (it : Option ℕ) → IsMost 1 most_kilobits it → AllByRe
 kilobits_are_words None is = absurd is
 kilobits_are_words (Some n) is = (decimal_is_word n (omega (arith, is.1)), tt)
 
+nodes_are_words : (by_address : Bool) → AllByRecursion IsWord (nodes_words by_address)
+nodes_are_words false = tt
+nodes_are_words true = (literal (codes "by-address") (omega arith) refl, tt)
+
 line_is_words : (c : Context) (l : Line) → IsRight c l → AllByRecursion IsWord (line_words l)
 line_is_words c line.Nothing is = tt
 line_is_words c (line.Network it) is = network_is_words c.has_cards it is
@@ -320,6 +329,7 @@ line_is_words c (line.Trust has_some) is = absurd is
 line_is_words c (line.Rate it) is = (literal (codes "rate") (omega arith) refl, rates_are_words c.is_below_tunnel it is)
 line_is_words c (line.Strangers it) is = (literal (codes "strangers") (omega arith) refl, strangers_are_words it is)
 line_is_words c (line.Kilobits it) is = (literal (codes "line") (omega arith) refl, kilobits_are_words it is)
+line_is_words c (line.Nodes by_address) is = (literal (codes "nodes") (omega arith) refl, nodes_are_words by_address)
 
 -- ---- how many they are
 
@@ -385,6 +395,8 @@ line_count (line.Strangers None) = omega arith
 line_count (line.Strangers (Some r)) = omega arith
 line_count (line.Kilobits None) = omega arith
 line_count (line.Kilobits (Some n)) = omega arith
+line_count (line.Nodes false) = omega arith
+line_count (line.Nodes true) = omega arith
 
 -- ---- texts
 

@@ -48,6 +48,7 @@ line_first word =
     else if is_the word (codes "rate") then Ok (line.Rate rate.Nothing)
     else if is_the word (codes "strangers") then Ok (line.Strangers None)
     else if is_the word (codes "line") then Ok (line.Kilobits None)
+    else if is_the word (codes "nodes") then Ok (line.Nodes false)
     else Err expected.Line
 
 -- the most clients, and the most of one address, which are no more
@@ -80,6 +81,13 @@ kilobits_step begun word =
     if is_some begun then Err expected.Nothing
     else said expected.Kilobits (λ n. line.Kilobits (Some n)) (number_of 1 most_kilobits word)
 
+-- the one kind of nodes that has a word
+abbrev pub nodes_step : Bool → List ℕ → Result Line Expected
+nodes_step by_address word =
+    if by_address then Err expected.Nothing
+    else if is_the word (codes "by-address") then Ok (line.Nodes true)
+    else Err expected.ByAddress
+
 abbrev pub socket_step : List ℕ → Result Line Expected
 socket_step word = said expected.Socket (λ socket. line.Extend true) (socket_of word)
 
@@ -111,6 +119,7 @@ line_step c (line.Trust has_some) word = range_step (line.Trust true) word
 line_step c (line.Rate begun) word = rate_step begun c.is_below_tunnel word
 line_step c (line.Strangers begun) word = strangers_step begun word
 line_step c (line.Kilobits begun) word = kilobits_step begun word
+line_step c (line.Nodes by_address) word = nodes_step by_address word
 
 abbrev pub clients_end : ClientsBegun → Bool
 clients_end clients.Nothing = false
@@ -135,6 +144,7 @@ line_ends (line.Trust has_some) = has_some
 line_ends (line.Rate begun) = rate_ends begun
 line_ends (line.Strangers begun) = is_some begun
 line_ends (line.Kilobits begun) = is_some begun
+line_ends (line.Nodes by_address) = by_address
 
 abbrev pub fault_of : {A : Type 0} → Result A Expected → Option Expected
 fault_of (Ok a) = None

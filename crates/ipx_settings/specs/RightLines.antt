@@ -86,6 +86,7 @@ IsRight c (line.Trust has_some) = ⊥
 IsRight c (line.Rate it) = IsRate c.is_below_tunnel it
 IsRight c (line.Strangers it) = IsMost 0 most_rate it
 IsRight c (line.Kilobits it) = IsMost 1 most_kilobits it
+IsRight c (line.Nodes by_address) = by_address ≡ true
 
 -- a range whose address is its first
 abbrev pub IsRange : HostRange → Type 0
@@ -107,3 +108,4 @@ IsSaid c (line.Trust has_some) = has_some ≡ true
 IsSaid c (line.Rate it) = IsRate c.is_below_tunnel it
 IsSaid c (line.Strangers it) = IsMost 0 most_rate it
 IsSaid c (line.Kilobits it) = IsMost 1 most_kilobits it
+IsSaid c (line.Nodes by_address) = by_address ≡ true

@@ -1,5 +1,5 @@
 -- What is written: whole lines.
-use Rattle.std.specs.Prelude.{ℕ, true, ◌/◌, ◌%◌, ◌==◌, if◌then◌else◌, List, [], ◌∷◌, ◌++◌, flat_map, map, length, nat_le, codes, decimal, Option, Some, None}
+use Rattle.std.specs.Prelude.{ℕ, Bool, true, false, ◌/◌, ◌%◌, ◌==◌, if◌then◌else◌, List, [], ◌∷◌, ◌++◌, flat_map, map, length, nat_le, codes, decimal, Option, Some, None}
 use Rattle.std.specs.Fmt.{digit_glyph}
 use Rattle.std.specs.Int.{to_be_bytes, w16, w32}
 use Rattle.std.specs.Net.Text.{ipv4_text}
@@ -81,6 +81,10 @@ abbrev pub kilobits_words : Option ℕ → List (List ℕ)
 kilobits_words None = []
 kilobits_words (Some n) = decimal n ∷ []
 
+abbrev pub nodes_words : Bool → List (List ℕ)
+nodes_words false = []
+nodes_words true = codes "by-address" ∷ []
+
 -- all words of a line but for lists, which are written by themselves
 abbrev pub line_words : Line → List (List ℕ)
 line_words line.Nothing = []
@@ -93,6 +97,7 @@ line_words (line.Trust has_some) = codes "trust" ∷ []
 line_words (line.Rate it) = codes "rate" ∷ rates_words it
 line_words (line.Strangers it) = codes "strangers" ∷ strangers_words it
 line_words (line.Kilobits it) = codes "line" ∷ kilobits_words it
+line_words (line.Nodes by_address) = codes "nodes" ∷ nodes_words by_address
 
 -- a socket by four digits
 abbrev pub socket_word : ℕ → List ℕ

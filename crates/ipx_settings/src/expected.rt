@@ -67,4 +67,6 @@ pub enum Expected {
     FirstOf(u8),
     /// Fewer words.
     FewerWords,
+    /// `by-address`.
+    ByAddress,
 }

@@ -1,6 +1,6 @@
 //! A line, word by word.
 ghost use Rattle.std.specs.Prelude.{◌≡◌};
-ghost use Rattle.ipx_settings.specs.Lines.{rate_or_none, socket_of, share_behind, line_first, clients_step, rate_step, strangers_step, kilobits_step, socket_step, range_step, line_step, line_ends, ended};
+ghost use Rattle.ipx_settings.specs.Lines.{rate_or_none, socket_of, share_behind, line_first, clients_step, rate_step, strangers_step, kilobits_step, nodes_step, socket_step, range_step, line_step, line_ends, ended};
 
 use crate::addresses::{HostRange, read_range};
 use crate::expected::Expected;
@@ -74,6 +74,8 @@ pub enum Line {
     Strangers(Option<u32>),
     /// Kilobits a second of the line to the clients.
     Kilobits(Option<u32>),
+    /// The nodes of clients may be their addresses; false where that word is missing still.
+    Nodes(bool),
 }
 
 /// A number a second, or 0 for `none`.
@@ -116,6 +118,8 @@ fn first(word: &[u8]) -> Result<Line, Expected>
         Ok(Line::Strangers(None))
     } else if is_word(word, b"line") {
         Ok(Line::Kilobits(None))
+    } else if is_word(word, b"nodes") {
+        Ok(Line::Nodes(false))
     } else {
         Err(Expected::Line)
     }
@@ -198,6 +202,19 @@ fn kilobits_step(begun: Option<u32>, word: &[u8]) -> Result<Line, Expected>
     }
 }
 
+/// The one kind of nodes that has a word.
+fn nodes_step(by_address: bool, word: &[u8]) -> Result<Line, Expected>
+    ensures { result ≡ nodes_step by_address word.now }
+{
+    if by_address {
+        Err(Expected::Nothing)
+    } else if is_word(word, b"by-address") {
+        Ok(Line::Nodes(true))
+    } else {
+        Err(Expected::ByAddress)
+    }
+}
+
 fn socket_step(word: &[u8]) -> Result<Line, Expected>
     ensures { result ≡ socket_step word.now }
 {
@@ -245,6 +262,7 @@ impl Line {
             Line::Rate(begun) => rate_step(begun, context.is_below_tunnel, word),
             Line::Strangers(begun) => strangers_step(begun, word),
             Line::Kilobits(begun) => kilobits_step(begun, word),
+            Line::Nodes(by_address) => nodes_step(by_address, word),
         }
     }
 
@@ -263,6 +281,7 @@ impl Line {
             Line::Rate(begun) => begun != RateBegun::Nothing,
             Line::Strangers(begun) => begun.is_some(),
             Line::Kilobits(begun) => begun.is_some(),
+            Line::Nodes(by_address) => by_address,
         }
     }
 

@@ -2,7 +2,7 @@
 ghost use Rattle.std.specs.Prelude.{◌≡◌, ◌+◌, ◌*◌, ◌<◌, ◌≤◌, ◌∷◌, [], ◌++◌, length, take, codes, decimal, Some};
 ghost use Rattle.ipx_settings.specs.Writing.{written_size, written_into};
 ghost use Rattle.ipx_settings.specs.WritingLinks.{spaced, link_words};
-ghost use Rattle.ipx_settings.specs.WritingLines.{bytes_digits, head_words, maybe_link_words, begun_words, network_words, rate_word, clients_words, rates_words, strangers_words, kilobits_words, line_words};
+ghost use Rattle.ipx_settings.specs.WritingLines.{bytes_digits, head_words, maybe_link_words, begun_words, network_words, rate_word, clients_words, rates_words, strangers_words, kilobits_words, nodes_words, line_words};
 
 use crate::line::{ClientsBegun, Line, RateBegun};
 use crate::link::{Link, LinkBegun};
@@ -213,6 +213,19 @@ fn put_kilobits(room: &mut [u8], at: usize, kilobits: Option<u32>) -> usize
     }
 }
 
+fn put_nodes(room: &mut [u8], at: usize, by_address: bool) -> usize
+    requires { at + 16 ≤ length room.old }
+    ensures room { take result room.new ≡ take at room.old ++ spaced (codes "nodes" ∷ nodes_words by_address) }
+    ensures most { result ≤ at + 16 }
+    ensures size { length room.new ≡ length room.old }
+{
+    if by_address {
+        put_text(room, at, b"nodes by-address")
+    } else {
+        put_text(room, at, b"nodes")
+    }
+}
+
 /// Puts a line but for its list.
 fn put_line(room: &mut [u8], at: usize, line: &Line) -> usize
     requires { at + LONGEST_LINE ≤ length room.old }
@@ -231,6 +244,7 @@ fn put_line(room: &mut [u8], at: usize, line: &Line) -> usize
         Line::Rate(rates) => put_rates(room, at, *rates),
         Line::Strangers(rate) => put_strangers(room, at, *rate),
         Line::Kilobits(kilobits) => put_kilobits(room, at, *kilobits),
+        Line::Nodes(by_address) => put_nodes(room, at, *by_address),
     }
 }
 

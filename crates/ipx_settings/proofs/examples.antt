@@ -1,0 +1,2 @@
+-- Worked examples: each is checked by computing it.
+pub mod Nodes
