@@ -37,7 +37,7 @@ extern "C" {
 #define IPXR_ALL_SOCKETS 16  /* the most sockets that a network extends */
 #define IPXR_ALL_RANGES 16   /* the most ranges of a list */
 
-/* ---- What was expected where lines are wrong together, behind the numbers of ipxr_settings.h. These numbers have no words. ---- */
+/* ---- What was expected where lines are wrong together, beside the numbers of ipxr_settings.h. These numbers have no words. ---- */
 
 #define IPXR_EXPECTED_BELOW_NETWORK 32           /* a network above */
 #define IPXR_EXPECTED_BELOW_LINK 33              /* a link above: there is none yet below the network's line */
@@ -130,6 +130,7 @@ typedef struct ipxr_link_setting {
     ipxr_number_said kilobits;
     ipxr_setting_ranges allowed;
     ipxr_setting_ranges trusted;
+    size_t nodes_line;       /* the number of the line that says that clients' nodes may be their addresses, or 0 */
 } ipxr_link_setting;
 
 typedef struct ipxr_network_list {
@@ -184,6 +185,7 @@ typedef struct ipxr_configured {
     ipxr_sockets sockets;    /* whose broadcasts are extended */
     ipxr_setting_ranges allowed; /* who may be a client, or none where all may */
     ipxr_setting_ranges trusted; /* who may be one though he answers no ping */
+    ipxr_flag nodes_by_address;  /* clients' nodes may be their addresses */
 } ipxr_configured;
 
 /* ---- Calls ---- */

@@ -35,6 +35,7 @@ extern "C" {
 #define IPXR_SETTING_RATE 7      /* rate: of `numbers` the rate, the share, and that of all clients of an address; 0 for none */
 #define IPXR_SETTING_STRANGERS 8 /* strangers: of `numbers` the rate; 0 for none */
 #define IPXR_SETTING_KILOBITS 9  /* line: of `numbers` the kilobits */
+#define IPXR_SETTING_NODES 10    /* nodes: clients' nodes may be their addresses */
 
 /* ---- What carries a link. These numbers have no words. ---- */
 
@@ -82,6 +83,7 @@ extern "C" {
 #define IPXR_EXPECTED_RANGE 29           /* an address of IPv4, and the bits that count */
 #define IPXR_EXPECTED_FIRST 30           /* one that is 0 behind its `bits` */
 #define IPXR_EXPECTED_FEWER_WORDS 31     /* at most 32 words */
+#define IPXR_EXPECTED_BY_ADDRESS 52      /* by-address (32 to 51 are in ipxr_configuration.h) */
 
 /* ---- Bytes that are enough for any words. These numbers have no words. ---- */
 

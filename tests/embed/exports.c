@@ -9,11 +9,13 @@
 
 #include "ipxr_cable.h"
 #include "ipxr_configuration.h"
+#include "ipxr_edge.h"
 #include "ipxr_fates.h"
 #include "ipxr_limits.h"
 #include "ipxr_plan.h"
 #include "ipxr_segment.h"
 #include "ipxr_settings.h"
+#include "ipxr_keyed.h"
 #include "ipxr_tunnel.h"
 
 /* A call, and the number that it must return. */
@@ -419,6 +421,189 @@ static void a_tunnel(void)
     CALLS(ipxr_tunnel_free(&tunnel));
     without_tunnel(&tunnel);
     extends();
+}
+
+/* ---- A tunnel with keyed nodes ---- */
+
+static const ipxr_keyed_setting KEYED = {.network = 0x11121314,
+                                         .node = {0x21, 0x22, 0x23, 0x24, 0x25, 0x26},
+                                         .capacity = 4,
+                                         .share = 3,
+                                         .remembered = 2,
+                                         .remembered_share = 1};
+
+/* One who registers, one who has its former node still, two at one trusted address, and one whose registration doesn't count. */
+static const ipxr_keyed_sender NEWCOMER = {.place = {0x51, 0x52, 0x53, 0x54, 0x55, 0x56},
+                                           .node = {0x02, 0x61},
+                                           .former = {0x02, 0x71},
+                                           .current = {0x03, 0x81},
+                                           .previous = {0x03, 0x91},
+                                           .may_register = true};
+static const ipxr_keyed_sender OLD = {.place = {0x52, 0x52, 0x53, 0x54, 0x55, 0x57},
+                                      .node = {0x02, 0x62},
+                                      .former = {0x02, 0x72},
+                                      .current = {0x03, 0x82},
+                                      .previous = {0x03, 0x92},
+                                      .may_register = true};
+static const ipxr_keyed_sender TRUSTED[2] = {
+    {.place = {0x81, 0x82, 0x83, 0x84, 0x85, 0x86}, .node = {0x02, 0x63}, .former = {0x02, 0x63}, .current = {0x03}, .is_trusted = true},
+    {.place = {0x81, 0x82, 0x83, 0x84, 0x85, 0x87}, .node = {0x02, 0x64}, .former = {0x02, 0x64}, .current = {0x04}, .is_trusted = true},
+};
+
+static void without_keyed(ipxr_keyed *tunnel)
+{
+    ipxr_own own;
+    ipxr_keyed_member member;
+    uint8_t place[6];
+    ANSWERS(IPXR_NO_TUNNEL, ipxr_keyed_hear(tunnel, &NEWCOMER, DATA, sizeof DATA));
+    ANSWERS(IPXR_NO_TUNNEL, ipxr_keyed_second(tunnel));
+    ANSWERS(IPXR_NO_TUNNEL, ipxr_keyed_send(tunnel, ALL));
+    ANSWERS(0, ipxr_keyed_owns(tunnel));
+    ANSWERS(0, ipxr_keyed_pings(tunnel));
+    ANSWERS(IPXR_NO_TUNNEL, ipxr_keyed_own(tunnel, 0, &own));
+    ANSWERS(0, ipxr_keyed_receivers(tunnel));
+    ANSWERS(IPXR_NO_TUNNEL, ipxr_keyed_receiver(tunnel, 0, place));
+    ANSWERS(0, ipxr_keyed_carried(tunnel));
+    ANSWERS(0, ipxr_keyed_is_heard(tunnel));
+    ANSWERS(0, ipxr_keyed_leavers(tunnel));
+    ANSWERS(IPXR_NO_TUNNEL, ipxr_keyed_leaver(tunnel, 0, &member));
+    ANSWERS(0, ipxr_keyed_clients(tunnel));
+    ANSWERS(IPXR_NO_TUNNEL, ipxr_keyed_client(tunnel, 0, &member));
+    ANSWERS(0, ipxr_keyed_waiters(tunnel));
+    ANSWERS(IPXR_NO_TUNNEL, ipxr_keyed_waiter(tunnel, 0, &member));
+    CALLS(ipxr_keyed_free(tunnel));
+}
+
+/* What a sender says, naming a node of its own, to a node and socket; a packet of 32 bytes, and 7 bytes behind it. */
+static int32_t says(ipxr_keyed *tunnel, const ipxr_keyed_sender *sender, const uint8_t *as, const uint8_t *node, uint16_t socket)
+{
+    ipxr_sender named = {.place = {0}};
+    memcpy(named.place, as, sizeof named.place);
+    size_t length = datagram(&named, node, socket);
+    return ipxr_keyed_hear(tunnel, sender, buffer, length);
+}
+
+static void passes(ipxr_keyed *tunnel, int seconds)
+{
+    for (int k = 0; k < seconds; k++)
+        ANSWERS(0, ipxr_keyed_second(tunnel));
+}
+
+/* The newcomer registers: it is answered, remembered, and answered again. The other, by its former node, is pinged, and answers with the
+ * older of its cookies. */
+static void comes_keyed(ipxr_keyed *tunnel)
+{
+    ipxr_own own;
+    ipxr_keyed_member member;
+    ANSWERS(0, ipxr_keyed_make(tunnel, &KEYED));
+    ANSWERS(IPXR_REGISTERS, says(tunnel, &NEWCOMER, NEWCOMER.place, NOBODY, TUNNEL_SOCKET));
+    ANSWERS(1, ipxr_keyed_owns(tunnel));
+    ANSWERS(0, ipxr_keyed_own(tunnel, 0, &own));
+    WROTE_BYTES("515253545556", own.place);
+    WROTE_BYTES("FFFF 001E 00 00 11121314 026100000000 0002 11121314 212223242526 0002", own.bytes);
+    ANSWERS(IPXR_NO_RECORD, ipxr_keyed_own(tunnel, 1, &own));
+    ANSWERS(1, ipxr_keyed_waiters(tunnel));
+    ANSWERS(0, ipxr_keyed_waiter(tunnel, 0, &member));
+    WROTE_BYTES("515253545556", member.place);
+    WROTE_BYTES("026100000000", member.node);
+    WROTE(9, member.seconds_left);
+    ANSWERS(IPXR_NO_RECORD, ipxr_keyed_waiter(tunnel, 1, &member));
+    ANSWERS(IPXR_SPEAKS, says(tunnel, &OLD, OLD.former, ALL, GAME_SOCKET));
+    ANSWERS(1, ipxr_keyed_owns(tunnel));
+    ANSWERS(0, ipxr_keyed_own(tunnel, 0, &own));
+    WROTE_BYTES("FFFF 001E 00 00 11121314 FFFFFFFFFFFF 0002 11121314 038200000000 0002", own.bytes);
+    ANSWERS(0, ipxr_keyed_clients(tunnel));
+    ANSWERS(IPXR_ANSWERS, says(tunnel, &OLD, OLD.former, OLD.previous, TUNNEL_SOCKET));
+    ANSWERS(1, ipxr_keyed_clients(tunnel));
+    passes(tunnel, 1);
+    ANSWERS(1, ipxr_keyed_owns(tunnel));
+    ANSWERS(0, ipxr_keyed_pings(tunnel));
+    ANSWERS(0, ipxr_keyed_own(tunnel, 0, &own));
+    WROTE_BYTES("FFFF 001E 00 00 11121314 026100000000 0002 11121314 212223242526 0002", own.bytes);
+    ANSWERS(IPXR_SAID_NOTHING, says(tunnel, &TRUSTED[0], NOBODY, NOBODY, TUNNEL_SOCKET));
+}
+
+/* The newcomer's first word brings it in, and is carried; two of a trusted address come in by theirs. */
+static void speaks_keyed(ipxr_keyed *tunnel)
+{
+    ipxr_keyed_member member;
+    uint8_t place[6] = {0};
+    ANSWERS(IPXR_SPEAKS, says(tunnel, &NEWCOMER, NEWCOMER.node, ALL, GAME_SOCKET));
+    ANSWERS(2, ipxr_keyed_clients(tunnel));
+    ANSWERS(32, ipxr_keyed_carried(tunnel));
+    ANSWERS(1, ipxr_keyed_is_heard(tunnel));
+    ANSWERS(0, ipxr_keyed_owns(tunnel));
+    ANSWERS(1, ipxr_keyed_receivers(tunnel));
+    ANSWERS(0, ipxr_keyed_receiver(tunnel, 0, place));
+    WROTE_BYTES("525253545557", place);
+    ANSWERS(IPXR_NO_RECORD, ipxr_keyed_receiver(tunnel, 1, place));
+    ANSWERS(IPXR_SPEAKS, says(tunnel, &TRUSTED[0], TRUSTED[0].node, TRUSTED[0].node, GAME_SOCKET));
+    ANSWERS(IPXR_SPEAKS, says(tunnel, &TRUSTED[1], TRUSTED[1].node, ALL, GAME_SOCKET));
+    ANSWERS(4, ipxr_keyed_clients(tunnel));
+    ANSWERS(0, ipxr_keyed_client(tunnel, 3, &member));
+    WROTE_BYTES("818283848587", member.place);
+    WROTE_BYTES("026400000000", member.node);
+    WROTE(180, member.seconds_left);
+    ANSWERS(IPXR_NO_RECORD, ipxr_keyed_client(tunnel, 4, &member));
+    ANSWERS(0, ipxr_keyed_send(tunnel, TRUSTED[0].node));
+    ANSWERS(0, ipxr_keyed_carried(tunnel));
+    ANSWERS(0, ipxr_keyed_is_heard(tunnel));
+    ANSWERS(1, ipxr_keyed_receivers(tunnel));
+    ANSWERS(0, ipxr_keyed_receiver(tunnel, 0, place));
+    WROTE_BYTES("818283848586", place);
+}
+
+/* Six seconds later the newcomer is pinged as one who is remembered, the trusted as clients a second before; in the end those leave who
+ * don't answer. */
+static void leaves_keyed(ipxr_keyed *tunnel)
+{
+    ipxr_own own;
+    ipxr_keyed_member member;
+    passes(tunnel, 5);
+    ANSWERS(2, ipxr_keyed_owns(tunnel));
+    ANSWERS(2, ipxr_keyed_pings(tunnel));
+    passes(tunnel, 1);
+    ANSWERS(1, ipxr_keyed_owns(tunnel));
+    ANSWERS(0, ipxr_keyed_pings(tunnel));
+    ANSWERS(0, ipxr_keyed_own(tunnel, 0, &own));
+    WROTE_BYTES("515253545556", own.place);
+    WROTE_BYTES("FFFF 001E 00 00 11121314 FFFFFFFFFFFF 0002 11121314 038100000000 0002", own.bytes);
+    passes(tunnel, 23);
+    ANSWERS(1, ipxr_keyed_leavers(tunnel));
+    ANSWERS(0, ipxr_keyed_leaver(tunnel, 0, &member));
+    WROTE_BYTES("525253545557", member.place);
+    WROTE_BYTES("027200000000", member.node);
+    ANSWERS(IPXR_NO_RECORD, ipxr_keyed_leaver(tunnel, 1, &member));
+    ANSWERS(0, ipxr_keyed_receivers(tunnel));
+    ANSWERS(3, ipxr_keyed_clients(tunnel));
+    ANSWERS(0, ipxr_keyed_waiters(tunnel));
+}
+
+/* Of one address one registration is remembered, and two of all. */
+static void remembers_keyed(ipxr_keyed *tunnel)
+{
+    static const uint8_t HOSTS[4] = {1, 1, 2, 3};
+    static const int REMEMBERED[4] = {1, 1, 2, 2};
+    ANSWERS(0, ipxr_keyed_make(tunnel, &KEYED));
+    for (uint8_t k = 0; k < 4; k++) {
+        const ipxr_keyed_sender one = {.place = {10, 0, 0, HOSTS[k], 0, k}, .node = {0x02, k}, .current = {0x03}, .may_register = true};
+        ANSWERS(IPXR_REGISTERS, says(tunnel, &one, one.place, NOBODY, TUNNEL_SOCKET));
+        ANSWERS(1, ipxr_keyed_owns(tunnel));
+        ANSWERS(REMEMBERED[k], ipxr_keyed_waiters(tunnel));
+    }
+    CALLS(ipxr_keyed_free(tunnel));
+}
+
+static void a_keyed_tunnel(void)
+{
+    ipxr_keyed tunnel = IPXR_KEYED_NONE;
+    without_keyed(&tunnel);
+    comes_keyed(&tunnel);
+    speaks_keyed(&tunnel);
+    leaves_keyed(&tunnel);
+    CALLS(ipxr_keyed_free(&tunnel));
+    without_keyed(&tunnel);
+    remembers_keyed(&tunnel);
 }
 
 /* ---- A segment ---- */
@@ -1501,6 +1686,9 @@ static void a_line(void)
     WROTE(24, said.bits);
     WROTE(1, said.read);
     WROTE(IPXR_SETTING_ALLOW, said.kind);
+    ANSWERS(IPXR_EXPECTED_BY_ADDRESS, ipxr_settings_line(READS("nodes by-name"), 0, 1, 99, &said));
+    WROTE(1, said.read);
+    WROTE(IPXR_SETTING_NODES, said.kind);
     ANSWERS(4, ipxr_settings_word(READS("one three four # five"), 2, &start));
     WROTE(10, start);
     ANSWERS(0, ipxr_settings_word(READS("one three four # five"), 3, &start));
@@ -1572,6 +1760,7 @@ static void all_is_kept(void)
     WROTE(1, link->allowed.count);
     WROTE(2, link->trusted.count);
     WROTE(24, link->trusted.list[1].bits);
+    WROTE(20, link->nodes_line);
 }
 
 /* What all lines say of the links of these networks. */
@@ -1590,6 +1779,7 @@ static void all_is_told(void)
     WROTE(3, link.sockets.count);
     WROTE(1, link.allowed.count);
     WROTE(2, link.trusted.count);
+    WROTE(1, link.nodes_by_address);
     WROTE(64, link.routes);
     WROTE(32, link.services);
     ANSWERS(1, ipxr_configuration_link(&all, 1, &link));
@@ -1600,6 +1790,7 @@ static void all_is_told(void)
     WROTE(41, link.services);
     WROTE(0, link.is_of_several);
     WROTE(1, link.has_node);
+    WROTE(0, link.nodes_by_address);
     WROTE_BYTES("020000000007", link.node);
     WROTE(IPXR_OVER_UDP, link.carrier.number);
     WROTE(IPXR_FRAME_LLC, link.carrier.frames);
@@ -1657,6 +1848,7 @@ static void a_configuration(void)
     WROTE(13, wrong.line);
     WROTE(0, wrong.word);
     WROTE(1, wrong.is_below_tunnel);
+    ANSWERS(0, SAYS(20, "nodes by-address"));
     ANSWERS(0, SAYS(21, "network B 4 1300 40 41 qemu-udp 1.2.3.4:52 6.7.8.9:53 llc node 02:00:00:00:00:07"));
     ANSWERS(0, SAYS(31, "network C 5 1200 42 43"));
     ANSWERS(31, ipxr_configuration_unlinked(&all));
@@ -1667,6 +1859,31 @@ static void a_configuration(void)
     a_line_is_wrong();
 }
 
+/* ---- The edge of a cable ---- */
+
+/* What a packet from network 0 to all on RIP's socket becomes: told by a neighbour, it is numbered; carried by a router, it is held, but
+ * numbered by the call for that alone. A port without a cost is none. */
+static void edges(void)
+{
+    const ipxr_port port = {.network = 0x11121314, .node = {0x21}, .cost = 1, .longest = 576};
+    const ipxr_port none = {.network = 0x11121314, .node = {0x21}, .longest = 576};
+    const ipxr_address from = {.node = {0x31}, .socket = IPXR_RIP_SOCKET}, to = {.node = EVERYONE, .socket = IPXR_RIP_SOCKET};
+    ANSWERS(30, ipxr_write_packet(&from, &to, 0, 0, DATA, 0, buffer, sizeof buffer));
+    ANSWERS(IPXR_BAD_COST, ipxr_edge_enter(&none, buffer, 30));
+    ANSWERS(IPXR_BAD_COST, ipxr_edge_is_held(&none, buffer, 30));
+    ANSWERS(IPXR_BAD_COST, ipxr_edge_number(&none, buffer, 30));
+    ANSWERS(0, ipxr_edge_is_held(&port, buffer, 30));
+    WROTE_BYTES("FFFF 001E 00 00 00000000 FFFFFFFFFFFF 0453 00000000 310000000000 0453", buffer);
+    ANSWERS(1, ipxr_edge_enter(&port, buffer, 30));
+    WROTE_BYTES("FFFF 001E 00 00 00000000 FFFFFFFFFFFF 0453 11121314 310000000000 0453", buffer);
+    ANSWERS(30, ipxr_write_packet(&from, &to, 0, 1, DATA, 0, buffer, sizeof buffer));
+    ANSWERS(1, ipxr_edge_is_held(&port, buffer, 30));
+    ANSWERS(0, ipxr_edge_enter(&port, buffer, 30));
+    WROTE_BYTES("FFFF 001E 01 00 00000000 FFFFFFFFFFFF 0453 00000000 310000000000 0453", buffer);
+    ANSWERS(0, ipxr_edge_number(&port, buffer, 30));
+    WROTE_BYTES("FFFF 001E 01 00 00000000 FFFFFFFFFFFF 0453 11121314 310000000000 0453", buffer);
+}
+
 int main(void)
 {
     words();
@@ -1675,6 +1892,7 @@ int main(void)
     frames();
     a_router();
     a_tunnel();
+    a_keyed_tunnel();
     a_segment();
     a_receiver();
     two_receivers();
@@ -1692,5 +1910,6 @@ int main(void)
     a_datagram();
     a_line();
     a_configuration();
+    edges();
     return 0;
 }

@@ -25,9 +25,9 @@ HEADINGS = {LINUX.name: "Linux on a PC", ARM.name: "Linux on 64-bit ARM", WINDOW
 # What somebody looks for in an archive.
 PAPERS = "PROVENANCE examples/nearest-server.pcap examples/nearest-server.out"
 PAGES = f"{PAPERS} README.md CHANGELOG.md VERSION docs/SCRIPTS.md docs/api/index.html examples/embed/heap.c gateway/configuration/example.conf tools/json"
-IN_C = ("include/ipxr.h include/ipxr_tunnel.h include/ipxr_segment.h include/ipxr_plan.h include/ipxr_settings.h "
+IN_C = ("include/ipxr.h include/ipxr_tunnel.h include/ipxr_keyed.h include/ipxr_segment.h include/ipxr_plan.h include/ipxr_settings.h "
         "include/ipxr_fair.h include/ipxr_limits.h include/ipxr_cable.h include/ipxr_configuration.h "
-        "include/ipxr_fates.h")
+        "include/ipxr_fates.h include/ipxr_edge.h")
 ON_LINUX = f"""bin/ipxr sbin/ipxr-gateway {IN_C} lib/libipxr.a lib/libipxr.so lib/libipxr.so.{{first}} lib/libipxr.so.{{version}}
     lib/pkgconfig/ipxr.pc share/man/man1/ipxr.1 share/man/man8/ipxr-gateway.8 share/ipxr/ipxr-gateway.conf
     share/ipxr/ipxr-gateway.service share/bash-completion/completions/ipxr share/zsh/site-functions/_ipxr"""

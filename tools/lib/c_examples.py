@@ -6,9 +6,9 @@ from c_library import FLAGS
 from telling import ends, prints, succeeds, tell
 
 KEPT = "examples/embed"
-EXAMPLES = ("two_networks", "answers", "fields", "services", "tunnel", "tunnel_fields", "segment", "segment_fields", "joined",
+EXAMPLES = ("two_networks", "answers", "fields", "services", "tunnel", "tunnel_fields", "keyed", "segment", "segment_fields", "joined",
             "fair", "limits")
-COUNTED = ("refusals", "blocks", "tunnel_blocks", "segment_blocks")
+COUNTED = ("refusals", "blocks", "tunnel_blocks", "keyed_blocks", "segment_blocks")
 
 
 def kept_of(program):

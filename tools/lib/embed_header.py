@@ -10,7 +10,7 @@ from systems import HEADERS
 from telling import has, left_out, prints, quietly, succeeds, tell
 
 STRICT = ["-Wall", "-Wextra", "-Wpedantic", "-Wconversion", "-Werror"]
-ROUTER, TUNNEL, SEGMENT, PLAN, SETTINGS, FAIR, LIMITS, CABLE, CONFIGURATION, FATES = HEADERS
+ROUTER, TUNNEL, KEYED, SEGMENT, PLAN, SETTINGS, FAIR, LIMITS, CABLE, CONFIGURATION, FATES, EDGE = HEADERS
 # Numbers with words: all of the router's, and those of the others that a call answers. The kinds of frames, what a datagram said, what a
 # link is, what limits say of a packet, what a probe does, and what is next with a packet have no words.
 ANSWERS = {
@@ -30,6 +30,9 @@ ALTERED = (
     (TUNNEL, "size_t ipxr_tunnel_owns", "int32_t ipxr_tunnel_owns"),
     (TUNNEL, "_CLIENTS 4096", "_CLIENTS 4095"),
     (TUNNEL, "uint8_t bytes[30]", "uint8_t bytes[32]"),
+    (KEYED, "uint8_t former[6]; ", "uint8_t before[6]; "),
+    (KEYED, "size_t ipxr_keyed_pings", "int32_t ipxr_keyed_pings"),
+    (KEYED, "uint16_t remembered; ", "uint32_t remembered; "),
     (SEGMENT, "uint8_t links; ", "uint16_t links;"),
     (SEGMENT, "_STATIONS 8192", "_STATIONS 8191"),
     (SEGMENT, "ipxr_segment_link(ipxr_segment *segment, ", "ipxr_segment_link("),
@@ -56,6 +59,7 @@ ALTERED = (
     (CONFIGURATION, "ipxr_link_setting list[64]", "ipxr_link_setting list[63]"),
     (CONFIGURATION, "uint8_t above; ", "uint16_t above; "),
     (CONFIGURATION, "size_t line, uint8_t has_cards", "uint8_t has_cards, size_t line"),
+    (EDGE, "ipxr_edge_enter(const ipxr_port *port, uint8_t *bytes, size_t length)", "ipxr_edge_enter(uint8_t *bytes, size_t length)"),
     (FATES, "uint16_t number; /*", "uint8_t number; /*"),
     (FATES, "uint64_t lost[26];", "uint64_t lost[25];"),
     (FATES, "ipxr_counts *counts, uint8_t why", "ipxr_counts *counts, uint16_t why"),
@@ -64,19 +68,21 @@ STANDARDS = {
     "c": (("gcc", "clang"), ("c89", "c99", "c11", "c17", "c2x")),
     "c++": (("g++", "clang++"), ("c++98", "c++11", "c++14", "c++17", "c++20", "c++2b")),
 }
-PROGRAMS = ("every_standard", "every_standard_tunnel", "every_standard_segment", "every_standard_plan", "every_standard_settings",
+PROGRAMS = ("every_standard", "every_standard_tunnel", "every_standard_keyed", "every_standard_segment", "every_standard_plan", "every_standard_settings",
             "every_standard_fair", "every_standard_limits", "every_standard_cable", "every_standard_configuration",
-            "every_standard_fates")
+            "every_standard_fates", "every_standard_edge")
 # What those programs show, where they run.
 SHOWN = ("an empty handle, a text and a router of one port", "an empty handle of a tunnel, and a tunnel",
+         "a handle of a tunnel with keyed nodes, and who registers there",
          "an empty handle of a segment, and a segment", "a plan", "a line of a configuration",
          "a receiver of zeros, a receiver and a meter", "limits, and what they let pass",
          "kinds of frames, two links that are one cable, a range, a pace, a node that moves, and who is asked again",
-         "a configuration of two networks", "the way of a packet, and counts")
+         "a configuration of two networks", "the way of a packet, and counts", "a packet that is numbered")
 
 BEGIN = """\
 #include <stdio.h>
 #include "ipxr_tunnel.h"
+#include "ipxr_keyed.h"
 #include "ipxr_segment.h"
 #include "ipxr_plan.h"
 #include "ipxr_settings.h"
@@ -84,6 +90,7 @@ BEGIN = """\
 #include "ipxr_cable.h"
 #include "ipxr_configuration.h"
 #include "ipxr_fates.h"
+#include "ipxr_edge.h"
 typedef void call(void);
 call *const calls[] = {
 """

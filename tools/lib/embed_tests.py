@@ -15,9 +15,10 @@ OWNERS = ("crates/ipx_c/src/cell.rt", "crates/ipx_c/src/handle.rt")
 LETS_GO = re.compile(r"derive\(.*Drop|impl.* Drop for|forget|leak|ManuallyDrop")
 OTHER_SIZES = {"PORTS": 8, "ROUTES": 256, "SERVICES": 128, "CLIENTS": 64, "LINKS": 4, "STATIONS": 100}
 SIZED = "build/sized"
-# What the programs that fill a tunnel and a segment print of those sizes, in place of what they print as delivered.
+# What the programs that fill tunnels and a segment print of those sizes, in place of what they print as delivered.
 OF_OTHER_SIZES = {
     "tunnel": {"4096": "64", "4095": "63"},
+    "keyed": {"4096": "64", "4095": "63"},
     "segment": {"8192": "100", "receivers: 31": "receivers: 3", "sends: 32": "sends: 4"},
 }
 EXAMPLES = "examples/embed"

@@ -21,6 +21,11 @@ pub mod TunnelValues
 pub mod TunnelMakes
 pub mod TunnelEvents
 pub mod TunnelReads
+-- tunnels with keyed nodes: the same
+pub mod KeyedValues
+pub mod KeyedMakes
+pub mod KeyedEvents
+pub mod KeyedReads
 -- segments: the same
 pub mod SegmentValues
 pub mod SegmentMakes
@@ -33,6 +38,8 @@ pub mod Plans
 pub mod SettingsValues
 pub mod SettingsWritten
 pub mod ConfigurationValues
+-- what passes between a cable and the router
+pub mod Edges
 -- a gateway's limits: numbers
 pub mod LimitValues
 pub mod CableValues

@@ -147,6 +147,7 @@ line_number (line.Trust has_some) = 6
 line_number (line.Rate begun) = 7
 line_number (line.Strangers begun) = 8
 line_number (line.Kilobits begun) = 9
+line_number (line.Nodes by_address) = 10
 
 abbrev pub three : ℕ → ℕ → ℕ → List ℕ
 three a b c = a ∷ b ∷ c ∷ []
@@ -171,7 +172,7 @@ abbrev pub network_of_line : Line → NetworkSaid
 network_of_line (line.Network begun) = network_values begun
 network_of_line other = network_values network.Nothing
 
--- what was expected; 0 where nothing is wrong
+-- what was expected; 0 where nothing is wrong (32 to 51 are those of lines together)
 abbrev pub expected_number : Option Expected → ℕ
 expected_number None = 0
 expected_number (Some expected.Line) = 1
@@ -205,6 +206,7 @@ expected_number (Some expected.Kilobits) = 28
 expected_number (Some expected.Range) = 29
 expected_number (Some (expected.FirstOf bits)) = 30
 expected_number (Some expected.FewerWords) = 31
+expected_number (Some expected.ByAddress) = 52
 
 -- the bits of a range whose address isn't its first
 abbrev pub bits_of : Option Expected → ℕ

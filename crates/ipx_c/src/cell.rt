@@ -6,13 +6,16 @@ ghost use Rattle.std.specs.Prelude.{◌≡◌, Option, None, Some, IsSome};
 ghost use Rattle.std.specs.Coded.{coded_option};
 ghost use Rattle.std.specs.Box.Ownership.{box_owns};
 ghost use Rattle.ipx_c.specs.inside.Holds.{holds};
+ghost use Rattle.ipx_c.specs.contracts.keyed_machine.KeyedMachine.{the_row as keyed_row};
 ghost use Rattle.ipx_c.specs.contracts.machine.Machine.{the_row as router_row};
 ghost use Rattle.ipx_c.specs.contracts.segment_machine.SegmentMachine.{the_row as segment_row};
 ghost use Rattle.ipx_c.specs.contracts.tunnel_machine.TunnelMachine.{the_row as tunnel_row};
+ghost use Rattle.ipx_c.specs.declared.keyed_machine.KeyedMachine.{KeyedMachine};
 ghost use Rattle.ipx_c.specs.declared.machine.Machine.{Machine};
 ghost use Rattle.ipx_c.specs.declared.segment_machine.SegmentMachine.{SegmentMachine};
 ghost use Rattle.ipx_c.specs.declared.tunnel_machine.TunnelMachine.{TunnelMachine};
 
+use crate::keyed_machine::KeyedMachine;
 use crate::machine::Machine;
 use crate::segment_machine::SegmentMachine;
 use crate::tunnel_machine::TunnelMachine;
@@ -190,6 +193,44 @@ impl TunnelCell {
 }
 
 unsafe impl Send for TunnelCell {}
+
+/// The cell of a tunnel with keyed nodes, as C keeps it.
+#[repr(C)]
+pub struct KeyedCell {
+    at: *mut u8,
+    alloc: Global,
+    pub ghost machine: { Option KeyedMachine } by { coded_option keyed_row.coded },
+}
+
+impl Model for KeyedCell {
+    ghost also_owns = { λ c. holds keyed_row c.alloc c.at c.machine };
+}
+
+impl KeyedCell {
+    /// The same cell, for C.
+    pub(crate) fn of(cell: Cell<KeyedMachine>) -> KeyedCell
+        ensures { result.machine ≡ cell.machine }
+    {
+        let Cell { at, alloc } = cell;
+        KeyedCell {
+            at: at as *mut u8,
+            alloc,
+        }
+    }
+
+    /// The same cell, from C.
+    pub(crate) fn into_cell(self) -> Cell<KeyedMachine>
+        ensures { result.machine ≡ self.machine }
+    {
+        let KeyedCell { at, alloc } = self;
+        Cell {
+            at: at as *mut KeyedMachine,
+            alloc,
+        }
+    }
+}
+
+unsafe impl Send for KeyedCell {}
 
 /// The cell of a segment, as C keeps it.
 #[repr(C)]

@@ -2,7 +2,8 @@
 ghost use Rattle.std.specs.Prelude.{◌≡◌, Option, None, Some, is_some};
 ghost use Rattle.std.specs.Option.{option_map};
 
-use crate::cell::{Cell, RouterCell, SegmentCell, TunnelCell};
+use crate::cell::{Cell, KeyedCell, RouterCell, SegmentCell, TunnelCell};
+use crate::keyed_machine::KeyedMachine;
 use crate::machine::Machine;
 use crate::segment_machine::SegmentMachine;
 use crate::tunnel_machine::TunnelMachine;
@@ -156,6 +157,40 @@ impl Crosses for TunnelHandle {
         ensures { result.cell.machine ≡ self.cell.machine }
     {
         let TunnelHandle { made, cell } = self;
+        Handle {
+            made,
+            cell: cell.into_cell(),
+        }
+    }
+}
+
+/// The handle of a tunnel with keyed nodes, as C keeps it. All bytes 0 are one without a tunnel.
+#[repr(C)]
+pub struct KeyedHandle {
+    made: bool,
+    pub cell: KeyedCell,
+    ghost agrees: { made ≡ is_some cell.machine },
+}
+
+impl Crosses for KeyedHandle {
+    type Machine = KeyedMachine;
+
+    ghost machine = { λ handle. handle.cell.machine };
+
+    fn of(handle: Handle<KeyedMachine>) -> KeyedHandle
+        ensures { result.cell.machine ≡ handle.cell.machine }
+    {
+        let Handle { made, cell } = handle;
+        KeyedHandle {
+            made,
+            cell: KeyedCell::of(cell),
+        }
+    }
+
+    fn into_handle(self) -> Handle<KeyedMachine>
+        ensures { result.cell.machine ≡ self.cell.machine }
+    {
+        let KeyedHandle { made, cell } = self;
         Handle {
             made,
             cell: cell.into_cell(),

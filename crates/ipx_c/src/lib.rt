@@ -1,4 +1,4 @@
-//! The router for C, and for whatever can call C: a static library, whose headers are `ipxr.h`, `ipxr_tunnel.h`, `ipxr_segment.h`,
+//! The router for C, and for whatever can call C: a static library, whose headers are `ipxr.h`, `ipxr_tunnel.h`, `ipxr_keyed.h`, `ipxr_segment.h`,
 //! `ipxr_plan.h`, `ipxr_settings.h`, `ipxr_fair.h`, `ipxr_limits.h`, `ipxr_cable.h` and `ipxr_fates.h` in `include/`.
 //!
 //! - C holds a router by a `RouterHandle`: a flag and a pointer. All bytes 0 are a handle without a router.
@@ -12,7 +12,8 @@
 //! - A tunnel of DOSBox' is the second kind of machine: `TunnelMachine` has the tunnel of `ipx_tunnel` and the lists of what came of
 //!   its last event, which are filled where they lie (`TunnelMakes`, `TunnelEvents`, `TunnelReads`). Broadcasts are copied without
 //!   one (`Extends`).
-//! - A network over several links is the third: `SegmentMachine` has the segment of `ipx_segment` and the links that get the packet of
+//! - A tunnel that hands out nodes is another: `KeyedMachine` has that of `ipx_keyed` (`KeyedMakes`, `KeyedEvents`, `KeyedReads`).
+//! - A network over several links is the last: `SegmentMachine` has the segment of `ipx_segment` and the links that get the packet of
 //!   its last event (`SegmentMakes`, `SegmentEvents`, `SegmentReads`).
 //! - The plan of a reload is made of values and written to values (`Plans`), by `ipx_plan`; and the lines of a configuration are read to
 //!   values (`SettingsValues`) and written of values (`SettingsWritten`), by `ipx_settings`.
@@ -25,7 +26,7 @@
 //! - `cell` is the only place with a raw pointer; its proofs, and those alone, are walks by hand.
 //! - A handle isn't `Drop`: what doesn't hand its machine on, or put it into an empty one, doesn't compile or isn't proved. So no
 //!   call loses a router. That `ipxr_free` and `ipxr_make` free is one line in `making`, `drop(machine)`, which no clause can say; for
-//!   tunnels it is one in `tunnel_making`, for segments one in `segment_making`.
+//!   tunnels it is one in `tunnel_making` and one in `keyed_making`, for segments one in `segment_making`.
 #![tactic(auto)]
 
 pub mod cable;
@@ -33,6 +34,7 @@ mod cell;
 mod code;
 pub mod configuration;
 mod course_values;
+pub mod edge;
 mod events;
 mod extending;
 mod fair;
@@ -41,6 +43,11 @@ mod fault;
 mod frames;
 mod handle;
 mod item;
+mod keyed_events;
+mod keyed_machine;
+mod keyed_making;
+mod keyed_reading;
+mod keyed_values;
 mod limit_values;
 pub mod limits;
 pub mod line;
@@ -69,48 +76,118 @@ mod words;
 mod writing;
 
 pub use crate::course_values::CourseValues;
-pub use crate::events::{
-    ipxr_packet, ipxr_port_down, ipxr_port_up, ipxr_second, ipxr_start, ipxr_stop,
-};
+pub use crate::events::ipxr_packet;
+pub use crate::events::ipxr_port_down;
+pub use crate::events::ipxr_port_up;
+pub use crate::events::ipxr_second;
+pub use crate::events::ipxr_start;
+pub use crate::events::ipxr_stop;
 pub use crate::extending::ipxr_tunnel_extend;
-pub use crate::fair::{
-    ipxr_fair_both_hear, ipxr_fair_look, ipxr_fair_make, ipxr_fair_pass, ipxr_fair_says,
-    ipxr_meter_both_let, ipxr_meter_lets, ipxr_meter_pass,
-};
+pub use crate::fair::ipxr_fair_both_hear;
+pub use crate::fair::ipxr_fair_look;
+pub use crate::fair::ipxr_fair_make;
+pub use crate::fair::ipxr_fair_pass;
+pub use crate::fair::ipxr_fair_says;
+pub use crate::fair::ipxr_meter_both_let;
+pub use crate::fair::ipxr_meter_lets;
+pub use crate::fair::ipxr_meter_pass;
 pub use crate::fault::Fault;
-pub use crate::frames::{ipxr_frame_read, ipxr_frame_write};
-pub use crate::handle::{RouterHandle, SegmentHandle, TunnelHandle};
+pub use crate::frames::ipxr_frame_read;
+pub use crate::frames::ipxr_frame_write;
+pub use crate::handle::KeyedHandle;
+pub use crate::handle::RouterHandle;
+pub use crate::handle::SegmentHandle;
+pub use crate::handle::TunnelHandle;
+pub use crate::keyed_events::ipxr_keyed_hear;
+pub use crate::keyed_events::ipxr_keyed_second;
+pub use crate::keyed_events::ipxr_keyed_send;
+pub use crate::keyed_machine::KeyedMachine;
+pub use crate::keyed_making::ipxr_keyed_free;
+pub use crate::keyed_making::ipxr_keyed_make;
+pub use crate::keyed_reading::ipxr_keyed_carried;
+pub use crate::keyed_reading::ipxr_keyed_client;
+pub use crate::keyed_reading::ipxr_keyed_clients;
+pub use crate::keyed_reading::ipxr_keyed_is_heard;
+pub use crate::keyed_reading::ipxr_keyed_leaver;
+pub use crate::keyed_reading::ipxr_keyed_leavers;
+pub use crate::keyed_reading::ipxr_keyed_own;
+pub use crate::keyed_reading::ipxr_keyed_owns;
+pub use crate::keyed_reading::ipxr_keyed_pings;
+pub use crate::keyed_reading::ipxr_keyed_receiver;
+pub use crate::keyed_reading::ipxr_keyed_receivers;
+pub use crate::keyed_reading::ipxr_keyed_waiter;
+pub use crate::keyed_reading::ipxr_keyed_waiters;
+pub use crate::keyed_values::KeyedMember;
+pub use crate::keyed_values::KeyedSender;
+pub use crate::keyed_values::KeyedSetting;
 pub use crate::machine::Machine;
-pub use crate::making::{ipxr_free, ipxr_make, ipxr_version};
-pub use crate::plan_values::{PlanFate, PlanLink, PlanOrigin};
+pub use crate::making::ipxr_free;
+pub use crate::making::ipxr_make;
+pub use crate::making::ipxr_version;
+pub use crate::plan_values::PlanFate;
+pub use crate::plan_values::PlanLink;
+pub use crate::plan_values::PlanOrigin;
 pub use crate::planning::ipxr_plan;
-pub use crate::reading::{
-    ipxr_is_running, ipxr_is_up, ipxr_route, ipxr_routes, ipxr_service, ipxr_services,
-};
-pub use crate::segment_events::{
-    ipxr_segment_change, ipxr_segment_come, ipxr_segment_hear, ipxr_segment_leave,
-    ipxr_segment_second, ipxr_segment_send,
-};
+pub use crate::reading::ipxr_is_running;
+pub use crate::reading::ipxr_is_up;
+pub use crate::reading::ipxr_route;
+pub use crate::reading::ipxr_routes;
+pub use crate::reading::ipxr_service;
+pub use crate::reading::ipxr_services;
+pub use crate::segment_events::ipxr_segment_change;
+pub use crate::segment_events::ipxr_segment_come;
+pub use crate::segment_events::ipxr_segment_hear;
+pub use crate::segment_events::ipxr_segment_leave;
+pub use crate::segment_events::ipxr_segment_second;
+pub use crate::segment_events::ipxr_segment_send;
 pub use crate::segment_machine::SegmentMachine;
-pub use crate::segment_making::{ipxr_segment_free, ipxr_segment_make};
-pub use crate::segment_reading::{
-    ipxr_segment_link, ipxr_segment_next_node, ipxr_segment_receiver, ipxr_segment_receivers,
-    ipxr_segment_station, ipxr_segment_stations,
-};
-pub use crate::segment_values::{LinkValues, SegmentSetting, StationRecord};
-pub use crate::sending::{ipxr_clear, ipxr_get, ipxr_sent};
-pub use crate::settings_values::{HostValues, LineSaid, LinkSaid, NetworkSaid};
-pub use crate::tunnel_events::{ipxr_tunnel_hear, ipxr_tunnel_second, ipxr_tunnel_send};
+pub use crate::segment_making::ipxr_segment_free;
+pub use crate::segment_making::ipxr_segment_make;
+pub use crate::segment_reading::ipxr_segment_link;
+pub use crate::segment_reading::ipxr_segment_next_node;
+pub use crate::segment_reading::ipxr_segment_receiver;
+pub use crate::segment_reading::ipxr_segment_receivers;
+pub use crate::segment_reading::ipxr_segment_station;
+pub use crate::segment_reading::ipxr_segment_stations;
+pub use crate::segment_values::LinkValues;
+pub use crate::segment_values::SegmentSetting;
+pub use crate::segment_values::StationRecord;
+pub use crate::sending::ipxr_clear;
+pub use crate::sending::ipxr_get;
+pub use crate::sending::ipxr_sent;
+pub use crate::settings_values::HostValues;
+pub use crate::settings_values::LineSaid;
+pub use crate::settings_values::LinkSaid;
+pub use crate::settings_values::NetworkSaid;
+pub use crate::tunnel_events::ipxr_tunnel_hear;
+pub use crate::tunnel_events::ipxr_tunnel_second;
+pub use crate::tunnel_events::ipxr_tunnel_send;
 pub use crate::tunnel_machine::TunnelMachine;
-pub use crate::tunnel_making::{ipxr_tunnel_free, ipxr_tunnel_make};
-pub use crate::tunnel_reading::{
-    ipxr_tunnel_carried, ipxr_tunnel_client, ipxr_tunnel_clients, ipxr_tunnel_is_heard,
-    ipxr_tunnel_leaver, ipxr_tunnel_leavers, ipxr_tunnel_own, ipxr_tunnel_owns,
-    ipxr_tunnel_receiver, ipxr_tunnel_receivers,
-};
-pub use crate::tunnel_values::{ClientRecord, OwnRecord, SenderValues, TunnelSetting};
-pub use crate::values::{
-    AddressValues, PacketSent, PortValues, RouteEntry, RouteRecord, ServiceEntry, ServiceRecord,
-};
+pub use crate::tunnel_making::ipxr_tunnel_free;
+pub use crate::tunnel_making::ipxr_tunnel_make;
+pub use crate::tunnel_reading::ipxr_tunnel_carried;
+pub use crate::tunnel_reading::ipxr_tunnel_client;
+pub use crate::tunnel_reading::ipxr_tunnel_clients;
+pub use crate::tunnel_reading::ipxr_tunnel_is_heard;
+pub use crate::tunnel_reading::ipxr_tunnel_leaver;
+pub use crate::tunnel_reading::ipxr_tunnel_leavers;
+pub use crate::tunnel_reading::ipxr_tunnel_own;
+pub use crate::tunnel_reading::ipxr_tunnel_owns;
+pub use crate::tunnel_reading::ipxr_tunnel_receiver;
+pub use crate::tunnel_reading::ipxr_tunnel_receivers;
+pub use crate::tunnel_values::ClientRecord;
+pub use crate::tunnel_values::OwnRecord;
+pub use crate::tunnel_values::SenderValues;
+pub use crate::tunnel_values::TunnelSetting;
+pub use crate::values::AddressValues;
+pub use crate::values::PacketSent;
+pub use crate::values::PortValues;
+pub use crate::values::RouteEntry;
+pub use crate::values::RouteRecord;
+pub use crate::values::ServiceEntry;
+pub use crate::values::ServiceRecord;
 pub use crate::words::ipxr_word;
-pub use crate::writing::{ipxr_write_packet, ipxr_write_query, ipxr_write_rip, ipxr_write_sap};
+pub use crate::writing::ipxr_write_packet;
+pub use crate::writing::ipxr_write_query;
+pub use crate::writing::ipxr_write_rip;
+pub use crate::writing::ipxr_write_sap;

@@ -102,7 +102,7 @@ fn ports_of(values: &[PortValues]) -> Result<ArrayVec<Port, MOST_PORTS>, PortFau
     Ok(ports)
 }
 
-fn port_of(values: &PortValues) -> Result<Port, PortFault>
+pub(crate) fn port_of(values: &PortValues) -> Result<Port, PortFault>
     ensures port { IfOk result (λ port. port ≡ port_of values.now) }
     ensures is { IfOk result IsPort }
     ensures bad { IfErr result (IsBad values.now) }

@@ -238,6 +238,7 @@ pub(crate) fn line_number(line: Line) -> u8
         Line::Rate(_) => 7,
         Line::Strangers(_) => 8,
         Line::Kilobits(_) => 9,
+        Line::Nodes(_) => 10,
     }
 }
 
@@ -278,7 +279,7 @@ pub(crate) fn network_of_line(line: Line) -> NetworkSaid
     }
 }
 
-/// The number of what was expected; 0 where nothing is wrong.
+/// The number of what was expected; 0 where nothing is wrong. The last one came behind those of lines together.
 pub(crate) fn expected_number(fault: Option<Expected>) -> u8
     ensures { result ≡ expected_number fault }
 {
@@ -315,6 +316,7 @@ pub(crate) fn expected_number(fault: Option<Expected>) -> u8
         Some(Expected::Range) => 29,
         Some(Expected::FirstOf(_)) => 30,
         Some(Expected::FewerWords) => 31,
+        Some(Expected::ByAddress) => 52,
     }
 }
 

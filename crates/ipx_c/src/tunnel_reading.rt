@@ -186,7 +186,7 @@ pub extern "C" fn ipxr_tunnel_client(
 }
 
 /// Copies a place that was found. Returns the number that C hears.
-fn put_place(place: &mut [u8; 6], found: Option<Node>) -> i32
+pub(crate) fn put_place(place: &mut [u8; 6], found: Option<Node>) -> i32
     ensures copied { place.new ≡ place_after (found_or found) place.old }
     ensures code { result ≡ read_code (found_or found) }
 {
@@ -198,7 +198,7 @@ fn put_place(place: &mut [u8; 6], found: Option<Node>) -> i32
     DONE
 }
 
-fn own_record(datagram: Own) -> OwnRecord
+pub(crate) fn own_record(datagram: Own) -> OwnRecord
     ensures { result ≡ own_record datagram }
 {
     let place = datagram.place.0;

@@ -11,6 +11,7 @@
 #include "ipxr_cable.h"
 #include "ipxr_limits.h"
 #include "ipxr_segment.h"
+#include "ipxr_keyed.h"
 #include "ipxr_tunnel.h"
 #include "packets.h"
 
@@ -25,6 +26,7 @@ static const uint32_t FAR = 0x10000;
 
 static ipxr router;
 static ipxr_tunnel tunnel;
+static ipxr_keyed keyed;
 static ipxr_segment segment;
 static ipxr_fair fair;
 static ipxr_limits limits;
@@ -33,6 +35,7 @@ static ipxr_strangers_limits strangers;
 static ipxr_reader reader;
 static ipxr_kinds kinds;
 static ipxr_sender sender;
+static ipxr_keyed_sender keyed_sender;
 static unsigned char *stack;
 static uint8_t packet[LONGEST];
 static size_t length;
@@ -130,6 +133,30 @@ static void read_tunnel(void)
     ipxr_tunnel_receiver(&tunnel, 0, place);
     ipxr_tunnel_leaver(&tunnel, 0, place);
     ipxr_tunnel_client(&tunnel, 0, &client);
+}
+
+static void make_keyed(void)
+{
+    const ipxr_keyed_setting setting = {1, {0, 0, 0, 0, 0, 1}, IPXR_MOST_CLIENTS, IPXR_MOST_CLIENTS, IPXR_MOST_CLIENTS, IPXR_MOST_CLIENTS};
+    answer = ipxr_keyed_make(&keyed, &setting);
+}
+
+static void hear_keyed(void) { answer = ipxr_keyed_hear(&keyed, &keyed_sender, packet, length); }
+static void send_keyed(void) { answer = ipxr_keyed_send(&keyed, EVERYONE); }
+static void second_of_keyed(void) { answer = ipxr_keyed_second(&keyed); }
+static void empty_keyed(void) { ipxr_keyed_free(&keyed); }
+
+/* Whatever reads such a tunnel. */
+static void read_keyed(void)
+{
+    ipxr_own own;
+    ipxr_keyed_member member;
+    uint8_t place[6];
+    ipxr_keyed_own(&keyed, 0, &own);
+    ipxr_keyed_receiver(&keyed, 0, place);
+    ipxr_keyed_leaver(&keyed, 0, &member);
+    ipxr_keyed_client(&keyed, 0, &member);
+    ipxr_keyed_waiter(&keyed, 0, &member);
 }
 
 static void make_segment(void)
@@ -442,6 +469,37 @@ static void fill_tunnel(void)
     }
 }
 
+/* Says a packet of each who has room in such a tunnel: to a node and socket. */
+static void all_say(const uint8_t *node, uint16_t socket)
+{
+    keyed_sender.may_register = 1;
+    keyed_sender.node[0] = 2;
+    for (uint32_t k = 0; k < IPXR_MOST_CLIENTS; k++) {
+        put_number(keyed_sender.place, 4, k + 1);
+        put_number(keyed_sender.node + 1, 4, k + 1);
+        const struct address to = {1, node, socket}, from = {1, keyed_sender.node, socket};
+        length = HEADER;
+        put_header(packet, length, 0, to, from);
+        play(hear_keyed, 1);
+    }
+}
+
+static void play_keyed(void)
+{
+    static const uint8_t NOBODY[6] = {0};
+    measure("a tunnel with keyed nodes is made", make_keyed, MOST);
+    all_say(NOBODY, 2);
+    all_say(EVERYONE, 0x4003);
+    measure("its client speaks to all", hear_keyed, MOST);
+    measure("the router speaks to all of it", send_keyed, MOST);
+    play(second_of_keyed, 8);
+    measure("a second that pings all who are remembered", second_of_keyed, MOST);
+    measure("all of it is read", read_keyed, MOST);
+    play(second_of_keyed, 20);
+    measure("a second in which all leave it", second_of_keyed, MOST);
+    measure("it is freed", empty_keyed, MOST);
+}
+
 static void play_tunnel(void)
 {
     measure("a tunnel is made", make_tunnel, MOST);
@@ -523,6 +581,7 @@ int main(int count, char **words)
     measure("a stop", stop, MOST);
     measure("a router is freed", empty, MOST);
     play_tunnel();
+    play_keyed();
     play_segment();
     play_receiver();
     play_limits();
