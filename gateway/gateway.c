@@ -319,7 +319,7 @@ static int patience(const gateway *it)
 static void send_pings(gateway *it)
 {
     for (size_t k = 0; k < it->count; k++)
-        tunnel_ping(&it->networks[k]);
+        tunnel_ping(it, &it->networks[k]);
 }
 
 /* Hears a cable, of which `list` tells what is there. Returns whether there may be more. */

@@ -7,8 +7,8 @@
 #include "configuration/settings.h"
 #include "ipx.h"
 #include "ipxr.h"
+#include "ipxr_keyed.h"
 #include "ipxr_segment.h"
-#include "ipxr_tunnel.h"
 #include "limits/strangers.h"
 #include "limits/throttle.h"
 #include "links/cable.h"
@@ -41,7 +41,7 @@ typedef struct network {
     down_line told[DOWN_LINES]; /* the last of these lines, since it was up */
     size_t told_next;
     counts counts;
-    ipxr_tunnel tunnel; /* of DOSBox', where it is one */
+    ipxr_keyed tunnel;  /* of DOSBox', where it is one */
     roster roster;       /* and its clients, */
     throttle throttle;   /* within limits, */
     strangers strangers; /* and who isn't one; */
@@ -79,7 +79,8 @@ typedef struct gateway {
     uint64_t began; /* milliseconds of the clock at the start */
     uint64_t told;  /* seconds since that have passed for the router: it has heard of them, or they were too many at once */
     uint64_t refused; /* the second since then in which it had no memory for one, or 0 */
-    uint8_t key[SIPHASH_KEY]; /* of the cookies */
+    uint8_t key[SIPHASH_KEY]; /* of the cookies, */
+    uint8_t nodes[SIPHASH_KEY]; /* and of the nodes of clients */
     uint64_t seconds; /* that the tunnels have heard of */
     uint32_t changes; /* how often its links were changed by a reload */
     uint64_t looked;  /* the second since the start in which they heard of the last */
@@ -139,6 +140,9 @@ void gateway_send(gateway *it, port *router_port, const origin *by, const uint8_
 
 /* Puts a packet of a station's, or of the router's, on a link of its network, to a node there or to all; the same of its bytes. */
 void gateway_put(network *on, const origin *by, const uint8_t *from, const uint8_t *node, const uint8_t *packet, size_t length);
+
+/* Where a tunnel is there, tells once that clients' nodes aren't kept, if they aren't. */
+void gateway_tell_nodes(const gateway *it);
 
 /* Takes the ports from the list of networks on links. */
 void gateway_take_ports(gateway *it);

@@ -26,8 +26,10 @@ enum {
 /* The network that stands for all of them. */
 #define EVERY_NETWORK 0xFFFFFFFFu
 
-/* The first byte of a node that is nobody's card: locally administered, and not a group's. */
+/* The first byte of a node that is nobody's card: locally administered, and not a group's. And that of a cookie, which is one of these too, so
+ * that no cookie is a node. */
 #define LOCAL_NODE 0x02
+#define COOKIE_NODE 0x06
 
 /* Bytes of the longest packet that any link here carries. */
 #define LONGEST 1500

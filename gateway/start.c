@@ -12,6 +12,7 @@
 #include "monitoring/status.h"
 #include "systems/clock.h"
 #include "systems/system.h"
+#include "tunnel/nodes.h"
 #include "tunnel/tunnel.h"
 
 /* ---- Links ---- */
@@ -32,9 +33,20 @@ static cable *cable_of(gateway *it, const network_setting *set)
     return NULL;
 }
 
+/* The keys of cookies and nodes. (whether a tunnel is there or only comes by a reload) */
+static bool make_keys(gateway *it)
+{
+    if (system_random(it->key, sizeof it->key) && nodes_begin(it->nodes))
+        return true;
+    complain("ipxr-gateway: the system has no random numbers: %s", fault_words());
+    return false;
+}
+
 bool gateway_open(gateway *it, const settings *set)
 {
     memset(it, 0, sizeof *it);
+    if (!make_keys(it))
+        return false;
     line_set(set);
     for (size_t k = 0; k < set->count; k++) {
         network *on = &it->networks[it->count++];
@@ -128,6 +140,13 @@ static void tell_start(const gateway *it)
     }
 }
 
+void gateway_tell_nodes(const gateway *it)
+{
+    for (size_t k = 0; k < it->count; k++)
+        if (it->networks[k].set->type == LINK_DOSBOX)
+            nodes_tell();
+}
+
 /* Makes the tunnels, and sets the limits of the other links. Returns 0, or the library's fault. */
 static int32_t open_tunnels(gateway *it)
 {
@@ -161,10 +180,6 @@ static int32_t open_segments(gateway *it)
 bool gateway_start(gateway *it)
 {
     char words[WORDS];
-    if (!system_random(it->key, sizeof it->key)) {
-        complain("ipxr-gateway: the system has no random numbers: %s", fault_words());
-        return false;
-    }
     kinds_key(it->key);
     int32_t made = make(it);
     if (made >= 0)
@@ -181,6 +196,7 @@ bool gateway_start(gateway *it)
         return false;
     }
     tell_start(it);
+    gateway_tell_nodes(it);
     links_look_at_all(it);
     return true;
 }

@@ -272,6 +272,7 @@ changed gateway_change(gateway *it, const settings *set)
     for (size_t k = 0; k < it->count; k++)
         what.is_new_router = what.is_new_router || has_new_address(&it->networks[k]);
     gateway_renew(it);
+    gateway_tell_nodes(it);
     links_look_at_all(it);
     gateway_flush(it);
     return what;

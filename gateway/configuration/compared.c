@@ -42,7 +42,7 @@ static bool has_same_clients(const network_setting *a, const network_setting *b)
         return a->type != LINK_DOSBOX && b->type != LINK_DOSBOX && a->rate == b->rate && a->share == b->share;
     return a->clients == b->clients && a->per_address == b->per_address && a->rate == b->rate && a->share == b->share &&
            a->household == b->household && a->kilobits == b->kilobits && a->strangers == b->strangers &&
-           same_ranges(&a->allowed, &b->allowed) && same_ranges(&a->trusted, &b->trusted);
+           a->nodes_by_address == b->nodes_by_address && same_ranges(&a->allowed, &b->allowed) && same_ranges(&a->trusted, &b->trusted);
 }
 
 static bool has_same_sockets(const network_setting *a, const network_setting *b)

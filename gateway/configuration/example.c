@@ -27,6 +27,8 @@ static const char *const LINES[] = {
     "# How many kilobits a second the line to the clients carries, if it is narrow, such as the upload of a home: each address gets a",
     "# fair part of it.",
     "#   line 1000",
+    "# The gateway gives each client a node. Programs that take their own address and port for their node may join, too, with this line:",
+    "#   nodes by-address",
     "",
     "# Below are further networks and links: remove the first # of a line to use it, and put your own addresses and names there.",
     "#",

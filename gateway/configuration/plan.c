@@ -73,7 +73,7 @@ static bool has_other_tunnel(const plan *it, size_t number)
 
 static int32_t make_tunnel(plan *it, const gateway *gate, size_t number)
 {
-    static const network NONE = {.tunnel = IPXR_TUNNEL_NONE};
+    static const network NONE = {.tunnel = IPXR_KEYED_NONE};
     network *on = &it->tunnels[number];
     const network_setting *set = &it->set->networks[number];
     *on = NONE;

@@ -6,39 +6,46 @@
 #include "tunnel/place.h"
 #include "tunnel/tunnel.h"
 
-/* The socket of pings and of their answers. */
-#define PING_SOCKET 2
+/* The socket of registrations, pings and their answers. */
+#define TUNNEL_SOCKET 2
 
-/* The answer to its ping of a client that the gateway knows to be there: it goes to the cookie that the client would have been sent. */
-static void answer_for(const ipxr_sender *client, uint8_t packet[HEADER])
-{
-    ipxr_address from = {.socket = PING_SOCKET}, to = {.socket = PING_SOCKET};
-    memcpy(from.node, client->place, NODE);
-    memcpy(to.node, client->current, NODE);
-    ipxr_write_packet(&from, &to, 0, 0, (const uint8_t *)"", 0, packet, HEADER);
-}
-
-/* Lets a client into the new tunnel, if he may and can. */
-static bool is_let_in(const gateway *it, network *on, const known_client *client)
+/* The new tunnel hears a packet without data from somebody, who names a node and says it to another. */
+static void hear(network *on, const ipxr_keyed_sender *sender, const uint8_t node[NODE], const uint8_t to_node[NODE])
 {
     uint8_t packet[HEADER];
-    size_t before = ipxr_tunnel_clients(&on->tunnel);
-    if (!tunnel_lets_in(on->set, &client->at))
-        return false;
-    ipxr_sender sender = tunnel_sender(it, on, &client->at);
-    answer_for(&sender, packet);
-    ipxr_tunnel_hear(&on->tunnel, &sender, packet, sizeof packet);
-    return ipxr_tunnel_clients(&on->tunnel) > before;
+    ipxr_address from = {.socket = TUNNEL_SOCKET}, to = {.socket = TUNNEL_SOCKET};
+    memcpy(from.node, node, NODE);
+    memcpy(to.node, to_node, NODE);
+    ipxr_write_packet(&from, &to, 0, 0, (const uint8_t *)"", 0, packet, HEADER);
+    ipxr_keyed_hear(&on->tunnel, sender, packet, sizeof packet);
 }
 
-/* Those who registered lately and may come in are pinged again by the new tunnel. */
-static void keep_newcomers(network *on, const strangers *old)
+/* Lets a client into the new tunnel, if he may and can: he answers the ping that he would have been sent. (by the node that he has, also where
+ * the network has no nodes by address any more: he was asked whether he hears) */
+static bool is_let_in(const gateway *it, network *on, const known_client *client)
 {
-    on->strangers.next = old->next;
-    for (size_t k = 0; k < MOST_NEW; k++) {
-        address from = address_of(old->list[k].ping.place);
-        if (old->list[k].is_waiting && tunnel_lets_in(on->set, &from))
-            on->strangers.list[k] = old->list[k];
+    size_t before = ipxr_keyed_clients(&on->tunnel);
+    if (!tunnel_lets_in(on->set, &client->at))
+        return false;
+    ipxr_keyed_sender sender = tunnel_sender(it, on, &client->at);
+    memcpy(sender.former, client->node, NODE);
+    hear(on, &sender, client->node, sender.current);
+    return ipxr_keyed_clients(&on->tunnel) > before;
+}
+
+/* Those who registered lately, and may come in, register in the new tunnel: they are answered once more, and then pinged. */
+static void keep_waiters(const gateway *it, network *on, network *old)
+{
+    static const uint8_t NOBODY[NODE] = {0};
+    ipxr_keyed_member waiter;
+    for (size_t k = 0; ipxr_keyed_waiter(&old->tunnel, k, &waiter) == 0; k++) {
+        address from = address_of(waiter.place);
+        ipxr_keyed_sender sender = tunnel_sender(it, on, &from);
+        member *client = roster_find(&on->roster, waiter.place);
+        if (tunnel_lets_in(on->set, &from))
+            hear(on, &sender, NOBODY, NOBODY);
+        if (client != NULL)
+            tunnel_note_registration(it, on, client);
     }
 }
 
@@ -46,7 +53,7 @@ static void keep_newcomers(network *on, const strangers *old)
  * or was and isn't, that means something else, and begins anew) */
 static void keep_client(const gateway *it, network *on, network *old, const known_client *client)
 {
-    tunnel_list(on, client->place);
+    tunnel_list(on, client->place, client->node);
     member *kept = roster_find(&on->roster, client->place), *was = roster_find(&old->roster, client->place);
     if (kept == NULL || was == NULL)
         return;
@@ -64,7 +71,7 @@ static void keep_clients(const gateway *it, network *on, network *old)
         if (is_let_in(it, on, &client))
             keep_client(it, on, old, &client);
         else
-            tunnel_tell_leaves(on, client.place);
+            tunnel_tell_leaves(on, client.place, client.node);
 }
 
 /* The tunnel of a network as another one is to have it: its clients, their limits, and who isn't one. */
@@ -82,7 +89,7 @@ void tunnel_again(const gateway *it, network *on, const network *made)
     network old = *on;
     take_tunnel(on, made);
     keep_clients(it, on, &old);
-    keep_newcomers(on, &old.strangers);
+    keep_waiters(it, on, &old);
     tunnel_close(&old);
 }
 
@@ -90,6 +97,6 @@ void tunnel_end(network *on)
 {
     known_client client;
     for (size_t k = 0; tunnel_client(on, k, &client); k++)
-        tunnel_tell_leaves(on, client.place);
+        tunnel_tell_leaves(on, client.place, client.node);
     tunnel_close(on);
 }

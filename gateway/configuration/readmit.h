@@ -5,7 +5,8 @@
 #include "gateway.h"
 
 /* A network takes the tunnel that was made for its settings of now, which nobody else has any more. Clients who may not stay, or for whom
- * there is no room any more, leave; the others stay in their order, as if they had just answered. (none of this takes memory) */
+ * there is no room any more, leave; the others stay in their order and with their nodes, as if they had just answered. Who registered lately is
+ * remembered, too. (none of this takes memory) */
 void tunnel_again(const gateway *it, network *on, const network *made);
 
 /* All clients leave, and the tunnel ends. */

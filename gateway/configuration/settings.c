@@ -81,6 +81,7 @@ static void take_link(network_setting *it, const ipxr_configured *said)
     it->kilobits = said->kilobits;
     take_ranges(&it->allowed, &said->allowed);
     take_ranges(&it->trusted, &said->trusted);
+    it->nodes_by_address = said->nodes_by_address;
 }
 
 static void take_all(settings *it, const ipxr_configuration *all)

@@ -63,6 +63,7 @@ typedef struct network_setting {
     uint32_t strangers;        /* datagrams a second for strangers, 0 for any number */
     ranges allowed;            /* who may be a client; none where all may */
     ranges trusted;            /* who may be one though he answers no ping */
+    bool nodes_by_address;     /* whether a client's node may be its address and port */
 } network_setting;
 
 /* The links of one network stand one behind the other. */

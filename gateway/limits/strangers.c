@@ -3,14 +3,8 @@
 #include <stdlib.h>
 #include <string.h>
 
-#include "ipx.h"
-
 /* Bytes of a place that are its address. */
 enum { HOST = 4 };
-
-/* The turns of a second, from a registration on, in which one is pinged again, and once more, so that more than one second and three have
- * passed; and places of the list for one address. */
-enum { AGAIN = 2, ONCE_MORE = 4, MOST_OF_ONE = 16 };
 
 bool strangers_make(strangers *it, uint32_t rate, const uint8_t key[SIPHASH_KEY])
 {
@@ -36,43 +30,20 @@ static ipxr_meter *of_host(strangers *it, const uint8_t place[6])
     return meter_now(&it->hosts[siphash(it->key, place, HOST) % MOST_HOSTS]);
 }
 
+/* The most datagrams that a limit lets pass at once. */
+static uint64_t most_of(const ipxr_limit *it)
+{
+    return it->each > 0 ? it->burst / it->each : 0;
+}
+
+static uint32_t counted(const strangers *it, uint32_t count)
+{
+    uint64_t all = most_of(&it->limits.all), one = most_of(&it->limits.one), most = all < one ? all : one;
+    return count < most ? count : (uint32_t)most;
+}
+
 bool strangers_let(strangers *it, const uint8_t place[6], uint32_t count)
 {
-    return it->has_no_limit || ipxr_strangers_send(&it->limits, count, of_host(it, place), meter_now(&it->sent)) == IPXR_PASSES;
-}
-
-/* Whether the place of a ping waits already, or as many of its address do as may. */
-static bool has_its_part(const strangers *it, const uint8_t place[6])
-{
-    size_t count = 0;
-    for (size_t k = 0; k < MOST_NEW; k++) {
-        const newcomer *one = &it->list[k];
-        if (one->is_waiting && same_node(one->ping.place, place))
-            return true;
-        count += one->is_waiting && get32(one->ping.place) == get32(place);
-    }
-    return count >= MOST_OF_ONE;
-}
-
-void strangers_keep(strangers *it, const ipxr_own *ping)
-{
-    if (has_its_part(it, ping->place))
-        return;
-    it->list[it->next] = (newcomer){.ping = *ping, .is_waiting = true};
-    it->next = (it->next + 1) % MOST_NEW;
-}
-
-void strangers_second(strangers *it, roster *clients)
-{
-    for (size_t k = 0; k < MOST_NEW; k++) {
-        newcomer *one = &it->list[k];
-        if (one->is_waiting && (one->seconds++ == ONCE_MORE || roster_find(clients, one->ping.place) != NULL))
-            one->is_waiting = false;
-    }
-}
-
-const ipxr_own *strangers_due(const strangers *it, size_t index)
-{
-    const newcomer *one = &it->list[index];
-    return one->is_waiting && (one->seconds == AGAIN || one->seconds == ONCE_MORE) ? &one->ping : NULL;
+    return it->has_no_limit ||
+           ipxr_strangers_send(&it->limits, counted(it, count), of_host(it, place), meter_now(&it->sent)) == IPXR_PASSES;
 }

@@ -1,25 +1,15 @@
-/* What a tunnel sends to strangers, within a limit: so many datagrams a second to all, and of these a part at most to one address. And whom
- * it pings once more: a DOSBox registers once, so that it would hear nothing where the one ping to it, or its answer, was lost. */
+/* What a tunnel sends to strangers, within a limit: so many datagrams a second to all, and of these a part at most to one address. */
 #ifndef STRANGERS_H
 #define STRANGERS_H
 
+#include <stdbool.h>
+#include <stdint.h>
+
 #include "ipxr_limits.h"
-#include "ipxr_tunnel.h"
 #include "limits/meter.h"
 #include "siphash.h"
-#include "tunnel/roster.h"
 
-enum {
-    MOST_HOSTS = 4096, /* addresses that are told apart, by a hash that nobody can tell beforehand */
-    MOST_NEW = 64,     /* who registered last, and is pinged again */
-};
-
-/* Somebody who registered, and isn't a client yet. */
-typedef struct newcomer {
-    ipxr_own ping;
-    uint8_t seconds; /* since it registered */
-    bool is_waiting; /* whether it is to be pinged again */
-} newcomer;
+enum { MOST_HOSTS = 4096 /* addresses that are told apart, by a hash that nobody can tell beforehand */ };
 
 typedef struct strangers {
     bool has_no_limit;
@@ -27,8 +17,6 @@ typedef struct strangers {
     meter sent;              /* to all */
     uint8_t key[SIPHASH_KEY]; /* of that hash */
     meter *hosts;            /* to the addresses */
-    newcomer list[MOST_NEW]; /* the oldest is overwritten */
-    size_t next;             /* that one */
 } strangers;
 
 /* Makes it for so many datagrams a second, 0 for any number, with a key of the system's random bytes. Returns false where there is no
@@ -36,16 +24,8 @@ typedef struct strangers {
 bool strangers_make(strangers *it, uint32_t rate, const uint8_t key[SIPHASH_KEY]);
 void strangers_free(strangers *it);
 
-/* Whether so many datagrams may go to a stranger now; they are counted then. */
+/* Whether so many datagrams may go to a stranger now, or soon; they are counted then. (where the limit is so low that it never lets so many pass
+ * at once, as many count as it does: somebody new may come in still) */
 bool strangers_let(strangers *it, const uint8_t place[6], uint32_t count);
-
-/* Keeps the ping for one who has registered, unless it is there already, or its address has its part of the places. */
-void strangers_keep(strangers *it, const ipxr_own *ping);
-
-/* A second passes for those who registered; who came in meanwhile is forgotten. */
-void strangers_second(strangers *it, roster *clients);
-
-/* The ping that is due at a place of the list, or NULL. */
-const ipxr_own *strangers_due(const strangers *it, size_t index);
 
 #endif

@@ -106,7 +106,7 @@ static bool is_client_elsewhere(gateway *it, const network *on, const uint8_t *n
 {
     port *router_port = port_of(it, on);
     for (network *other = first_of(it, router_port); other < first_of(it, router_port) + router_port->count; other++)
-        if (other != on && other->set->type == LINK_DOSBOX && roster_find(&other->roster, node) != NULL)
+        if (other != on && other->set->type == LINK_DOSBOX && roster_of_node(&other->roster, node) != NULL)
             return true;
     return false;
 }

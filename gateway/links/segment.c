@@ -54,18 +54,18 @@ void segment_change(network *on)
 {
     bool is_tunnel = on->set->type == LINK_DOSBOX;
     ipxr_link to = {.kind = !on->is_up ? IPXR_LINK_DOWN : is_tunnel ? IPXR_LINK_SURE : IPXR_LINK_CABLE, .share = share_of(on->set)};
-    ipxr_client client;
+    ipxr_keyed_member client;
     if (on->segment == NULL)
         return;
     ipxr_segment_change(on->segment, on->link, &to);
-    for (size_t k = 0; is_tunnel && ipxr_tunnel_client(&on->tunnel, k, &client) == 0; k++)
-        ipxr_segment_come(on->segment, on->link, client.place);
+    for (size_t k = 0; is_tunnel && ipxr_keyed_client(&on->tunnel, k, &client) == 0; k++)
+        ipxr_segment_come(on->segment, on->link, client.node);
 }
 
-void segment_client(network *on, const uint8_t place[NODE], bool comes)
+void segment_client(network *on, const uint8_t node[NODE], bool comes)
 {
     if (on->segment != NULL)
-        (comes ? ipxr_segment_come : ipxr_segment_leave)(on->segment, on->link, place);
+        (comes ? ipxr_segment_come : ipxr_segment_leave)(on->segment, on->link, node);
 }
 
 /* ---- Packets ---- */

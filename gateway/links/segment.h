@@ -15,8 +15,8 @@ void segment_begin(gateway *it, port *router_port);
 /* A link went up or down. */
 void segment_change(network *on);
 
-/* A client came to a tunnel that is a link, or left it. */
-void segment_client(network *on, const uint8_t place[6], bool comes);
+/* A client with that node came to a tunnel that is a link, or left it. */
+void segment_client(network *on, const uint8_t node[6], bool comes);
 
 /* What came of a packet that was heard at a link. */
 typedef struct heard {

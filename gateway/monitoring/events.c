@@ -4,6 +4,7 @@
 #include <inttypes.h>
 #include <string.h>
 
+#include "configuration/words.h"
 #include "links/links.h"
 #include "monitoring/note.h"
 #include "monitoring/sheet.h"
@@ -60,16 +61,18 @@ static void put_number(happening *h, const char *key, unsigned number)
 
 /* ---- Clients and links ---- */
 
-void events_client(const network *on, const uint8_t place[6], bool comes)
+void events_client(const network *on, const uint8_t node[6], const address *at, bool comes)
 {
-    char node[WORDS];
+    char words[WORDS], where[ADDRESS_ROOM];
     happening h;
     if (!status_is_followed())
         return;
     begin(&h, comes ? "client comes" : "client leaves");
-    sheet_put(&h.line, "client %s %s %08" PRIX32, node_words(place, node), comes ? "comes to" : "leaves", on->set->network);
+    sheet_put(&h.line, "client %s %s %08" PRIX32 ", %s", node_words(node, words), comes ? "comes to" : "leaves", on->set->network,
+              address_words(at, where));
     put_network(&h, "network", on->set->network);
-    put_text(&h, "client", node);
+    put_text(&h, "client", words);
+    put_text(&h, "address", where);
     tell(&h);
 }
 

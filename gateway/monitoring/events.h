@@ -5,7 +5,7 @@
 #include "gateway.h"
 
 /* A client came or left; a network, or a link of one, went up or down, or lacks something else; the configuration has it no more. */
-void events_client(const network *on, const uint8_t place[6], bool comes);
+void events_client(const network *on, const uint8_t node[6], const address *at, bool comes);
 void events_link(const network *on);
 void events_removed(const network *on);
 

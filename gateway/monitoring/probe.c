@@ -71,7 +71,7 @@ static network *own_network(gateway *it, uint32_t number, const uint8_t node[NOD
         network *on = &it->networks[k];
         if (on->set->network != number)
             continue;
-        if (on->set->type == LINK_DOSBOX && roster_find(&on->roster, node) != NULL)
+        if (on->set->type == LINK_DOSBOX && roster_of_node(&on->roster, node) != NULL)
             return on;
         if (found == NULL || found->set->type == LINK_DOSBOX)
             found = on;
@@ -201,7 +201,7 @@ void probe_ping(gateway *it, viewer *v, const char *word, unsigned number)
         viewer_complain(v, why, p->to.network);
         return;
     }
-    if (on->set->type == LINK_DOSBOX && on->set->network == p->to.network && roster_find(&on->roster, p->to.node) == NULL) {
+    if (on->set->type == LINK_DOSBOX && on->set->network == p->to.network && roster_of_node(&on->roster, p->to.node) == NULL) {
         viewer_complain(v, "%s is no client", station_words(&p->to, words));
         return;
     }

@@ -115,7 +115,7 @@ static bool next_client(gateway *it, cursor *so_far, sheet *s)
     so_far->index++;
     record_begin(s, CLIENT_COLUMNS);
     field_network(s, it->networks[so_far->network].set->network);
-    field_node(s, client.place);
+    field_node(s, client.node);
     field_text(s, address_words(&client.at, place));
     field_flag(s, client.is_trusted);
     field_number(s, (uint64_t)heard_of(it, &it->networks[so_far->network], &client));

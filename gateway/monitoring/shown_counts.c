@@ -28,7 +28,7 @@ static uint64_t value_on(network *on, size_t index)
     case UP:
         return on->is_up;
     case CLIENTS:
-        return ipxr_tunnel_clients(&on->tunnel);
+        return ipxr_keyed_clients(&on->tunnel);
     default:
         return index < DROPPED ? it->packets.lost[index - LOST] : it->packets.dropped[index - DROPPED];
     }

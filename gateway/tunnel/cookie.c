@@ -13,7 +13,7 @@ void cookie_make(const uint8_t key[SIPHASH_KEY], const uint8_t place[6], uint64_
     put32(text + NODE, (uint32_t)(minute >> 32));
     put32(text + NODE + 4, (uint32_t)minute);
     uint64_t hash = siphash(key, text, sizeof text);
-    cookie[0] = LOCAL_NODE;
+    cookie[0] = COOKIE_NODE;
     for (int k = 1; k < NODE; k++)
         cookie[k] = (uint8_t)(hash >> 8 * k);
 }

@@ -5,6 +5,9 @@
 
 #include "ipx.h"
 
+/* Seconds that are left for a registration when the library pings him who registered, for the first time. */
+enum { PINGED_AT = 2 };
+
 bool roster_make(roster *it, size_t room)
 {
     memset(it, 0, sizeof *it);
@@ -44,7 +47,15 @@ member *roster_find(roster *it, const uint8_t place[6])
     return NULL;
 }
 
-void roster_add(roster *it, const uint8_t place[6], bool is_trusted, bool is_by_line)
+member *roster_of_node(roster *it, const uint8_t node[6])
+{
+    for (size_t k = 0; k < it->count; k++)
+        if (same_node(it->list[k].node, node))
+            return &it->list[k];
+    return NULL;
+}
+
+void roster_add(roster *it, const uint8_t place[6], const uint8_t node[6], bool is_trusted, bool is_by_line)
 {
     if (it->count == it->room)
         return;
@@ -54,6 +65,7 @@ void roster_add(roster *it, const uint8_t place[6], bool is_trusted, bool is_by_
     memset(queues, 0, sizeof *queues);
     added->queues = queues;
     memcpy(added->place, place, NODE);
+    memcpy(added->node, node, NODE);
     added->speaks = speaker_join(place);
     added->is_trusted = is_trusted;
     added->is_by_line = is_by_line;
@@ -78,4 +90,14 @@ int roster_silence(const member *it, uint64_t second, int told)
 {
     bool has_answered = (uint64_t)told < second - it->kept;
     return has_answered ? told : told + it->silent;
+}
+
+void roster_registers(member *it, uint64_t second, uint8_t left)
+{
+    it->unpinged = left > PINGED_AT ? second + left - PINGED_AT : 0;
+}
+
+bool roster_waits(const member *it, uint64_t second)
+{
+    return second < it->unpinged;
 }

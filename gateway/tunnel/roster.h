@@ -25,6 +25,7 @@ typedef enum {
 
 typedef struct member {
     uint8_t place[6];
+    uint8_t node[6];
     uint64_t refused; /* datagrams for it that the system didn't take */
     uint64_t dropped[DROPS];
     speaker *speaks;  /* its address */
@@ -34,6 +35,7 @@ typedef struct member {
     asked ping;       /* the last that it was sent */
     uint64_t kept;    /* the tunnels' second in which a reload kept it, or 0, */
     int silent;       /* and seconds since it had answered then */
+    uint64_t unpinged;  /* the tunnels' second from which on it is pinged, since it waits for no answer to its registration any more; or 0 */
     ipxr_client_use used; /* of its limits, */
     uint64_t used_clock;  /* when that was looked at last */
 } member;
@@ -53,12 +55,20 @@ void roster_free(roster *it);
 /* The client at a place, or NULL. Who asks for one behind the other, in their order, or for one again, is answered at once. */
 member *roster_find(roster *it, const uint8_t place[6]);
 
+/* The client that has a node, or NULL. */
+member *roster_of_node(roster *it, const uint8_t node[6]);
+
 /* A client comes, whose address is trusted or not, and which is reached by the narrow line or not. */
-void roster_add(roster *it, const uint8_t place[6], bool is_trusted, bool is_by_line);
+void roster_add(roster *it, const uint8_t place[6], const uint8_t node[6], bool is_trusted, bool is_by_line);
 void roster_remove(roster *it, const uint8_t place[6]);
 
 /* Seconds since a client answered: its tunnel, which a reload may have made, says how many in this second of the tunnels. (an answer in the
  * second of the reload, but behind it, isn't seen) */
 int roster_silence(const member *it, uint64_t second, int told);
+
+/* In a second of the tunnels there are so many left for which a client's registration is remembered. And whether it may wait for the answer to
+ * that: a DOSBox takes whatever comes first for it, within five seconds, so the tunnel doesn't ping it for seven. */
+void roster_registers(member *it, uint64_t second, uint8_t left);
+bool roster_waits(const member *it, uint64_t second);
 
 #endif

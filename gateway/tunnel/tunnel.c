@@ -1,9 +1,10 @@
-/* A client's node is the place where its datagrams come from: four bytes of address, two of port. Who wants to be one has to answer a ping
- * whose source node he can't guess, a cookie; so nobody comes in by a forged address, and who is gone is known by his silence. */
+/* A client's node is a hash of the place where its datagrams come from, with a key that only the gateway has. Who wants to be one has to say
+ * something by that node soon, which only the answer to his registration tells, or to answer a ping whose source node he can't guess, a cookie.
+ * So nobody comes in by a forged address, and who is gone is known by his silence. Datagrams have places, packets have nodes: who is answered,
+ * pinged or told of is found by his place, and whom a packet is for by his node. */
 #include "tunnel/tunnel.h"
 
 #include <inttypes.h>
-#include <stdio.h>
 #include <string.h>
 
 #include "configuration/words.h"
@@ -14,16 +15,22 @@
 #include "monitoring/capture.h"
 #include "monitoring/events.h"
 #include "monitoring/note.h"
-#include "monitoring/output.h"
 #include "systems/clock.h"
 #include "tunnel/cookie.h"
+#include "tunnel/nodes.h"
 #include "tunnel/place.h"
-
-/* Seconds with which a client is kept: from its answer on, and from each word of one that is trusted. */
-enum { ANSWER_LASTS = 30, TRUST_LASTS = 180 };
 
 /* Seconds for which a cookie is a place's own. The one before counts too. */
 enum { MINUTE = 60 };
+
+/* Registrations that a tunnel remembers for nine seconds, and those of one address. */
+enum { MOST_REMEMBERED = 1024, MOST_REMEMBERED_OF_ONE = 64 };
+
+/* The datagrams that a stranger's registration brings upon his place: two answers and two pings. */
+enum { FOR_REGISTRATION = 4 };
+
+/* The socket of registrations and pings. */
+#define TUNNEL_SOCKET 2
 
 /* Milliseconds from one line about an address that isn't allowed to the next, and to the next about the same. */
 enum { BETWEEN = 1000, BETWEEN_SAME = 60000 };
@@ -32,18 +39,19 @@ enum { BETWEEN = 1000, BETWEEN_SAME = 60000 };
 
 int32_t tunnel_open(const gateway *it, network *on)
 {
-    ipxr_tunnel_setting set = {.network = on->set->network, .capacity = on->set->clients, .share = on->set->per_address};
+    ipxr_keyed_setting set = {.network = on->set->network, .capacity = on->set->clients, .share = on->set->per_address,
+                              .remembered = MOST_REMEMBERED, .remembered_share = MOST_REMEMBERED_OF_ONE};
     memcpy(set.node, on->node, NODE);
     throttle_set(&on->throttle, on->set);
     if (!roster_make(&on->roster, on->set->clients) || !strangers_make(&on->strangers, on->set->strangers, it->key) ||
         !pings_make(&on->pings, on->set->kilobits > 0 ? on->set->clients : 0))
         return IPXR_OUT_OF_MEMORY;
-    return ipxr_tunnel_make(&on->tunnel, &set);
+    return ipxr_keyed_make(&on->tunnel, &set);
 }
 
 void tunnel_close(network *on)
 {
-    ipxr_tunnel_free(&on->tunnel);
+    ipxr_keyed_free(&on->tunnel);
     roster_free(&on->roster);
     strangers_free(&on->strangers);
     pings_free(&on->pings);
@@ -80,7 +88,7 @@ static void send_one(network *on, const ipxr_own *own, member *to)
 static void send_own(network *on, member *to)
 {
     ipxr_own own;
-    for (size_t k = 0; ipxr_tunnel_own(&on->tunnel, k, &own) == 0; k++)
+    for (size_t k = 0; ipxr_keyed_own(&on->tunnel, k, &own) == 0; k++)
         send_one(on, &own, to);
 }
 
@@ -107,7 +115,7 @@ static size_t send_carried(network *on, const origin *by, const uint8_t *packet,
 {
     uint8_t place[NODE];
     size_t dropped = 0;
-    if (ipxr_tunnel_receivers(&on->tunnel) == 0)
+    if (ipxr_keyed_receivers(&on->tunnel) == 0)
         return 0;
     uint8_t queue = throttle_queue(by);
     if (on->set->kilobits > 0 && queue == OF_PINGS)
@@ -115,7 +123,7 @@ static size_t send_carried(network *on, const origin *by, const uint8_t *packet,
     else if (on->set->kilobits > 0)
         line_begin(by != NULL ? by->line : NULL, length);
     outgoing_begin(on, packet, length);
-    for (size_t k = 0; ipxr_tunnel_receiver(&on->tunnel, k, place) == 0; k++) {
+    for (size_t k = 0; ipxr_keyed_receiver(&on->tunnel, k, place) == 0; k++) {
         if (why_not(on, place, queue, length) == REASONS)
             outgoing_copy(on, place);
         else
@@ -127,7 +135,7 @@ static size_t send_carried(network *on, const origin *by, const uint8_t *packet,
 /* Whether a client gets what the router itself says to it alone: an answer. (somebody may ask in its name) */
 static bool lets_router_answer(network *on, const origin *by, const uint8_t *node)
 {
-    member *to = by == NULL && !is_broadcast(node) ? roster_find(&on->roster, node) : NULL;
+    member *to = by == NULL && !is_broadcast(node) ? roster_of_node(&on->roster, node) : NULL;
     return to == NULL || throttle_lets_router_answer(&on->throttle, to);
 }
 
@@ -137,53 +145,78 @@ void tunnel_send(network *on, const origin *by, const uint8_t *node, const uint8
         gateway_lose(on, TOO_MANY_ANSWERS);
         return;
     }
-    ipxr_tunnel_send(&on->tunnel, node);
-    if (ipxr_tunnel_receivers(&on->tunnel) == 0 && !is_broadcast(node) && on->segment == NULL)
+    ipxr_keyed_send(&on->tunnel, node);
+    if (ipxr_keyed_receivers(&on->tunnel) == 0 && !is_broadcast(node) && on->segment == NULL)
         gateway_lose(on, NO_CLIENT); /* (else it may be a station of another link) */
     (void)send_carried(on, by, packet, length);
 }
 
 /* ---- Who comes and who leaves ---- */
 
-void tunnel_list(network *on, const uint8_t place[NODE])
+void tunnel_list(network *on, const uint8_t place[NODE], const uint8_t node[NODE])
 {
     address at = address_of(place);
-    roster_add(&on->roster, place, ranges_have(&on->set->trusted, &at), on->set->kilobits > 0);
+    roster_add(&on->roster, place, node, ranges_have(&on->set->trusted, &at), on->set->kilobits > 0);
 }
 
-void tunnel_tell_comes(network *on, const uint8_t place[NODE])
+/* Tells that a client comes or leaves, with its address: by that the operator may refuse it. */
+static void tell(network *on, const uint8_t place[NODE], const uint8_t node[NODE], bool comes)
 {
-    char words[WORDS];
-    tunnel_list(on, place);
-    segment_client(on, place, true);
-    event("client %s comes to %08" PRIX32, node_words(place, words), on->set->network);
-    events_client(on, place, true);
+    char words[WORDS], where[ADDRESS_ROOM];
+    address at = address_of(place);
+    event("client %s %s %08" PRIX32 ", %s", node_words(node, words), comes ? "comes to" : "leaves", on->set->network,
+          address_words(&at, where));
+    events_client(on, node, &at, comes);
 }
 
-void tunnel_tell_leaves(network *on, const uint8_t place[NODE])
+void tunnel_note_registration(const gateway *it, network *on, member *client)
 {
-    char words[WORDS];
+    ipxr_keyed_member waiter;
+    for (size_t k = 0; ipxr_keyed_waiter(&on->tunnel, k, &waiter) == 0; k++)
+        if (same_node(waiter.place, client->place))
+            roster_registers(client, it->seconds, waiter.seconds_left);
+}
+
+/* Tells of the client that came last. */
+static void tell_comes(const gateway *it, network *on)
+{
+    ipxr_keyed_member last;
+    if (ipxr_keyed_client(&on->tunnel, ipxr_keyed_clients(&on->tunnel) - 1, &last) != 0)
+        return;
+    tunnel_list(on, last.place, last.node);
+    member *listed = roster_find(&on->roster, last.place);
+    if (listed != NULL)
+        tunnel_note_registration(it, on, listed);
+    segment_client(on, last.node, true);
+    tell(on, last.place, last.node, true);
+}
+
+void tunnel_tell_leaves(network *on, const uint8_t place[NODE], const uint8_t node[NODE])
+{
     roster_remove(&on->roster, place);
-    segment_client(on, place, false);
-    event("client %s leaves %08" PRIX32, node_words(place, words), on->set->network);
-    events_client(on, place, false);
+    segment_client(on, node, false);
+    tell(on, place, node, false);
 }
 
-/* Whether so many datagrams may go to a stranger now. */
+/* ---- Pings, and second answers ---- */
+
+/* Whether the line has room for a stranger now. */
+static bool has_line_for_stranger(const network *on, const uint8_t place[NODE])
+{
+    return !are_by_line(on) || line_lets_stranger(on->strangers.key, place);
+}
+
+/* Whether so many datagrams may go to a stranger now, or soon. */
 static bool lets_stranger(network *on, const uint8_t place[NODE], uint32_t count)
 {
-    return (!are_by_line(on) || line_lets_stranger(on->strangers.key, place)) && strangers_let(&on->strangers, place, count);
+    return has_line_for_stranger(on, place) && strangers_let(&on->strangers, place, count);
 }
 
-/* Pings those again who registered lately and haven't come in, as far as strangers may be answered. */
-static void ping_again(network *on)
+/* Whether a client's registration or ping is answered now. (somebody may ask in its name, so that it would hear nothing else) */
+static bool lets_answer(network *on, member *to)
 {
-    strangers_second(&on->strangers, &on->roster);
-    for (size_t k = 0; k < MOST_NEW; k++) {
-        const ipxr_own *ping = strangers_due(&on->strangers, k);
-        if (ping != NULL && lets_stranger(on, ping->place, 1))
-            send_one(on, ping, NULL);
-    }
+    bool has_room = on->set->kilobits == 0 || line_lets_answer(&to->speaks->line);
+    return has_room && throttle_lets_answer(&on->throttle, to);
 }
 
 /* Pings a client, and again until it answers. */
@@ -197,25 +230,38 @@ static void ping_one(network *on, const ipxr_own *own)
         asked_ping(&to->ping, &on->asks, on->strangers.key, own);
 }
 
-/* Pings clients: by a narrow line one after the other, later. */
-static void ping(network *on)
+/* Pings a client: by a narrow line one after the other, later. */
+static void ping(network *on, const ipxr_own *own)
 {
-    ipxr_own own;
-    for (size_t k = 0; ipxr_tunnel_own(&on->tunnel, k, &own) == 0; k++)
-        if (!pings_add(&on->pings, &own))
-            ping_one(on, &own);
-    if (on->pings.count > 0)
-        pings_pace(&on->pings, line_between_pings(sizeof own.bytes));
+    if (!pings_add(&on->pings, own))
+        ping_one(on, own);
+}
+
+/* Somebody who registered lately is answered again, or pinged, where there is room: for him it was asked then. A client is pinged in any case:
+ * the tunnel asks it in no other way meanwhile, so that it would leave by what others do with the line. */
+static void send_again(network *on, const ipxr_own *own)
+{
+    member *to = roster_find(&on->roster, own->place);
+    if (to != NULL && is_broadcast(own->bytes + AT_TO_NODE))
+        ping(on, own);
+    else if (to != NULL ? lets_answer(on, to) : has_line_for_stranger(on, own->place))
+        send_one(on, own, to);
+    else
+        counts_lose(&on->counts, to != NULL ? TOO_MANY_ANSWERS : TOO_MANY_STRANGERS);
 }
 
 void tunnel_second(network *on)
 {
-    uint8_t place[NODE];
-    ipxr_tunnel_second(&on->tunnel);
-    for (size_t k = 0; ipxr_tunnel_leaver(&on->tunnel, k, place) == 0; k++)
-        tunnel_tell_leaves(on, place);
-    ping(on);
-    ping_again(on);
+    ipxr_own own;
+    ipxr_keyed_member gone;
+    ipxr_keyed_second(&on->tunnel);
+    for (size_t k = 0; ipxr_keyed_leaver(&on->tunnel, k, &gone) == 0; k++)
+        tunnel_tell_leaves(on, gone.place, gone.node);
+    size_t pings = ipxr_keyed_pings(&on->tunnel);
+    for (size_t k = 0; ipxr_keyed_own(&on->tunnel, k, &own) == 0; k++)
+        (k < pings ? ping : send_again)(on, &own);
+    if (on->pings.count > 0)
+        pings_pace(&on->pings, line_between_pings(sizeof own.bytes));
 }
 
 /* Pings a client once more that hasn't answered; by a narrow line only while that is nearly idle. */
@@ -228,24 +274,34 @@ static void ping_once_more(network *on, const ipxr_own *ping)
     send_counted(on, ping, true);
 }
 
-static void ping_unanswered(network *on)
+/* (one that waits for the answer to its registration would take a ping for it) */
+static void ping_unanswered(const gateway *it, network *on)
 {
     for (size_t k = 0; k < on->roster.count; k++) {
-        asked *of = &on->roster.list[k].ping;
-        if (asked_is_due(of, &on->asks)) {
-            ping_once_more(on, &of->ping);
-            asked_again(of, &on->asks, on->strangers.key);
-        }
+        member *to = &on->roster.list[k];
+        if (!asked_is_due(&to->ping, &on->asks))
+            continue;
+        if (!roster_waits(to, it->seconds))
+            ping_once_more(on, &to->ping.ping);
+        asked_again(&to->ping, &on->asks, on->strangers.key);
     }
 }
 
-void tunnel_ping(network *on)
+/* The next ping that waits has its turn, unless its client left meanwhile, or registered: that will be pinged again. */
+static void ping_next(const gateway *it, network *on, const ipxr_own *next)
+{
+    const member *to = roster_find(&on->roster, next->place);
+    if (to != NULL && !roster_waits(to, it->seconds))
+        ping_one(on, next);
+}
+
+void tunnel_ping(const gateway *it, network *on)
 {
     const ipxr_own *next;
     while ((next = pings_due(&on->pings)) != NULL)
-        ping_one(on, next);
+        ping_next(it, on, next);
     if (asks_are_due(&on->asks))
-        ping_unanswered(on);
+        ping_unanswered(it, on);
 }
 
 /* ---- Hearing ---- */
@@ -256,11 +312,13 @@ bool tunnel_lets_in(const network_setting *set, const address *from)
     return set->allowed.count == 0 || ranges_have(&set->allowed, from) || ranges_have(&set->trusted, from);
 }
 
-ipxr_sender tunnel_sender(const gateway *it, const network *on, const address *from)
+ipxr_keyed_sender tunnel_sender(const gateway *it, const network *on, const address *from)
 {
-    ipxr_sender sender = {.is_trusted = ranges_have(&on->set->trusted, from)};
+    ipxr_keyed_sender sender = {.is_trusted = ranges_have(&on->set->trusted, from), .may_register = true};
     uint64_t minute = it->seconds / MINUTE;
     place_of(from, sender.place);
+    node_make(it->nodes, sender.place, sender.node);
+    memcpy(sender.former, on->set->nodes_by_address ? sender.place : sender.node, NODE);
     cookie_make(it->key, sender.place, minute, sender.current);
     cookie_make(it->key, sender.place, minute - 1, sender.previous);
     return sender;
@@ -270,9 +328,11 @@ ipxr_sender tunnel_sender(const gateway *it, const network *on, const address *f
 typedef struct incoming {
     gateway *it;
     const address *from;
-    ipxr_sender sender;
+    ipxr_keyed_sender sender;
     uint8_t *bytes;
     size_t length;
+    bool is_held_back;    /* a stranger registers, and too many were answered lately */
+    bool is_remembered;   /* his registration is, from now on */
     int32_t said;         /* what the tunnel took it for; */
     bool has_own;         /* whether this has a datagram of its own for its sender, */
     bool is_received;     /* clients get it, */
@@ -289,46 +349,64 @@ static bool has_replied(const member *from, int32_t said)
     return said == IPXR_ANSWERS || (from->is_trusted && said != IPXR_SAID_NOTHING);
 }
 
+/* Whether a datagram registers. */
+static bool is_registration(const incoming *in)
+{
+    return has_length(in->bytes, in->length) && get16(in->bytes + AT_TO_SOCKET) == TUNNEL_SOCKET && is_no_node(in->bytes + AT_TO_NODE);
+}
+
+/* Whether a datagram is a stranger's who registers, and isn't answered now, nor remembered. (this is asked before the tunnel hears it, since
+ * that may bring all four datagrams upon him) */
+static bool holds_back(const incoming *in)
+{
+    network *on = in->carried.on;
+    return is_registration(in) && roster_find(&on->roster, in->sender.place) == NULL &&
+           !lets_stranger(on, in->sender.place, FOR_REGISTRATION);
+}
+
+/* The client who said something, or NULL. A client is a place with a node: who says something there by another node is a stranger, and so is
+ * who registers there, whose answer would tell him the place's own node. */
+static member *client_of(const incoming *in)
+{
+    const uint8_t *node = in->said == IPXR_REGISTERS ? in->sender.node : in->bytes + AT_FROM_NODE;
+    member *it = in->said != IPXR_SAID_NOTHING ? roster_find(&in->carried.on->roster, in->sender.place) : NULL;
+    return it != NULL && same_node(it->node, node) ? it : NULL;
+}
+
+/* A client said something that counts. */
+static void note_client(incoming *in)
+{
+    member *from = in->client;
+    in->by = (origin){from->speaks, from, ipxr_kind_of(in->bytes, in->carried.length), &from->speaks->line};
+    if (has_replied(from, in->said)) {
+        ipxr_asked_answer(&from->ping.moment);
+        from->silent = 0;
+    }
+    if (in->is_remembered)
+        tunnel_note_registration(in->it, in->carried.on, from);
+    segment_client(in->carried.on, from->node, true); /* (it may be a client at another link of the network, too) */
+}
+
 /* The tunnel hears a datagram, which may make its sender a client. (a driver clears its control; DOSBox' leaves there what the program left) */
 static void let_tunnel_hear(incoming *in)
 {
     network *on = in->carried.on;
     if (in->length >= HEADER)
         in->bytes[AT_CONTROL] = 0;
-    size_t before = ipxr_tunnel_clients(&on->tunnel);
-    in->said = ipxr_tunnel_hear(&on->tunnel, &in->sender, in->bytes, in->length);
-    in->carried.length = ipxr_tunnel_carried(&on->tunnel);
-    in->has_own = ipxr_tunnel_owns(&on->tunnel) > 0;
-    in->is_received = ipxr_tunnel_receivers(&on->tunnel) > 0;
-    in->is_for_router = ipxr_tunnel_is_heard(&on->tunnel) == 1;
-    if (ipxr_tunnel_clients(&on->tunnel) > before)
-        tunnel_tell_comes(on, in->sender.place);
-    in->client = roster_find(&on->roster, in->sender.place);
-    if (in->client == NULL)
-        return;
-    in->by = (origin){in->client->speaks, in->client, ipxr_kind_of(in->bytes, in->carried.length), &in->client->speaks->line};
-    if (has_replied(in->client, in->said)) {
-        ipxr_asked_answer(&in->client->ping.moment);
-        in->client->silent = 0;
-    }
-    if (in->said != IPXR_SAID_NOTHING)
-        segment_client(on, in->client->place, true); /* (it may be a client at another link of the network, too) */
-}
-
-/* Whether a client's registration or ping is answered now. (somebody may ask in its name, so that it would hear nothing else) */
-static bool lets_answer(network *on, member *to)
-{
-    bool has_room = on->set->kilobits == 0 || line_lets_answer(&to->speaks->line);
-    return has_room && throttle_lets_answer(&on->throttle, to);
-}
-
-/* Answers a stranger who registers, and pings him; he is pinged again. */
-static void answer_stranger(network *on)
-{
-    ipxr_own last;
-    send_own(on, NULL);
-    if (ipxr_tunnel_own(&on->tunnel, ipxr_tunnel_owns(&on->tunnel) - 1, &last) == 0 && is_broadcast(last.bytes + AT_TO_NODE))
-        strangers_keep(&on->strangers, &last);
+    in->is_held_back = holds_back(in);
+    in->sender.may_register = !in->is_held_back;
+    size_t before = ipxr_keyed_clients(&on->tunnel), remembered = ipxr_keyed_waiters(&on->tunnel);
+    in->said = ipxr_keyed_hear(&on->tunnel, &in->sender, in->bytes, in->length);
+    in->carried.length = ipxr_keyed_carried(&on->tunnel);
+    in->has_own = ipxr_keyed_owns(&on->tunnel) > 0;
+    in->is_received = ipxr_keyed_receivers(&on->tunnel) > 0;
+    in->is_for_router = ipxr_keyed_is_heard(&on->tunnel) == 1;
+    if (ipxr_keyed_clients(&on->tunnel) > before)
+        tell_comes(in->it, on);
+    in->is_remembered = ipxr_keyed_waiters(&on->tunnel) > remembered;
+    in->client = client_of(in);
+    if (in->client != NULL)
+        note_client(in);
 }
 
 /* What a client said goes to the other links of its network. Returns whether any of them gets it. */
@@ -338,7 +416,16 @@ static bool carry_over(gateway *it, network *on, const origin *by, const uint8_t
     if (on->segment == NULL)
         return false;
     segment_next(on, packet, to);
-    return segment_hear(it, on, by, by->client->place, to, packet, length).links > 0;
+    return segment_hear(it, on, by, by->client->node, to, packet, length).links > 0;
+}
+
+/* Whether what a client says may go to the other links of its network. What it tells as a router may only if it is trusted: a router there would
+ * learn more than this network's share, and be told so much that it hears nobody else. */
+static bool may_go_over(incoming *in)
+{
+    bool may = in->by.kind != IPXR_KIND_TOLD || in->client->is_trusted;
+    in->client->dropped[DROPPED_FOR_ROUTER] += !may && in->carried.on->segment != NULL;
+    return may;
 }
 
 /* Sends what a client said before the router, which sends too, hears it. */
@@ -346,7 +433,8 @@ static void carry(incoming *in)
 {
     arrived *what = &in->carried;
     in->client->dropped[DROPPED_OF_IT] += send_carried(what->on, what->by, what->packet, what->length);
-    in->is_carried = carry_over(in->it, what->on, what->by, what->packet, what->length) || in->is_received;
+    bool goes_over = may_go_over(in) && carry_over(in->it, what->on, what->by, what->packet, what->length);
+    in->is_carried = goes_over || in->is_received;
 }
 
 /* Whether it is for routers of another network, or goes there, too, since it is propagated. Where it names no network as its source, they would
@@ -403,16 +491,17 @@ static uint16_t answer(incoming *in, uint8_t next)
     case IPXR_NEXT_DATAGRAM_IS_TOO_LONG:
         return in->length > on->set->longest;
     case IPXR_NEXT_DATAGRAM_CAPTURE:
-        capture_packet(in->bytes, in->length, in->sender.place);
+        capture_packet(in->bytes, in->length, in->sender.node);
         return 0;
     case IPXR_NEXT_DATAGRAM_IS_ALLOWED:
         return tunnel_lets_in(on->set, in->from);
     case IPXR_NEXT_DATAGRAM_HEAR:
         let_tunnel_hear(in);
-        return (uint16_t)in->said;
+        return (uint16_t)(in->is_held_back ? IPXR_REGISTERS : in->said);
     case IPXR_NEXT_DATAGRAM_IS_PACKET:
         return has_length(in->bytes, in->length);
     case IPXR_NEXT_DATAGRAM_IS_ANSWERED:
+        return in->has_own || in->is_held_back;
     case IPXR_NEXT_DATAGRAM_IS_PINGED:
         return in->has_own;
     case IPXR_NEXT_DATAGRAM_IS_CLIENT:
@@ -425,11 +514,10 @@ static uint16_t answer(incoming *in, uint8_t next)
         send_own(on, in->client);
         return 0;
     case IPXR_NEXT_DATAGRAM_LETS_STRANGER:
+        return !in->is_held_back;
     case IPXR_NEXT_DATAGRAM_LETS_PING:
-        return lets_stranger(on, in->sender.place, (uint32_t)ipxr_tunnel_owns(&on->tunnel));
+        return lets_stranger(on, in->sender.place, 1);
     case IPXR_NEXT_DATAGRAM_ANSWER_STRANGER:
-        answer_stranger(on);
-        return 0;
     case IPXR_NEXT_DATAGRAM_PING:
         send_own(on, NULL);
         return 0;
@@ -461,58 +549,4 @@ void tunnel_hear(gateway *it, network *on, uint8_t *bytes, size_t length, const 
     gateway_settle(it, &in.carried, &way);
     if (way.fate == IPXR_FATE_LOST && way.number == NOT_ALLOWED)
         tell_refused(on, from);
-}
-
-/* ---- Reports ---- */
-
-bool tunnel_client(network *on, size_t index, known_client *client)
-{
-    ipxr_client listed;
-    if (ipxr_tunnel_client(&on->tunnel, index, &listed) != 0)
-        return false;
-    const member *known = roster_find(&on->roster, listed.place);
-    memset(client, 0, sizeof *client);
-    memcpy(client->place, listed.place, NODE);
-    client->at = address_of(listed.place);
-    client->is_trusted = ranges_have(&on->set->trusted, &client->at);
-    client->heard = (client->is_trusted ? TRUST_LASTS : ANSWER_LASTS) - listed.seconds_left;
-    if (known != NULL) {
-        client->refused = known->refused;
-        memcpy(client->dropped, known->dropped, sizeof client->dropped);
-    }
-    return true;
-}
-
-/* What was dropped of a client, behind its line. */
-static void show_dropped(const known_client *it)
-{
-    static const char *const OF[DROPS] = {[DROPPED_FOR_IT] = "for it", [DROPPED_OF_IT] = "copies of what it said",
-        [DROPPED_PINGS] = "pings", [DROPPED_QUESTIONS] = "questions", [DROPPED_ADVERTISEMENTS] = "advertisements",
-        [DROPPED_FOR_ROUTER] = "for the router", [DROPPED_ANSWERS] = "answers"};
-    char words[240] = "";
-    size_t length = 0;
-    for (int k = 0; k < DROPS; k++)
-        if (it->dropped[k] > 0)
-            length += (size_t)snprintf(words + length, sizeof words - length, "%s %" PRIu64 " %s", length > 0 ? "," : "",
-                                       it->dropped[k], OF[k]);
-    if (length > 0)
-        say("      dropped:%s", words);
-}
-
-static void show_client(const known_client *client)
-{
-    char node[WORDS], refused[40] = "";
-    if (client->refused > 0)
-        snprintf(refused, sizeof refused, ", %" PRIu64 " not sent", client->refused);
-    say("    %s, %s %d s ago%s", node_words(client->place, node), client->is_trusted ? "trusted, heard" : "answered", client->heard,
-        refused);
-    show_dropped(client);
-}
-
-void tunnel_show(network *on)
-{
-    known_client client;
-    say("  clients: %zu of %u", ipxr_tunnel_clients(&on->tunnel), on->set->clients);
-    for (size_t k = 0; tunnel_client(on, k, &client); k++)
-        show_client(&client);
 }

@@ -11,11 +11,11 @@ void tunnel_close(network *on);
 /* A datagram came on a network of the tunnel. Its bytes stay where they are until gateway_flush. */
 void tunnel_hear(gateway *it, network *on, uint8_t *bytes, size_t length, const address *from);
 
-/* A second passed: who doesn't answer leaves, and who is silent is asked. */
+/* A second passed: who doesn't answer leaves, who is silent is asked, and who registered lately is answered again, and then pinged. */
 void tunnel_second(network *on);
 
 /* Pings clients whose pings wait for room on a narrow line, and those again that haven't answered, as far as it is time. */
-void tunnel_ping(network *on);
+void tunnel_ping(const gateway *it, network *on);
 
 /* Sends a packet of the router's to the client that has a node, or to all. Its bytes stay where they are until gateway_flush. */
 void tunnel_send(network *on, const origin *by, const uint8_t *node, const uint8_t *packet, size_t length);
@@ -24,20 +24,23 @@ void tunnel_send(network *on, const origin *by, const uint8_t *node, const uint8
 
 /* Whether a network lets somebody in who sends from that address; and who he is for the library. */
 bool tunnel_lets_in(const network_setting *set, const address *from);
-ipxr_sender tunnel_sender(const gateway *it, const network *on, const address *from);
+ipxr_keyed_sender tunnel_sender(const gateway *it, const network *on, const address *from);
 
 /* Puts a client into the list of clients. */
-void tunnel_list(network *on, const uint8_t place[6]);
+void tunnel_list(network *on, const uint8_t place[6], const uint8_t node[6]);
 
-/* Tells that somebody comes, or leaves, and keeps the list of clients so. */
-void tunnel_tell_comes(network *on, const uint8_t place[6]);
-void tunnel_tell_leaves(network *on, const uint8_t place[6]);
+/* Notes of a client whether its registration is remembered, with how many seconds. */
+void tunnel_note_registration(const gateway *it, network *on, member *client);
 
-/* ---- Reports ---- */
+/* Tells that a client leaves, and takes it from the list. */
+void tunnel_tell_leaves(network *on, const uint8_t place[6], const uint8_t node[6]);
+
+/* ---- Reports (clients.c) ---- */
 
 /* A client as the gateway tells of it. */
 typedef struct known_client {
     uint8_t place[6];
+    uint8_t node[6];
     address at;
     bool is_trusted;
     int heard;        /* seconds since it answered, or, where it is trusted, said anything */

@@ -18,7 +18,7 @@ SECONDS = 2  # that a flood lasts
 LOOKED_FOR = 12  # seconds in which the kernel finds out that somebody is gone, and has looked for him again
 PATIENCE = 33  # seconds after which a client that doesn't answer is gone
 OWN = 30  # bytes of the gateway's own answers and pings
-MOST_OWN = 2  # of them for a datagram
+MOST_OWN = 4  # of them for a datagram
 QUIET = 0.2  # seconds in which what was sent has come
 TUNNEL_LINE = f"network {NETWORK:X} 1 1424 dosbox 0.0.0.0:{GATEWAY[1]}\n"
 LONG_SHARES = f"{ALL_THERE_IS} dosbox"
@@ -29,9 +29,11 @@ TWO = STILL.replace("dosbox", LONG_SHARES) + f"network 20 1 1424 dosbox 0.0.0.0:
 VICTIMS_PORT = 5000
 
 
-def flood(gate, way, kind, rate=1000, count=None, port=GATEWAY[1], **places):
-    """A flood that begins, for one of the gateway's ports."""
-    return Flood(way, kind, to=f"{GATEWAY[0]}:{port}", gateway=gate.run.pid, rate=rate, count=count or rate * SECONDS, **places)
+def flood(gate, way, kind, rate=1000, count=None, port=GATEWAY[1], knows=True, **places):
+    """A flood that begins, for one of the gateway's ports. It knows the node of each place in whose name it speaks, as if it had heard all that
+    players say; or none."""
+    known = {"key": gate.key().hex()} if knows else {}
+    return Flood(way, kind, to=f"{GATEWAY[0]}:{port}", gateway=gate.run.pid, rate=rate, count=count or rate * SECONDS, **known, **places)
 
 
 class Playground:
@@ -83,7 +85,7 @@ class Playground:
         return tuple(now - old for now, old in zip(self.field.victim.received(), before))
 
     def too_much(self, do, came):
-        """What is wrong where others than the players get more than two short datagrams for each that comes in their name; it is printed."""
+        """What is wrong where others than the players get more than four short datagrams for each that comes in their name; it is printed."""
         datagrams, size = self.received(do)
         figures(f"{came} datagrams in others' names: {datagrams} to these, of {size} bytes together")
         is_fair = datagrams <= MOST_OWN * came and size <= MOST_OWN * OWN * came
@@ -232,21 +234,22 @@ def forged(it, kind, count, **places):
 
 
 def asked_for_others(kind):
-    """With full tables, queries in a victim's name bring it no more than two short datagrams each."""
+    """With full tables, queries in a victim's name bring it no more than short datagrams."""
     with Playground(TWO, numbers=(1, 0, 1), clock=Clock()) as it:
         fill(it)
         none(it.too_much(lambda: forged(it, kind, 10), 10))
 
 
 def forged_clients():
-    """63 clients in a victim's name, who speak every ten seconds: in 125 seconds it gets no more than two short datagrams each time."""
+    """63 register in a victim's name, and speak every ten seconds, as long as nobody knows the victim's nodes: in 125 seconds it gets no more than
+    four short datagrams each time."""
     with Playground(TWO, numbers=(1, 0, 1), clock=Clock()) as it:
         fill(it)
 
         def two_minutes():
             forged(it, "register", 63, ports=63)
             for _ in range(12):
-                forged(it, "speak", 63, ports=63)
+                forged(it, "speak", 63, ports=63, knows=False)
                 it.let_pass(10)
             it.let_pass(5)
 

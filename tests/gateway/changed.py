@@ -3,7 +3,7 @@ import re
 import socket
 
 from frames import Station, Tcp
-from lab import AGAIN, GAME, Client, address, is_ping, registration, until
+from lab import AGAIN, GAME, Client, address, registration, until
 from status import Watched
 
 
@@ -28,7 +28,7 @@ def comes_in(port):
     """Whether who registers there comes in."""
     it = Client(port, registers=False)
     it.send(registration())
-    return it.hear(is_ping, AGAIN) is not None
+    return it.hear(it.is_answer, AGAIN) is not None
 
 
 def is_told_to_leave(gate):

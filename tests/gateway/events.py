@@ -66,7 +66,8 @@ def come_and_go():
     with Watched(tunnels(1)) as gate, Follower(gate, "--json") as follower:
         a = Client(gate.ports[0x10])
         node = a.node.hex().upper()
-        assert follower.told(event="client comes", client=node)["network"] == "00000010"
+        told = follower.told(event="client comes", client=node)
+        assert (told["network"], told["address"]) == ("00000010", a.where())
         advertise(a, [b"SE\"RVER\x1b"], [(0x77, 2, 3)])
         told = {}
         while len(told) < 2:

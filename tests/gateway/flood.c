@@ -8,13 +8,17 @@
  *     first=PORT ports=COUNT       the same of the ports of each address
  *     rate=COUNT count=COUNT       datagrams a second, and in all
  *     seed=NUMBER                  what the bytes begin with that are made up
- *     for=ADDRESS:PORT             whom a packet of the kind `tell` is for
+ *     for=NODE                     whom a packet of the kind `tell` is for: twelve digits
+ *     key=KEY                      of the gateway's nodes, 32 digits: each place is named by the node that it has as a client. Without it, by its
+ *                                  own six bytes
  *     network=NUMBER               the network of the source of a `chat`, or a `frame`, else 0
  *     size=COUNT                   bytes of a packet of the kind `chat`, or `frame`
  *     gateway=PROCESS              waits while much of it waits for the gateway: nothing is lost then since a machine is slow
  *
  * The last line is what was sent: `COUNT datagrams in SECONDS s, RATE a second`. */
 #define _DEFAULT_SOURCE
+#include "siphash.h"
+
 #include <arpa/inet.h>
 #include <errno.h>
 #include <stdbool.h>
@@ -38,6 +42,7 @@ enum {
     AT_FROM_NODE = 22,
     AT_FROM_SOCKET = 28,
     TUNNEL = 2, /* the socket of registrations and pings */
+    KEYED = 0x02, COOKIE = 0x06, /* the first bytes of a client's node, and of what answers a ping */
     SAP = 0x452,
     RIP = 0x453,
     GAME = 0x4003,
@@ -61,7 +66,9 @@ typedef struct place {
 typedef struct order {
     bool is_forged;
     const char *kind;
-    place to, first, receiver;
+    place to, first;
+    uint8_t receiver[NODE], key[SIPHASH_KEY];
+    bool has_key;
     unsigned long hosts, ports, rate, count, seed, gateway, network, size;
 } order;
 
@@ -85,6 +92,23 @@ static place place_of(char *words)
     return it;
 }
 
+/* Bytes by two digits each. */
+static void read_bytes(const char *digits, uint8_t *bytes, size_t count)
+{
+    unsigned byte;
+    for (size_t k = 0; k < count; k++) {
+        if (sscanf(digits + 2 * k, "%2x", &byte) != 1)
+            stop(digits);
+        bytes[k] = (uint8_t)byte;
+    }
+}
+
+static void read_key(order *it, const char *digits)
+{
+    read_bytes(digits, it->key, sizeof it->key);
+    it->has_key = true;
+}
+
 static void read_word(order *it, char *word)
 {
     const struct {
@@ -102,7 +126,9 @@ static void read_word(order *it, char *word)
     else if (strcmp(word, "host") == 0)
         it->first.host = place_of(value).host;
     else if (strcmp(word, "for") == 0)
-        it->receiver = place_of(value);
+        read_bytes(value, it->receiver, sizeof it->receiver);
+    else if (strcmp(word, "key") == 0)
+        read_key(it, value);
     else if (strcmp(word, "first") == 0)
         it->first.port = (uint16_t)atoi(value);
     for (size_t k = 0; k < sizeof numbers / sizeof *numbers; k++)
@@ -155,8 +181,22 @@ static uint64_t made_up(uint64_t *seed)
     return *seed;
 }
 
-/* A packet to all of a socket, by the node that the place has as a client. */
-static size_t to_all(uint8_t *bytes, const place *from, unsigned socket, unsigned type, size_t length)
+/* The node by which a place is named. */
+static void put_node(const order *it, uint8_t node[NODE], const place *from)
+{
+    uint8_t bytes[NODE];
+    put32(bytes, from->host);
+    put16(bytes + 4, from->port);
+    uint64_t hash = siphash(it->key, bytes, sizeof bytes);
+    for (int k = 1; it->has_key && k < NODE; k++)
+        bytes[k] = (uint8_t)(hash >> 8 * k);
+    if (it->has_key)
+        bytes[0] = KEYED;
+    memcpy(node, bytes, NODE);
+}
+
+/* A packet to all of a socket. */
+static size_t to_all(const order *it, uint8_t *bytes, const place *from, unsigned socket, unsigned type, size_t length)
 {
     memset(bytes, 0, length);
     put16(bytes, 0xFFFF);
@@ -164,25 +204,23 @@ static size_t to_all(uint8_t *bytes, const place *from, unsigned socket, unsigne
     bytes[AT_TYPE] = (uint8_t)type;
     memset(bytes + AT_TO_NODE, 0xFF, NODE);
     put16(bytes + AT_TO_SOCKET, socket);
-    put32(bytes + AT_FROM_NODE, from->host);
-    put16(bytes + AT_FROM_NODE + 4, from->port);
+    put_node(it, bytes + AT_FROM_NODE, from);
     put16(bytes + AT_FROM_SOCKET, socket);
     return length;
 }
 
-/* The same, for the client at a place. */
-static size_t to_one(uint8_t *bytes, const place *from, const place *to, unsigned socket)
+/* The same, for one client. */
+static size_t to_one(const order *it, uint8_t *bytes, const place *from, unsigned socket)
 {
-    size_t length = to_all(bytes, from, socket, 4, HEADER + 16);
-    put32(bytes + AT_TO_NODE, to->host);
-    put16(bytes + AT_TO_NODE + 4, to->port);
+    size_t length = to_all(it, bytes, from, socket, 4, HEADER + 16);
+    memcpy(bytes + AT_TO_NODE, it->receiver, NODE);
     return length;
 }
 
 /* Something that a client, or a machine on an Ethernet, says to all. */
 static size_t chat(const order *it, uint8_t *bytes, const place *from)
 {
-    size_t length = to_all(bytes, from, CHAT, 4, it->size);
+    size_t length = to_all(it, bytes, from, CHAT, 4, it->size);
     put32(bytes + AT_FROM_NETWORK, (uint32_t)it->network);
     return length;
 }
@@ -197,37 +235,37 @@ static size_t frame(const order *it, uint8_t *bytes, const place *from)
     return FRAME + length;
 }
 
-static size_t registration(uint8_t *bytes, const place *from)
+static size_t registration(const order *it, uint8_t *bytes, const place *from)
 {
-    size_t length = to_all(bytes, from, TUNNEL, 0, HEADER);
+    size_t length = to_all(it, bytes, from, TUNNEL, 0, HEADER);
     memset(bytes + AT_TO_NODE, 0, NODE);
     memset(bytes + AT_FROM_NODE, 0, NODE);
     return length;
 }
 
 /* An answer to a ping that one hasn't seen. */
-static size_t guessed_answer(uint8_t *bytes, const place *from, uint64_t *seed)
+static size_t guessed_answer(const order *it, uint8_t *bytes, const place *from, uint64_t *seed)
 {
-    size_t length = to_all(bytes, from, TUNNEL, 0, HEADER);
-    bytes[AT_TO_NODE] = 2;
+    size_t length = to_all(it, bytes, from, TUNNEL, 0, HEADER);
+    bytes[AT_TO_NODE] = COOKIE;
     put32(bytes + AT_TO_NODE + 1, (uint32_t)made_up(seed));
     bytes[AT_TO_NODE + 5] = (uint8_t)made_up(seed);
     return length;
 }
 
 /* A request of SAP for all services of all types. */
-static size_t sap_request(uint8_t *bytes, const place *from)
+static size_t sap_request(const order *it, uint8_t *bytes, const place *from)
 {
-    size_t length = to_all(bytes, from, SAP, 0, HEADER + 4);
+    size_t length = to_all(it, bytes, from, SAP, 0, HEADER + 4);
     put16(bytes + HEADER, 1);
     put16(bytes + HEADER + 2, 0xFFFF);
     return length;
 }
 
 /* A request of RIP for the routes to all networks. */
-static size_t rip_request(uint8_t *bytes, const place *from)
+static size_t rip_request(const order *it, uint8_t *bytes, const place *from)
 {
-    size_t length = to_all(bytes, from, RIP, 1, HEADER + 10);
+    size_t length = to_all(it, bytes, from, RIP, 1, HEADER + 10);
     put16(bytes + HEADER, 1);
     memset(bytes + HEADER + 2, 0xFF, 8);
     return length;
@@ -256,23 +294,23 @@ static size_t mutated(const order *it, uint8_t *bytes, const place *from, uint64
 static size_t datagram(const order *it, const char *kind, uint8_t *bytes, const place *from, uint64_t *seed)
 {
     if (strcmp(kind, "register") == 0)
-        return registration(bytes, from);
+        return registration(it, bytes, from);
     if (strcmp(kind, "speak") == 0)
-        return to_all(bytes, from, GAME, 4, HEADER + 16);
+        return to_all(it, bytes, from, GAME, 4, HEADER + 16);
     if (strcmp(kind, "chat") == 0)
         return chat(it, bytes, from);
     if (strcmp(kind, "frame") == 0)
         return frame(it, bytes, from);
     if (strcmp(kind, "tell") == 0)
-        return to_one(bytes, from, &it->receiver, CHAT);
+        return to_one(it, bytes, from, CHAT);
     if (strcmp(kind, "ping") == 0)
-        return to_all(bytes, from, TUNNEL, 0, HEADER);
+        return to_all(it, bytes, from, TUNNEL, 0, HEADER);
     if (strcmp(kind, "guess") == 0)
-        return guessed_answer(bytes, from, seed);
+        return guessed_answer(it, bytes, from, seed);
     if (strcmp(kind, "sap") == 0)
-        return sap_request(bytes, from);
+        return sap_request(it, bytes, from);
     if (strcmp(kind, "rip") == 0)
-        return rip_request(bytes, from);
+        return rip_request(it, bytes, from);
     if (strcmp(kind, "junk") == 0)
         return junk(bytes, seed);
     return mutated(it, bytes, from, seed);

@@ -31,7 +31,7 @@ ROOM = 1 << 20  # bytes that a socket of a test keeps, as far as the system allo
 EVERYONE = b"\xff" * 6
 NOBODY = bytes(6)
 GATEWAY = bytes([0, 0, 0, 0, 0, 1])  # its node on a network of the tunnel
-COOKIE = 0x02  # the first byte of what its pings name as their source
+COOKIE, KEYED = 0x06, 0x02  # the first byte of what its pings name as their source, and of a client's node
 GAME = 0x4003
 RIP, SAP = 0x453, 0x452
 TUNNEL = 2  # the socket of registrations and pings
@@ -106,6 +106,8 @@ class Gateway:
         self.folder = tempfile.TemporaryDirectory()
         os.chmod(self.folder.name, 0o755)  # (for a gateway that runs as another user)
         self.configuration = os.path.join(self.folder.name, "gateway.conf")
+        self.state = os.path.join(self.folder.name, "state")  # what it keeps from one start to the next
+        os.mkdir(self.state)
         with open(self.configuration, "w", encoding="utf-8") as it:
             it.write(text)
         self.networks = sum(line.startswith("network") for line in text.splitlines())
@@ -120,7 +122,7 @@ class Gateway:
             stdin=subprocess.DEVNULL,
             stdout=subprocess.PIPE,
             stderr=subprocess.PIPE,
-            env={**os.environ, **(environment or {})},
+            env={**os.environ, "STATE_DIRECTORY": self.state, **(environment or {})},
         )
         self.rest = b""
         self.ports, self.nodes = {}, {}
@@ -204,6 +206,11 @@ class Gateway:
         """Waits until a network has counted so many."""
         until(lambda: self.counted(network, what) == number, f"{number} {what}")
 
+    def key(self):
+        """The key of its clients' nodes."""
+        with open(os.path.join(self.state, "nodes.key"), "rb") as it:
+            return it.read()
+
     def memory(self):
         """Kilobytes of its own that it has, files that it shares with others aside."""
         with open(f"/proc/{self.run.pid}/status", encoding="utf-8") as it:
@@ -282,7 +289,8 @@ def ears():
 
 
 class Client:
-    """A DOSBox, as far as the gateway sees it: it registers once, and answers pings."""
+    """A DOSBox, as far as the gateway sees it: it registers once, takes its node from the answer, and answers pings. Before that its node is the
+    six bytes of its place, as for programs that don't take theirs from an answer."""
 
     def __init__(self, port, host="127.0.0.1", registers=True, to="127.0.0.1", answers=True, own_port=0, gateway=GATEWAY):
         self.udp = socket.socket(socket.AF_INET, socket.SOCK_DGRAM)
@@ -290,8 +298,10 @@ class Client:
         self.udp.bind((host, own_port))
         self.udp.connect((to, port))
         own, own_port = self.udp.getsockname()
+        self.place = own, own_port
         self.node = socket.inet_aton(own) + struct.pack(">H", own_port)
-        self.network, self.answers, self.pings, self.gateway = 0, answers, 0, gateway
+        self.network, self.answers, self.gateway = 0, answers, gateway
+        self.pings = self.told = 0  # that came, and answers
         self.heard = queue.SimpleQueue()
         ears().add(self)
         if registers:
@@ -302,28 +312,50 @@ class Client:
         try:
             bytes_ = self.udp.recv(65536, socket.MSG_DONTWAIT)
             self.pings += is_ping(bytes_)
+            self.told += self.is_answer(bytes_)
             if is_ping(bytes_) and self.answers:
                 self.answer(bytes_)
+            self.meets(bytes_)
         except OSError:
             return  # (nobody is there who hears it)
         self.heard.put(bytes_)
 
+    def meets(self, bytes_):
+        """What comes is looked at as it comes, by clients that do more with it."""
+
     def answer(self, ping):
         self.send(packet(address(0, ping[22:28], TUNNEL), address(0, self.node, TUNNEL), kind=0))
 
-    def ask(self):
-        """Registers, and hears the answer."""
+    def is_answer(self, bytes_):
+        """Whether it is the gateway's answer to a registration, or to a ping of this client's."""
+        return len(bytes_) == 30 and socket_of(bytes_) == TUNNEL and bytes_[10:16] != EVERYONE and bytes_[22:28] == self.gateway
+
+    def is_told(self, patience=LIMIT):
+        """Registers, and knows its node by the answer. Returns whether that came."""
         self.send(registration())
-        answer = self.hear(lambda it: socket_of(it) == TUNNEL and it[10:16] == self.node)
-        assert answer is not None, "nobody answers a registration"
-        assert answer[22:28] == self.gateway and len(answer) == 30
-        self.network = int.from_bytes(answer[6:10], "big")
+        answer = self.hear(self.is_answer, patience)
+        if answer is None:
+            return False
+        assert answer[10] == KEYED
+        self.network, self.node = int.from_bytes(answer[6:10], "big"), answer[10:16]
+        return True
+
+    def ask(self):
+        """The same of one that is answered."""
+        assert self.is_told(), "nobody answers a registration"
 
     def register(self):
-        """Comes in: who is a client hears what he says to himself. What is said before the gateway has his answer is lost."""
+        """Comes in by its first word: who is a client hears what he says to himself. (where many register at once, he may be asked whether he hears
+        instead; then that word is lost)"""
         self.ask()
-        assert self.hear(is_ping) is not None, "who registers isn't pinged"
-        assert reaches(self, self) is not None, "who answers a ping isn't a client"
+        data = fresh()
+        self.say(self.at(), data)
+        heard = self.hear(lambda it: it[30:] == data or is_ping(it))
+        assert heard is not None and (not is_ping(heard) or reaches_again(self, self)), "who says something by his node isn't a client"
+
+    def where(self):
+        """Its place, as the gateway tells it."""
+        return "{}:{}".format(*self.place)
 
     def at(self, port=GAME):
         return address(self.network, self.node, port)
@@ -334,9 +366,10 @@ class Client:
     def say(self, to, data, **how):
         self.send(packet(to, self.at(), data, **how))
 
-    def hear(self, wanted=lambda it: not is_routers(it) and not is_ping(it), patience=LIMIT):
-        """The next packet that is wanted, or None."""
+    def hear(self, wanted=None, patience=LIMIT):
+        """The next packet that is wanted, or None: of the others, where nothing is said."""
         end = time.monotonic() + patience
+        wanted = wanted or (lambda it: not is_routers(it) and not is_ping(it) and not self.is_answer(it))
         while True:
             try:
                 bytes_ = self.heard.get(timeout=max(0, end - time.monotonic()))
@@ -361,7 +394,7 @@ def fresh():
 def says(one, other, data, patience=LIMIT, **how):
     """What one says once, as it comes to the other, or None."""
     one.say(other.at(), data, **how)
-    return other.hear(lambda it: not is_routers(it) and it[30:] == data, patience)
+    return other.hear(lambda it: not is_routers(it) and socket_of(it) != TUNNEL and it[30:] == data, patience)
 
 
 def reaches(one, other, data=None, **how):

@@ -5,7 +5,7 @@ It runs in networks of its own (spaces.py), whose cards are as narrow as the con
 from attacks import OTHER_PORT, QUIET, TUNNEL_LINE, Playground, during, flood, none
 from lab import LIMIT, Clock, played_anew, until
 from limits import CHAT, FIRST, FLOOD, LONGEST, SECONDS, Crowd, narrow, stands
-from players import MOST_LOST, NETWORK, NUMBERED, Party, Player
+from players import HELLO, MOST_LOST, NETWORK, NUMBERED, Party, Player
 from spaces import GATEWAY, STRANGERS, build_flood
 from systems import SYSTEM
 from trying import begin, figures, tried, tried_on_own_system
@@ -16,6 +16,7 @@ REGISTERS = 250  # strangers a second, of each of them
 PINGED, BETWEEN = 60, 27  # clients that are pinged by such a line, and milliseconds between two of a few pings
 ASKED_AGAIN, WAITS = 5, 4  # seconds after which the library asks who is silent, and for which a ping may wait
 NEWCOMERS = 3  # registrations of one who wants to come in
+FORGOTTEN = 11  # seconds after which who said only its first word isn't one of those who speak
 LITTLE = 10  # parts of what is lost at most of one speaker, of what all may lose
 
 
@@ -50,9 +51,9 @@ def a_newcomer_comes_in():
             it.party.put_in("newcomer", newcomer)
             for _ in range(NEWCOMERS):
                 newcomer.register()
-                if it.party.until(lambda: newcomer.network and newcomer.pings, 1):
+                if it.party.until(lambda: newcomer.network, 1):
                     break
-            assert newcomer.network and newcomer.pings, "a newcomer isn't answered"
+            assert newcomer.network, "a newcomer isn't answered"
             until(lambda: it.party.hear() or it.gate.counted(NETWORK, "clients") == 4, "a newcomer comes in")
             sent.end()
 
@@ -91,6 +92,7 @@ def few_of_many_speak():
         for player in it.party.speakers:
             player.every = 1 / 12
         with Crowd(it, it.free[0], 1):
+            it.party.until(lambda: False, FORGOTTEN)
             narrow(it, 5000)
             stands(it, flood(it.gate, "forged", "chat", FLOOD, count=FLOOD * SECONDS, host=it.free[0], first=FIRST), it.party.all)
 
@@ -129,7 +131,7 @@ def a_flood_from_a_wide_network():
     with Playground(text, numbers=(0, 0, 2), more=1) as it:
         there = Party(it.free, (GATEWAY[0], OTHER_PORT), numbers=(1, 0, 0))
         there.all[0].register()
-        assert there.until(lambda: there.all[0].network and there.all[0].pings, LIMIT), "a registration isn't answered"
+        assert there.until(lambda: there.all[0].network, LIMIT), "a registration isn't answered"
         narrow(it)
         places = {"host": it.free[0], "first": there.all[0].udp.getsockname()[1], "network": 0x20, "size": LONGEST}
         sent = flood(it.gate, "forged", "chat", FLOOD, count=FLOOD * SECONDS, port=OTHER_PORT, **places)
@@ -139,12 +141,13 @@ def a_flood_from_a_wide_network():
 
 
 def pings_of_many():
-    """By a line of 256 kbit/s 60 clients that all answered in one moment are pinged one by one, none later than four seconds."""
-    with Playground(by_a_line(NARROW), numbers=(0, 0, 0), more=1, clock=Clock()) as it:
+    """By a line of 256 kbit/s 60 clients that all answered in one moment are pinged one by one, none later than four seconds. (by their
+    addresses: who registers is pinged in another second first)"""
+    with Playground(by_a_line(NARROW, below="strangers none\nnodes by-address\n"), numbers=(0, 0, 0), more=1, clock=Clock()) as it:
         for _ in range(PINGED):
             player = Player(it.free[0], GATEWAY)
             it.party.put_in("is pinged", player)
-            player.register()
+            player.say(HELLO)
             it.party.hear()
         until(lambda: it.party.hear() or it.gate.counted(NETWORK, "clients") == PINGED, "all clients")
         first = sum(player.pings for player in it.party.all)

@@ -6,7 +6,7 @@ import subprocess
 import tempfile
 import time
 
-from lab import AGAIN, GAME, Client, Gateway, address, comes_next, free_ports, packet, tunnels
+from lab import AGAIN, GAME, Client, Gateway, address, comes_next, free_ports, packet, socket_of, tunnels
 from status import Watched
 from systems import TOP
 from trying import Counts, begin, has_linux, left_out, tried
@@ -52,7 +52,7 @@ def is_answered(client, pc, data, crossed=1):
     while time.monotonic() < end:
         assert pc.run.poll() is None, "the emulator has ended: " + pc.run.stderr.read().decode()
         client.say(address(0x30, NODE, GAME), data)
-        heard = client.hear(lambda it: it[30:] == data, AGAIN)
+        heard = client.hear(lambda it: it[30:] == data and socket_of(it) == GAME, AGAIN)
         if heard is not None:
             return heard == packet(client.at(), address(0x30, NODE, GAME), data, control=crossed)
     return False

@@ -1,5 +1,8 @@
 """Players as the gateway sees them: a DOSBox registers once, answers pings, and its program says something to all, or listens.
 
+A player takes its node from the first answer, and says a word to itself at once, by which it is in. Who says nothing is let in seven seconds
+after the registration: only Listener does so.
+
 What a player says to all has a number. So what is lost is counted, and no time of the machine is in it: when everything is said, each
 speaker says a last word until everybody has heard it, and LIMIT_OF_LAST ends that only where it fails.
 """
@@ -9,7 +12,7 @@ import struct
 import sys
 import time
 
-from lab import EVERYONE, GAME, LIMIT, NOBODY, ROOM, TUNNEL, address, packet, socket_of
+from lab import EVERYONE, GAME, KEYED, LIMIT, NOBODY, ROOM, TUNNEL, address, packet, socket_of
 
 NETWORK = 0x10
 LIMIT_OF_LAST = 4  # seconds for a last word that is lost
@@ -23,13 +26,16 @@ class Player:
     """One DOSBox: `every` is how many seconds pass between two words of its program; None says nothing."""
 
     to = EVERYONE
+    says_first = True
 
     def __init__(self, host, gateway, every=None, size=100, port=0):
         self.udp = socket.socket(socket.AF_INET, socket.SOCK_DGRAM)
         self.udp.setsockopt(socket.SOL_SOCKET, socket.SO_RCVBUF, ROOM)
         self.udp.bind((host, port))
         self.udp.connect(gateway)
-        self.node = socket.inet_aton(host) + struct.pack(">H", self.udp.getsockname()[1])
+        self.place = socket.inet_aton(host) + struct.pack(">H", self.udp.getsockname()[1])
+        self.node = self.place  # (until it is told another)
+        self.comes_in = False
         self.every, self.size = every, size
         self.network = 0
         self.pings = self.said = self.twice = 0
@@ -50,7 +56,15 @@ class Player:
             pass
 
     def register(self):
+        self.comes_in = self.says_first
         self.send(packet(address(0, NOBODY, TUNNEL), address(0, NOBODY, TUNNEL), kind=0))
+
+    def learn(self, answer):
+        """Takes network and node from an answer; the first word behind it is for itself."""
+        self.network, self.node = int.from_bytes(answer[6:10], "big") or self.network, answer[10:16]
+        if self.comes_in:
+            self.comes_in = False
+            self.send(packet(address(0, self.node, GAME), self.at(), struct.pack(">6sI", HELLO, 0)))
 
     def say(self, what, number=0):
         """Says something to all, or to whom it speaks."""
@@ -82,8 +96,8 @@ class Player:
         if socket_of(bytes_) == TUNNEL and to == EVERYONE:
             self.pings += 1
             self.send(packet(address(0, source, TUNNEL), address(0, self.node, TUNNEL), kind=0))
-        elif socket_of(bytes_) == TUNNEL and to == self.node:
-            self.network = int.from_bytes(bytes_[6:10], "big") or self.network
+        elif socket_of(bytes_) == TUNNEL and to[0] == KEYED:
+            self.learn(bytes_)
         elif socket_of(bytes_) == GAME:
             self.hear_word(source, bytes_[30:])
         else:
@@ -106,6 +120,12 @@ class Player:
 
     def close(self):
         self.udp.close()
+
+
+class Listener(Player):
+    """A player who never says anything."""
+
+    says_first = False
 
 
 class Slow(Player):

@@ -16,15 +16,10 @@ class Station(Client):
         self.answer_to = answer_to
         super().__init__(port)
 
-    def receive(self):
-        count = self.heard.qsize()
-        super().receive()
-        if self.heard.qsize() > count and self.network:
-            bytes_ = self.heard.get()
-            self.heard.put(bytes_)
-            answer = self.answer_to(self, bytes_)
-            if answer:
-                self.send(answer)
+    def meets(self, bytes_):
+        answer = self.answer_to(self, bytes_) if self.network else None
+        if answer:
+            self.send(answer)
 
 
 def as_dosbox(own, bytes_):

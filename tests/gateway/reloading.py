@@ -173,12 +173,20 @@ def rules_for_clients():
         other.send(packet(a.at(), other.at(), b"x"))
         gate.until_counted(0x10, "lost: address not allowed", 1)
         gate.reload(tunnels(1, extra="trust 127.0.0.1\n"))
-        silent = Client(gate.ports[0x10], registers=False, answers=False)
-        silent.send(registration())
-        assert silent.hear(lambda it: socket_of(it) == TUNNEL and it[10:16] == silent.node) is not None
+        silent = Client(gate.ports[0x10], answers=False)
         assert reaches(a, b) and gate.counted(0x10, "clients") == 3
         gate.reload(tunnels(1, extra="clients 1\n"))
         assert gate.counted(0x10, "clients") == 1 and reaches(a, a)
+
+
+def nodes():
+    """A line `nodes` comes and goes: clients stay, and hear each other."""
+    with Changed(tunnels(1)) as gate:
+        a, b = Client(gate.ports[0x10]), Client(gate.ports[0x10])
+        for below in ("nodes by-address\n", ""):
+            said = gate.reload(tunnels(1, extra=below))
+            assert "1 with other clients" in said and "router" not in said, said
+            assert reaches(a, b) and reaches(b, a) and gate.counted(0x10, "clients") == 2, below
 
 
 def heard_of(gate, client):
@@ -223,7 +231,7 @@ def all_heard(stranger):
 
 
 def newcomers():
-    """Who registered just before is pinged again afterwards, as he may have missed it; where the tunnel is at another port he isn't."""
+    """Who registered just before is answered again afterwards, and pinged; where the tunnel is at another port he isn't."""
     clock = Clock()
     port, moved = free_ports(2)
     for now, is_pinged in ((port, True), (moved, False)):
@@ -231,12 +239,13 @@ def newcomers():
         with Changed(at(0x10, port), **how) as gate, socket.socket(socket.AF_INET, socket.SOCK_DGRAM) as stranger:
             stranger.bind(("127.0.0.1", 0))
             stranger.sendto(registration(), ("127.0.0.1", port))
-            assert any(is_ping(it) for it in all_heard(stranger))
+            (answer,) = all_heard(stranger)
             gate.reload(at(0x10, now, below="clients 5\n"))
-            for _ in range(5):
+            for _ in range(10):
                 clock.let_pass(1)
                 gate.report()
-            assert any(is_ping(it) for it in all_heard(stranger)) == is_pinged, now
+            again = all_heard(stranger)
+            assert [is_ping(it) for it in again] == [False, True, True] * is_pinged and again[:1] in ([], [answer]), (now, again)
 
 
 def a_line():
@@ -663,10 +672,11 @@ def inside():
 def main():
     if not has_linux("reading the configuration anew"):
         return Counts()
-    counts = tried(all_is_compared, nothing_changes, wrong_file, counts_go_on, refusals_go_on, refusals_at_a_shared_link, rules_for_clients,
-                   silence_goes_on, newcomers, limits, limits_of_a_link, a_line, shares, sockets, a_link_is_another, frames_on_another_link,
-                   networks_come_and_go, links_that_are_alike, a_node_of_several_links, another_address, a_link_is_taken,
-                   the_router_begins_anew, shown_while_links_go, shown_while_a_network_goes, shown_while_counts_go, followed, at_a_terminal)
+    counts = tried(all_is_compared, nothing_changes, wrong_file, counts_go_on, refusals_go_on, refusals_at_a_shared_link,
+                   rules_for_clients, nodes, silence_goes_on, newcomers, limits, limits_of_a_link, a_line, shares, sockets,
+                   a_link_is_another, frames_on_another_link, networks_come_and_go, links_that_are_alike, a_node_of_several_links,
+                   another_address, a_link_is_taken, the_router_begins_anew, shown_while_links_go, shown_while_a_network_goes,
+                   shown_while_counts_go, followed, at_a_terminal)
     return counts + tried_inside(__file__, "cards beside a reload")
 
 

@@ -11,13 +11,16 @@ import counting
 import dosbox
 import events
 import fair
+import forged
 import houses
 import kinds
 import limits
 import links
+import lossy
 import made_up
 import names
 import narrow
+import nodes
 import orders
 import pc
 import probes
@@ -39,9 +42,9 @@ import words
 from systems import SYSTEM, Windows
 from trying import Counts, left_out
 
-ALL = (counting, words, siphash, queues, unit, orders, status, events, probes, reloading, staying, tunnel, links, six, names, segments,
-       kinds, made_up, troubles, reload_memory, wires, refused, houses, attacks, limits, complaints, asked, fair, slow_pc, narrow, dosbox,
-       pc, bochs)
+ALL = (counting, words, siphash, queues, unit, orders, status, events, probes, reloading, staying, tunnel, nodes, links, six, names, segments,
+       kinds, made_up, troubles, reload_memory, wires, refused, houses, attacks, forged, limits, complaints, asked, fair, slow_pc, narrow,
+       lossy, dosbox, pc, bochs)
 TESTS = {it.__name__: it for it in ALL}
 
 

@@ -6,7 +6,7 @@ import time
 
 from cards import has_bridges, has_cards, has_taps, hears_all_frames, pair
 from frames import Packets, Station, Udp, frame
-from lab import AGAIN, EVERYONE, GAME, LIMIT, Client, Clock, Gateway, address, fresh, is_routers, packet, reaches, until
+from lab import AGAIN, EVERYONE, GAME, LIMIT, Client, Clock, Gateway, address, fresh, is_routers, packet, reaches, rip_response, until
 from spaces import ip
 from status import Watched, advertise
 from systems import SYSTEM, Windows
@@ -219,7 +219,7 @@ def each_client_is_sure():
 
 
 def a_client_at_two_links():
-    """Whoever is a client at two links of a network is reached by the one where they registered, or answered a ping, last."""
+    """Whoever is a client at two links of a network is reached by the one where they registered, spoke, or answered a ping last: by one node."""
     wire = Udp()
     with Cable(["dosbox 127.0.0.1:0", "dosbox 127.0.0.1:0", f"qemu-udp 0 {wire.port} raw"]) as gate:
         wire.to = gate.ports_of[2]
@@ -229,6 +229,7 @@ def a_client_at_two_links():
             one.udp.connect(("127.0.0.1", gate.ports_of[link]))
             if registers:
                 one.ask()
+                one.say(one.at(), b"I am here")
 
         def is_reached(tries=FEW):
             return any(hears(one, tells(pc, one), AGAIN) and hears(pc, tells(one, pc), AGAIN) for _ in range(tries))
@@ -253,6 +254,24 @@ def shares_of_several_links():
             advertise(a, [b"%d" % k for k in range(2 * ROUTES_OF_DOSBOX)], many)
             held = len(gate.shown("routes")), len(gate.shown("services"))
             assert held == (routes, services), held
+
+
+def who_is_a_router_there():
+    """What a client tells as a router comes to this router and to other clients; to stations of other links only where it is trusted."""
+    for below, comes in ("", False), ("trust 127.0.0.1/32\n", True):
+        with Party(below=below) as it:
+            calls(it.anna)
+            it.anna.send(rip_response(NUMBER, it.anna.node, [(0x77, 1, 2)]))
+            said = calls(it.anna)
+            is_annas = lambda bytes_: bytes_[22:28] == it.anna.node
+            told = lambda bytes_: is_annas(bytes_) and is_routers(bytes_)
+            assert it.ben.hear(told) is not None
+            it.gate.until("\n  00000077 hops 1 ")
+            for one in it.pc, it.card:
+                heard = []
+                while not heard or heard[-1][30:] != said:
+                    heard.append(one.hear(is_annas))
+                assert any(is_routers(bytes_) for bytes_ in heard) == comes, (below, len(heard))
 
 
 def the_router_is_a_station():
@@ -449,7 +468,7 @@ def four_in_one_bridge():
 TESTS = (a_call_finds_all, an_answer_goes_to_one, a_node_moves, two_with_one_node, nobody_takes_a_clients_name, the_router_is_a_station,
          each_client_is_sure, a_client_at_two_links)
 OF_LINUX = (stations_are_shown, links_change_while_it_runs, clients_are_sure_after_a_reload, links_change_beneath_a_packet,
-            shares_of_several_links, stations_age)
+            shares_of_several_links, who_is_a_router_there, stations_age)
 
 
 def inside():

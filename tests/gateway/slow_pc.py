@@ -82,7 +82,7 @@ def a_pc_is_flooded(text, kind, count, rate):
             it.party.put_in("floods", player)
         it.party.put_in(PC.KIND, PC())
         it.party.enter()
-        sent = [flood(it.gate, "forged", kind, rate, count=rate * SECONDS, network=NETWORK, **{"for": "{}:{}".format(*PC_PLACE)}, **place_of(player))
+        sent = [flood(it.gate, "forged", kind, rate, count=rate * SECONDS, network=NETWORK, **{"for": PC_NODE.hex()}, **place_of(player))
                 for player in guilty]
         began = time.monotonic()
         lost = it.play(lambda: [flooding for flooding in sent if flooding.lasts()])

@@ -4,7 +4,8 @@ First each limit is driven over its number for a minute (driven.py). Then all co
 from many places and in the name of others; frames the same on cards, in datagrams and on connections that are cut; cards that go down, come
 up and are taken out; a link that the configuration has and hasn't. Meanwhile players play, who may lose 2 % at most, the gateway must end
 well, and its memory must stay what it was. Two players of a network whose other links go and come lose nothing at all. Beside all of it the
-gateway's code is played on a made-up system (made_up.py), by a process of its own. The last line is 'N datagrams, M faults'.
+gateway's code is played on a made-up system (made_up.py), by a process of its own. Behind it real DOSBox' connect by a lossy way (lossy.py).
+The last line is 'N datagrams, M faults'.
 """
 import collections
 import os
@@ -42,6 +43,7 @@ JOINED = 0x60  # the network of several links
 CLIENT_PORT, WIRE_PORT, WIRED_PORT, LINK_PORT, TURN_PORT, FAR_PORT = GATEWAY[1] + 2, 5011, 5012, 5013, 5014, 5015
 LIMITS_PART = 2 / 3  # the most of the time that limits are driven,
 BESIDE = 20  # of which each stage needs some seconds before and after
+LOSSY_PART = 1 / 5  # the time that real DOSBox' connect by a lossy way, behind the rest
 FIRST_OF_PAIR = 240  # the number of the address of the first of two players there
 CONFIGURATION = f"""network 10 1 1424 dosbox 0.0.0.0:{GATEWAY[1]}
 network 20 1 1424 100 100 dosbox 0.0.0.0:{GATEWAY[1] + 1}
@@ -253,8 +255,9 @@ class Soak:
         count = int(RATE * STAGE)
         port = GATEWAY[1] + self.seed % 2
         places = PLACES[way][self.seed // 2 % len(PLACES[way])]
-        gate = self.ground.gate.run.pid
-        flood = Flood(way, kind, to=f"{GATEWAY[0]}:{port}", gateway=gate, rate=RATE, count=count, seed=self.seed, **places)
+        gate = self.ground.gate
+        how = {"gateway": gate.run.pid, "rate": RATE, "count": count, "seed": self.seed, "key": gate.key().hex()}
+        flood = Flood(way, kind, to=f"{GATEWAY[0]}:{port}", **how, **places)
         self.ground.party.play(lambda: self.trouble.act() or flood.lasts())
         flood.end()
         self.counts[f"{kind}, forged" if way == "forged" else kind] += count
@@ -346,12 +349,19 @@ def main(minutes):
     if "sanitized" not in SYSTEM.program:
         print("left out: gateway: the sanitizers (no -fsanitize=address that runs)")
     here = os.path.realpath(__file__)
-    made_up = started(sys.executable, os.path.join(os.path.dirname(here), "made_up.py"), minutes)
+
+    def beside(name, minutes):
+        return started(sys.executable, os.path.join(os.path.dirname(here), name), str(minutes))
+
+    made_up = beside("made_up.py", minutes)
     way = way_inside("soak")
     run = started(*way, sys.executable, here, INSIDE, minutes) if way is not None else None
     last = all_but_last(run) if run else ""
-    print(made_up.communicate()[0] + last, end="")
-    return max(abs(it.wait()) for it in (run, made_up) if it is not None)
+    print(made_up.communicate()[0], end="")
+    # (behind the rest: many DOSBox' at once leave others little of the machine)
+    lossy = beside("lossy.py", LOSSY_PART * float(minutes))
+    print(lossy.communicate()[0] + last, end="")
+    return max(abs(it.wait()) for it in (run, made_up, lossy) if it is not None)
 
 
 if __name__ == "__main__":

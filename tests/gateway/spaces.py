@@ -147,5 +147,6 @@ class Flood:
 
 
 def build_flood():
-    source = os.path.join(TOP, "tests", "gateway", "flood.c")
-    subprocess.run(["cc", "-std=c99", "-O2", "-Wall", "-Wextra", "-pedantic", source, "-o", Flood.program], check=True)
+    files = [os.path.join(TOP, *it) for it in (("tests", "gateway", "flood.c"), ("gateway", "siphash.c"))]
+    words = ["cc", "-std=c99", "-O2", "-Wall", "-Wextra", "-pedantic", f"-I{os.path.join(TOP, 'gateway')}", *files, "-o", Flood.program]
+    subprocess.run(words, check=True)

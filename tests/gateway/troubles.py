@@ -71,11 +71,12 @@ def goes_on(gate, card):
     """Sees that everybody hears everybody, though not at the first try."""
     gate.until_open(0x10, 0x20, 0x30, 0x40)
     a, b = Client(gate.ports[0x10], registers=False), Client(gate.ports[0x20], registers=False)
-    a.network, b.network = 0x10, 0x20
+    for it in a, b:
+        until(lambda: it.is_told(AGAIN), "an answer")
     card.to = gate.ports[0x30]
     station = Station(card, "llc", 0x30, bytes.fromhex("020000000AA1"), gate.nodes[0x30])
     for one, other in ((a, b), (b, station), (station, a)):
-        # (who speaks is asked whether he hears, and is a client when he has answered; one of these packets may be lost)
+        # (who speaks by the node that he was told is a client at once, or is asked whether he hears; one of these packets may be lost)
         until(lambda: other.say(one.at(), b"I am here") or says(one, other, fresh(), AGAIN), f"{one} reaches {other}")
     assert is_heard(gate, b), "a connection isn't heard"
 
@@ -344,7 +345,7 @@ def who_is_silent():
     with Gateway(text, SYSTEM.fast, environment=clock.environment()) as gate:
         stays, goes = Client(gate.ports[0x10]), Client(gate.ports[0x10])
         trusted = Client(gate.ports[0x10], host="127.0.0.2", registers=False, answers=False)
-        trusted.ask()
+        trusted.register()
         goes.answers = False
         let_pass(gate, clock, 29, stays)
         late = Client(gate.ports[0x10], registers=False)
@@ -352,18 +353,18 @@ def who_is_silent():
         gate.until_counted(0x10, "no room for a client", 1)
         assert gate.counted(0x10, "clients") == 3
         let_pass(gate, clock, 1, stays)
-        assert gate.told(" leaves ").endswith(f" client {goes.node.hex().upper()} leaves 00000010")
+        assert gate.told(" leaves ").endswith(f" client {goes.node.hex().upper()} leaves 00000010, {goes.where()}")
         late.register()
         let_pass(gate, clock, 149, stays, late)
         assert gate.counted(0x10, "clients") == 3
         let_pass(gate, clock, 1, stays, late)
-        assert gate.told(" leaves ").endswith(f" client {trusted.node.hex().upper()} leaves 00000010")
+        assert gate.told(" leaves ").endswith(f" client {trusted.node.hex().upper()} leaves 00000010, {trusted.where()}")
         assert gate.counted(0x10, "clients") == 2
 
 
 def listed(gate):
     """The nodes of the clients in a report, in its order."""
-    return [bytes.fromhex(it) for it in re.findall(r"(?m)^    (\w{12}), answered ", gate.report())]
+    return [bytes.fromhex(it) for it in re.findall(r"(?m)^    (\w{12}) at \S+, answered ", gate.report())]
 
 
 def who_left():
@@ -500,11 +501,11 @@ def late_answers():
     clock = Clock()
     with Gateway(tunnels(1), SYSTEM.fast, environment=clock.environment()) as gate:
         slow, slower = (Client(gate.ports[0x10], registers=False, answers=False) for _ in range(2))
-        pings = []
         for client in slow, slower:
             client.ask()
-            pings.append(client.hear(is_ping))
-        let_pass(gate, clock, 119)
+        let_pass(gate, clock, 7)
+        pings = [client.hear(is_ping) for client in (slow, slower)]
+        let_pass(gate, clock, 112)
         slow.answer(pings[0])
         gate.until_counted(0x10, "clients", 1)
         let_pass(gate, clock, 1)
@@ -526,7 +527,7 @@ def one_is_refused():
             refused = others.pop(which)
             assert all(other.hear()[30:] == b"all" for other in others) and comes_next(speaker, refused)
             report = gate.report()
-            assert f"{refused.node.hex().upper()}, answered 0 s ago, 1 not sent\n" in report, report
+            assert f"{refused.node.hex().upper()} at {refused.where()}, answered 0 s ago, 1 not sent\n" in report, report
             assert gate.counted(0x10, "lost: not sent", report) == 1
             assert gate.counted(0x10, "out", report) == out + 2, report
 
@@ -579,7 +580,7 @@ def who_is_refused():
             clock.let_pass(seconds)
             who.send(registration())
             gate.until_counted(0x10, "address not allowed", k)
-            named += [f"{socket.inet_ntoa(who.node[:4])}:{int.from_bytes(who.node[4:], 'big')}"] * is_named
+            named += [who.where()] * is_named
             said = [it.split()[1] for it in gate.lines if it.endswith(" is refused on 00000010: address not allowed")]
             assert said == named, (k, said, named)
 

@@ -10,6 +10,7 @@
 #include "ipx.h"
 #include "names.h"
 #include "play.h"
+#include "tunnel/nodes.h"
 #include "weather.h"
 
 /* ---- Descriptors and cables ---- */
@@ -59,26 +60,37 @@ static void check_rooms(const network *on)
     }
 }
 
-/* The list of clients is what the tunnel says. */
-static void check_clients(network *on)
+/* The node of a client is the hash of its place, or that place itself. */
+static void check_node(const gateway *it, const network *on, const member *client)
 {
-    ipxr_client client;
+    uint8_t node[NODE];
+    node_make(it->nodes, client->place, node);
+    if (!same_node(client->node, node) && !same_node(client->node, client->place))
+        wrong("client 10.0.0.%u:%u of network %X has a node that isn't its", client->place[3], get16(client->place + 4),
+              (unsigned)on->set->network);
+}
+
+/* The list of clients is what the tunnel says. */
+static void check_clients(const gateway *it, network *on)
+{
+    ipxr_keyed_member client;
     const roster *list = &on->roster;
-    if (list->count != ipxr_tunnel_clients(&on->tunnel))
-        wrong("network %X has %zu clients, and %zu are listed", (unsigned)on->set->network, ipxr_tunnel_clients(&on->tunnel), list->count);
-    for (size_t k = 0; ipxr_tunnel_client(&on->tunnel, k, &client) == 0; k++) {
-        if (!same_node(list->list[k].place, client.place))
+    if (list->count != ipxr_keyed_clients(&on->tunnel))
+        wrong("network %X has %zu clients, and %zu are listed", (unsigned)on->set->network, ipxr_keyed_clients(&on->tunnel), list->count);
+    for (size_t k = 0; ipxr_keyed_client(&on->tunnel, k, &client) == 0; k++) {
+        if (!same_node(list->list[k].place, client.place) || !same_node(list->list[k].node, client.node))
             wrong("client %zu of network %X is another one in the list", k, (unsigned)on->set->network);
+        check_node(it, on, &list->list[k]);
         receiver_is_well(list->list[k].queues, "a client");
     }
 }
 
-static void check_tunnel(network *on)
+static void check_tunnel(const gateway *it, network *on)
 {
     check_rooms(on);
     bool is_tunnel = on->set->type == LINK_DOSBOX;
     if (is_tunnel || on->roster.count > 0)
-        check_clients(on);
+        check_clients(it, on);
     if (!is_tunnel && (on->tunnel.made || on->roster.list != NULL || on->strangers.hosts != NULL))
         wrong("network %X is no tunnel, and has something of one", (unsigned)on->set->network);
     if (is_tunnel && on->roster.room != on->set->clients)
@@ -126,7 +138,7 @@ static void check_network(gateway *it, network *on)
         wrong("network %X has a cable of another kind", (unsigned)on->set->network);
     if (on->outgoing.count > 0)
         wrong("%zu copies wait on network %X after the turn", on->outgoing.count, (unsigned)on->set->network);
-    check_tunnel(on);
+    check_tunnel(it, on);
     check_queues(it, on);
 }
 
@@ -151,8 +163,12 @@ static void check_link(gateway *it, network *on)
     uint8_t kind = !on->is_up ? IPXR_LINK_DOWN : is_tunnel ? IPXR_LINK_SURE : IPXR_LINK_CABLE;
     if (ipxr_segment_link(on->segment, on->link, &link) != 0 || link.kind != kind)
         wrong("link %u of network %X is another one in its segment", on->link, (unsigned)on->set->network);
-    for (size_t k = 0; is_tunnel && on->is_up && ipxr_segment_station(on->segment, k, &station) == 0; k++)
-        sure += station.is_sure && station.link == on->link;
+    for (size_t k = 0; is_tunnel && on->is_up && ipxr_segment_station(on->segment, k, &station) == 0; k++) {
+        bool is_here = station.is_sure && station.link == on->link;
+        if (is_here && roster_of_node(&on->roster, station.node) == NULL)
+            wrong("network %X has a station that is sure, and no client", (unsigned)on->set->network);
+        sure += is_here;
+    }
     bool are_all = tunnels_of(it, port_of(it, on)) == 1 ? sure == on->roster.count : sure <= on->roster.count;
     if (is_tunnel && on->is_up && !are_all)
         wrong("%zu clients of network %X are stations, and there are %zu", sure, (unsigned)on->set->network, on->roster.count);
@@ -206,6 +222,8 @@ static void check_ports(gateway *it)
 void gateway_is_well(gateway *it)
 {
     check_descriptors(it);
+    if (!is_right_key(it->nodes))
+        wrong("the key of nodes isn't the one that is kept, or none at all");
     check_numbers(it);
     for (size_t k = 0; k < it->count; k++)
         check_network(it, &it->networks[k]);

@@ -70,6 +70,8 @@ static void lines_of_tunnel(made_link *it)
         below_line(it, one_in(5) ? "strangers none" : "strangers %u", any_rate(), 0);
     if (one_in(4))
         below_line(it, "line %u", one_in(3) ? 64 : 256, 0);
+    if (one_in(5))
+        below_line(it, "nodes by-address", 0, 0);
 }
 
 static void lines_of_any(made_link *it)

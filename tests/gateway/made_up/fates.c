@@ -4,6 +4,7 @@
 
 #include "chance.h"
 #include "configuration/change.h"
+#include "ipx.h"
 #include "links/ether.h"
 #include "monitoring/status.h"
 #include "peace.h"
@@ -28,6 +29,7 @@ enum { MOST_OF_RELOAD = 40 };
 static tally now, turn;
 static unsigned long seen;
 static bool is_other_gateway; /* the configuration changed in this turn */
+static const network *hears_now; /* the network where a datagram came */
 static uint64_t lost_before;
 
 unsigned long fates_seen(void)
@@ -60,18 +62,18 @@ int32_t __wrap_ipxr_packet(ipxr *router, uint8_t number, const uint8_t *bytes, s
     return now.became = __real_ipxr_packet(router, number, bytes, length);
 }
 
-int32_t __real_ipxr_tunnel_hear(ipxr_tunnel *tunnel, const ipxr_sender *sender, const uint8_t *bytes, size_t length);
-int32_t __wrap_ipxr_tunnel_hear(ipxr_tunnel *tunnel, const ipxr_sender *sender, const uint8_t *bytes, size_t length);
-int32_t __wrap_ipxr_tunnel_hear(ipxr_tunnel *tunnel, const ipxr_sender *sender, const uint8_t *bytes, size_t length)
+int32_t __real_ipxr_keyed_hear(ipxr_keyed *tunnel, const ipxr_keyed_sender *sender, const uint8_t *bytes, size_t length);
+int32_t __wrap_ipxr_keyed_hear(ipxr_keyed *tunnel, const ipxr_keyed_sender *sender, const uint8_t *bytes, size_t length);
+int32_t __wrap_ipxr_keyed_hear(ipxr_keyed *tunnel, const ipxr_keyed_sender *sender, const uint8_t *bytes, size_t length)
 {
-    return now.said = __real_ipxr_tunnel_hear(tunnel, sender, bytes, length);
+    return now.said = __real_ipxr_keyed_hear(tunnel, sender, bytes, length);
 }
 
-int32_t __real_ipxr_tunnel_receiver(ipxr_tunnel *tunnel, size_t index, uint8_t place[6]);
-int32_t __wrap_ipxr_tunnel_receiver(ipxr_tunnel *tunnel, size_t index, uint8_t place[6]);
-int32_t __wrap_ipxr_tunnel_receiver(ipxr_tunnel *tunnel, size_t index, uint8_t place[6])
+int32_t __real_ipxr_keyed_receiver(ipxr_keyed *tunnel, size_t index, uint8_t place[6]);
+int32_t __wrap_ipxr_keyed_receiver(ipxr_keyed *tunnel, size_t index, uint8_t place[6]);
+int32_t __wrap_ipxr_keyed_receiver(ipxr_keyed *tunnel, size_t index, uint8_t place[6])
 {
-    int32_t found = __real_ipxr_tunnel_receiver(tunnel, index, place);
+    int32_t found = __real_ipxr_keyed_receiver(tunnel, index, place);
     now.receivers += found == 0;
     turn.receivers += found == 0;
     return found;
@@ -86,11 +88,22 @@ int32_t __wrap_ipxr_segment_receiver(ipxr_segment *segment, size_t index, uint8_
     return found;
 }
 
+/* What came on a network goes there to the client whose node it is for, or to all. (or by a client that is a router to another network) */
+static void judge_copy(network *on, const uint8_t place[6], const uint8_t *packet)
+{
+    const member *to = roster_find(&on->roster, place);
+    const uint8_t *node = packet + AT_TO_NODE;
+    if (to == NULL || (is_for_here(on, packet) && !is_broadcast(node) && !same_node(node, to->node)))
+        wrong("10.0.0.%u:%u on network %X gets what isn't for it", place[3], get16(place + 4), (unsigned)on->set->network);
+}
+
 void __real_outgoing_copy(network *on, const uint8_t place[6]);
 void __wrap_outgoing_copy(network *on, const uint8_t place[6]);
 void __wrap_outgoing_copy(network *on, const uint8_t place[6])
 {
     turn.copies++;
+    if (hears_now == on)
+        judge_copy(on, place, on->outgoing.packet);
     __real_outgoing_copy(on, place);
 }
 
@@ -205,7 +218,9 @@ void __wrap_tunnel_hear(gateway *it, network *on, uint8_t *bytes, size_t length,
 {
     counts before = on->counts;
     memset(&now, 0, sizeof now);
+    hears_now = on;
     __real_tunnel_hear(it, on, bytes, length, from);
+    hears_now = NULL;
     if (on->counts.packets.in != before.packets.in + 1)
         wrong("a datagram is counted %d times", (int)(on->counts.packets.in - before.packets.in));
     judge(on, &before);

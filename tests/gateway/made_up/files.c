@@ -10,6 +10,7 @@
 #include "chance.h"
 #include "outside.h"
 #include "play.h"
+#include "systems/keeping.h"
 #include "systems/machine.h"
 #include "systems/orders.h"
 #include "systems/system.h"
@@ -111,6 +112,52 @@ bool system_random(uint8_t *bytes, size_t count)
         return false;
     chance_bytes(bytes, count);
     return true;
+}
+
+/* ---- What is kept ---- */
+
+/* A file with a key, of the one that there is; a folder of a seed is there or not. */
+static struct {
+    uint8_t bytes[16];
+    bool is_there, is_used; /* the gateway that runs has read or written it */
+} key_file;
+
+static bool has_folder(void)
+{
+    return the_play.seed % 3 != 0;
+}
+
+bool is_right_key(const uint8_t key[16])
+{
+    static const uint8_t NONE[16] = {0};
+    return memcmp(key, NONE, sizeof NONE) != 0 && (!key_file.is_used || memcmp(key, key_file.bytes, sizeof key_file.bytes) == 0);
+}
+
+kept keeping_read(const char *name, uint8_t *bytes, size_t count)
+{
+    (void)name;
+    key_file.is_used = false;
+    if (!has_folder())
+        return HAS_NO_FOLDER;
+    if (fails(OF_READING))
+        return CANT_BE_KEPT;
+    if (one_in(20) || count != sizeof key_file.bytes)
+        return IS_ANOTHER;
+    key_file.is_used = key_file.is_there;
+    if (!key_file.is_there)
+        return IS_NOT_YET;
+    memcpy(bytes, key_file.bytes, count);
+    return IS_KEPT;
+}
+
+kept keeping_write(const char *name, const uint8_t *bytes, size_t count)
+{
+    (void)name;
+    if (fails(OF_OPENING))
+        return CANT_BE_KEPT;
+    memcpy(key_file.bytes, bytes, count);
+    key_file.is_there = key_file.is_used = true;
+    return IS_KEPT;
 }
 
 const char *fault_words(void)

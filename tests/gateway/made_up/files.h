@@ -2,7 +2,9 @@
 #ifndef FILES_H
 #define FILES_H
 
+#include <stdbool.h>
 #include <stddef.h>
+#include <stdint.h>
 #include <stdio.h>
 
 /* Files that the gateway has open; and one of the test's own, which may be NULL, is closed. */
@@ -13,6 +15,9 @@ void own_close(FILE *file);
 void order_end(void);
 void order_report(void);
 void order_read(void);
+
+/* Whether it may be the gateway's key of nodes: what it has read or written last, or another one where nothing is kept. */
+bool is_right_key(const uint8_t key[16]);
 
 /* A new start: no order waits. */
 void orders_begin(void);

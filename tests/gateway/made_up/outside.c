@@ -10,11 +10,17 @@
 #include "ipx.h"
 #include "peace.h"
 #include "play.h"
+#include "tunnel/nodes.h"
 #include "world.h"
 
-enum { PING = 2, SILENT_HOST = 10, SLOW_HOST = 8, MILLION = 1000000, COME_AND_GO = 99, FIRST_PORT = 40000 };
+enum { PING = 2, PINGED_AT = 2 /* seconds that are left then */, SILENT_HOST = 10, SLOW_HOST = 8, MILLION = 1000000, COME_AND_GO = 99, FIRST_PORT = 40000 };
 
-static uint8_t cookies[ALL_HOSTS][PORTS_OF_HOST][NODE];
+/* What a player knows: its node, and the source of its last ping; zeros where it was told none. */
+typedef struct player {
+    uint8_t node[NODE], cookie[NODE];
+} player;
+
+static player players[ALL_HOSTS][PORTS_OF_HOST];
 static bool has_address = true;
 static int joined[2] = {-1, -1};
 
@@ -34,22 +40,34 @@ bool outside_has_address(const address *at)
 
 /* ---- Players ---- */
 
-/* Where the cookie of a place is kept, or NULL. */
-static uint8_t *kept_for(const uint8_t place[6])
+/* The player at a place, or NULL. */
+static player *player_at(const uint8_t place[6])
 {
     size_t host = place[3], number = (size_t)(get16(place + 4) - FIRST_PORT);
-    return place[0] == 10 && host < ALL_HOSTS && number < PORTS_OF_HOST ? cookies[host][number] : NULL;
+    return place[0] == 10 && host < ALL_HOSTS && number < PORTS_OF_HOST ? &players[host][number] : NULL;
 }
 
 const uint8_t *cookie_of(const uint8_t place[6])
 {
-    const uint8_t *kept = kept_for(place);
-    return kept != NULL && kept[0] != 0 ? kept : NULL;
+    const player *it = player_at(place);
+    return it != NULL && !is_no_node(it->cookie) ? it->cookie : NULL;
+}
+
+const uint8_t *node_of(const uint8_t place[6])
+{
+    const player *it = player_at(place);
+    return it != NULL && !is_no_node(it->node) ? it->node : NULL;
 }
 
 static bool is_ping(const uint8_t *bytes, size_t length)
 {
-    return length == HEADER && get16(bytes + AT_TO_SOCKET) == PING && is_broadcast(bytes + AT_TO_NODE) && bytes[AT_FROM_NODE] == LOCAL_NODE;
+    return length == HEADER && get16(bytes + AT_TO_SOCKET) == PING && is_broadcast(bytes + AT_TO_NODE) && bytes[AT_FROM_NODE] == COOKIE_NODE;
+}
+
+/* Whether it is an answer of the gateway's, to a registration or a ping. */
+static bool is_answer(const network *on, const uint8_t *bytes, size_t length)
+{
+    return length == HEADER && get16(bytes + AT_TO_SOCKET) == PING && same_node(bytes + AT_FROM_NODE, on->node);
 }
 
 static bool will_answer(const uint8_t place[6])
@@ -59,19 +77,59 @@ static bool will_answer(const uint8_t place[6])
     return place[3] < SLOW_HOST ? !one_in(20) : place[3] < SILENT_HOST && one_in(4);
 }
 
+/* Whether somebody at a place registered less than seven seconds ago, and is remembered. */
+static bool is_unanswered(network *on, const uint8_t place[6])
+{
+    ipxr_keyed_member it;
+    for (size_t k = 0; ipxr_keyed_waiter(&on->tunnel, k, &it) == 0; k++)
+        if (same_node(it.place, place))
+            return it.seconds_left > PINGED_AT;
+    return false;
+}
+
+/* What a player is sent is for him: a ping, unless he may wait for his node; his node, and no other; and all else as a client. */
+static void judge(network *on, const uint8_t place[6], const uint8_t *bytes, size_t length)
+{
+    uint8_t own[NODE];
+    const member *client = roster_find(&on->roster, place);
+    const uint8_t *to = bytes + AT_TO_NODE;
+    node_make(the_gate->nodes, place, own);
+    bool has_node = same_node(to, own) || (client != NULL && same_node(to, client->node));
+    if (is_ping(bytes, length) && is_unanswered(on, place))
+        wrong("10.0.0.%u:%u on network %X is pinged while it waits for its node", place[3], get16(place + 4), (unsigned)on->set->network);
+    if (is_answer(on, bytes, length) && !has_node)
+        wrong("10.0.0.%u:%u on network %X is told another's node", place[3], get16(place + 4), (unsigned)on->set->network);
+    if (is_ping(bytes, length) || is_answer(on, bytes, length))
+        return;
+    if (client == NULL)
+        wrong("10.0.0.%u:%u on network %X is no client, and hears what clients do", place[3], get16(place + 4), (unsigned)on->set->network);
+}
+
+/* What a player learns of a ping, or of an answer. */
+static void learn(const network *on, const uint8_t place[6], const uint8_t *bytes, size_t length)
+{
+    player *it = player_at(place);
+    if (it != NULL && is_ping(bytes, length))
+        memcpy(it->cookie, bytes + AT_FROM_NODE, NODE);
+    else if (it != NULL && is_answer(on, bytes, length) && !is_broadcast(bytes + AT_TO_NODE))
+        memcpy(it->node, bytes + AT_TO_NODE, NODE);
+}
+
 void outside_hears_datagram(int fd, descriptor *on, const departure *what)
 {
     uint8_t place[NODE];
     made_packet made = {.length = 0};
+    network *tunnel = network_at(fd);
     memcpy(place, what->to.host, sizeof what->to.host);
     put16(place + 4, what->to.port);
-    (void)fd;
-    bool is = is_ping(what->bytes, what->length);
-    uint8_t *kept = is ? kept_for(place) : NULL;
-    if (kept != NULL)
-        memcpy(kept, what->bytes + AT_FROM_NODE, NODE);
-    if (is && will_answer(place)) {
-        make_answer(&made, place, what->bytes + AT_FROM_NODE);
+    if (tunnel != NULL && tunnel->set->type == LINK_DOSBOX) {
+        judge(tunnel, place, what->bytes, what->length);
+        learn(tunnel, place, what->bytes, what->length);
+        peace_hears_datagram(place, what->bytes, what->length);
+    }
+    if (is_ping(what->bytes, what->length) && will_answer(place)) {
+        const uint8_t *node = tunnel != NULL && tunnel->set->nodes_by_address && !is_peace() && one_in(2) ? NULL : node_of(place);
+        make_answer(&made, node != NULL ? node : place, what->bytes + AT_FROM_NODE);
         comes(on, &what->to, made.bytes, made.length);
     } else if (!is_peace() && make_reply(&made, what->bytes, what->length) && !one_in(4)) {
         comes(on, &what->to, made.bytes, made.length);

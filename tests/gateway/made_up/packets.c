@@ -44,9 +44,9 @@ void make_registration(made_packet *it)
     take(it, ipxr_write_packet(&nobody, &nobody, 0, 0, (const uint8_t *)"", 0, it->bytes, sizeof it->bytes));
 }
 
-void make_answer(made_packet *it, const uint8_t place[6], const uint8_t cookie[6])
+void make_answer(made_packet *it, const uint8_t node[6], const uint8_t cookie[6])
 {
-    ipxr_address from = at(0, place, PING), to = at(0, cookie, PING);
+    ipxr_address from = at(0, node, PING), to = at(0, cookie, PING);
     take(it, ipxr_write_packet(&from, &to, 0, 0, (const uint8_t *)"", 0, it->bytes, sizeof it->bytes));
 }
 
@@ -71,9 +71,9 @@ static uint32_t any_network(const gateway *gate, const network *on)
 /* The node of a client, a PC, the gateway, or all. */
 static void any_receiver(gateway *gate, const network *on, uint8_t node[6])
 {
-    ipxr_client client;
+    ipxr_keyed_member client;
     network *other = &gate->networks[below((uint32_t)gate->count)];
-    size_t clients = ipxr_tunnel_clients(&other->tunnel);
+    size_t clients = ipxr_keyed_clients(&other->tunnel);
     switch (below(5)) {
     case 0:
         memcpy(node, on->node, NODE);
@@ -87,8 +87,8 @@ static void any_receiver(gateway *gate, const network *on, uint8_t node[6])
         break;
     default:
         any_place(node);
-        if (clients > 0 && ipxr_tunnel_client(&other->tunnel, below((uint32_t)clients), &client) == 0)
-            memcpy(node, client.place, NODE);
+        if (clients > 0 && ipxr_keyed_client(&other->tunnel, below((uint32_t)clients), &client) == 0)
+            memcpy(node, client.node, NODE);
     }
 }
 

@@ -21,9 +21,9 @@ typedef struct station {
 void any_place(uint8_t place[6]);
 void any_node(uint8_t node[6]);
 
-/* What a DOSBox says to come in, and to answer a ping whose source is the cookie. */
+/* What a DOSBox says to come in, and by its node to answer a ping whose source is the cookie. */
 void make_registration(made_packet *it);
-void make_answer(made_packet *it, const uint8_t place[6], const uint8_t cookie[6]);
+void make_answer(made_packet *it, const uint8_t node[6], const uint8_t cookie[6]);
 
 /* Anything that a station may say on a network; and the same with bytes altered, or cut. */
 void make_any(made_packet *it, gateway *gate, const network *on, const station *from);

@@ -7,31 +7,47 @@
 #include "ipx.h"
 #include "outside.h"
 #include "play.h"
+#include "tunnel/place.h"
 #include "weather.h"
 #include "world.h"
 
-/* Turns of a second: until all is empty; from then on somebody comes in, speaks, and has been heard. The router says what it knows in a
- * minute. */
-enum { CALM = 200, COMES_IN = CALM + 1, COMES_AGAIN = COMES_IN + 3, SPEAKS = COMES_IN + 9, HEARD = SPEAKS + 2, SAID_ALL = HEARD + 62 };
+/* Turns of a second: until all is empty; from then on somebody comes in, and another who only listens, he speaks, and has been heard. The router
+ * says what it knows in a minute. (an address of which few strangers are answered may have to wait for a second answer) */
+enum {
+    CALM = 200, COMES_IN = CALM + 1, COMES_AGAIN = COMES_IN + 3, LISTENS = COMES_AGAIN + 20, LISTENS_AGAIN = LISTENS + 3,
+    SPEAKS = LISTENS_AGAIN + 11, HEARD = SPEAKS + 2, SAID_ALL = HEARD + 62
+};
 
-enum { GAME = 0x4003, FIRST_PORT = 40000, MARK = 0x5EED };
+enum { GAME = 0x4003, FIRST_PORT = 40000, LISTENERS = PORTS_OF_HOST / 2 /* the first of their ports */, MARK = 0x5EED };
 
 static unsigned left, now;
 static unsigned sent_by[MOST_DESCRIPTORS];   /* frames or bytes */
 static unsigned marked_by[MOST_DESCRIPTORS]; /* those that a player said in peace */
+static unsigned marked_at[PORTS_OF_HOST];    /* and the same of places, by their port */
 
-void peace_hears(int fd, const uint8_t *bytes, size_t length)
+static bool is_marked(const uint8_t *bytes, size_t length)
 {
     uint8_t mark[4];
     put32(mark, MARK);
+    for (size_t k = 0; k + sizeof mark <= length; k++)
+        if (memcmp(bytes + k, mark, sizeof mark) == 0)
+            return true;
+    return false;
+}
+
+void peace_hears(int fd, const uint8_t *bytes, size_t length)
+{
     if (left == 0)
         return;
     sent_by[fd]++;
-    for (size_t k = 0; k + sizeof mark <= length; k++)
-        if (memcmp(bytes + k, mark, sizeof mark) == 0) {
-            marked_by[fd]++;
-            return;
-        }
+    marked_by[fd] += is_marked(bytes, length);
+}
+
+void peace_hears_datagram(const uint8_t place[NODE], const uint8_t *bytes, size_t length)
+{
+    size_t port = (size_t)(get16(place + 4) - FIRST_PORT);
+    if (left > 0 && place[3] == 0 && port < PORTS_OF_HOST)
+        marked_at[port] += is_marked(bytes, length);
 }
 
 bool is_peace(void)
@@ -79,18 +95,46 @@ static bool has_tunnel(const network *on)
     return on->set->type == LINK_DOSBOX && on->tunnel.made && on->cable->fd >= 0 && on->is_up;
 }
 
-/* The player who comes in by a network: one of a household that all networks let in. */
+/* The player who comes in by a network, and the one who only listens there: of a household that all networks let in. */
 static address player_on(const gateway *it, const network *on)
 {
-    return (address){.host = {10, 0, 0, 0}, .port = (uint16_t)(FIRST_PORT + (on - it->networks) % PORTS_OF_HOST)};
+    return (address){.host = {10, 0, 0, 0}, .port = (uint16_t)(FIRST_PORT + (on - it->networks) % LISTENERS)};
+}
+
+static address listener_on(const gateway *it, const network *on)
+{
+    address at = player_on(it, on);
+    at.port += LISTENERS;
+    return at;
+}
+
+static void registers(const network *on, const address *from)
+{
+    made_packet made = {.length = 0};
+    make_registration(&made);
+    comes(descriptor_at(on->cable->fd, DATAGRAMS), from, made.bytes, made.length);
 }
 
 static void comes_in(gateway *it, network *on)
 {
-    made_packet made = {.length = 0};
     address from = player_on(it, on);
-    make_registration(&made);
-    comes(descriptor_at(on->cable->fd, DATAGRAMS), &from, made.bytes, made.length);
+    registers(on, &from);
+}
+
+static void listens(gateway *it, network *on)
+{
+    address from = listener_on(it, on);
+    registers(on, &from);
+}
+
+/* The node that somebody was told. */
+static const uint8_t *node_at(const address *at)
+{
+    static const uint8_t NOBODY[NODE] = {0};
+    uint8_t place[NODE];
+    place_of(at, place);
+    const uint8_t *node = node_of(place);
+    return node != NULL ? node : NOBODY;
 }
 
 /* He says something to all of his network. */
@@ -100,8 +144,7 @@ static void speaks(gateway *it, network *on)
     uint8_t bytes[HEADER + 8], mark[8] = {0};
     address at = player_on(it, on);
     ipxr_address from = {.network = on->set->network, .socket = GAME}, to = from;
-    memcpy(from.node, at.host, sizeof at.host);
-    put16(from.node + sizeof at.host, at.port);
+    memcpy(from.node, node_at(&at), NODE);
     memcpy(to.node, ALL, NODE);
     put32(mark, MARK);
     int32_t length = ipxr_write_packet(&from, &to, 4, 0, mark, sizeof mark, bytes, sizeof bytes);
@@ -128,14 +171,33 @@ static void check_calm(const gateway *it)
     }
 }
 
-static void is_in(gateway *it, network *on)
+static bool is_client(network *on, const address *at)
 {
     uint8_t place[NODE];
-    address at = player_on(it, on);
-    memcpy(place, at.host, sizeof at.host);
-    put16(place + sizeof at.host, at.port);
-    if (roster_find(&on->roster, place) == NULL)
+    place_of(at, place);
+    return roster_find(&on->roster, place) != NULL;
+}
+
+static bool has_room_for_two(const network *on)
+{
+    return on->set->clients > 1 && on->set->per_address > 1;
+}
+
+static void is_in(gateway *it, network *on)
+{
+    address player = player_on(it, on), listener = listener_on(it, on);
+    if (!is_client(on, &player))
         wrong("nobody is let in on network %X in peace", (unsigned)on->set->network);
+    if (has_room_for_two(on) && !is_client(on, &listener))
+        wrong("nobody who only listens is let in on network %X in peace", (unsigned)on->set->network);
+}
+
+/* Who only listens has heard what was said to all. */
+static void has_heard(gateway *it, network *on)
+{
+    address listener = listener_on(it, on);
+    if (has_room_for_two(on) && marked_at[listener.port - FIRST_PORT] == 0)
+        wrong("who only listens on network %X hears nothing in peace", (unsigned)on->set->network);
 }
 
 /* Whether a link carries frames, is up, and somebody is there. */
@@ -185,6 +247,7 @@ static void begin_to_count(void)
 {
     memset(sent_by, 0, sizeof sent_by);
     memset(marked_by, 0, sizeof marked_by);
+    memset(marked_at, 0, sizeof marked_at);
 }
 
 bool peace_passes(gateway *it)
@@ -200,12 +263,17 @@ bool peace_passes(gateway *it)
     case COMES_AGAIN:
         each_tunnel(it, comes_in);
         break;
+    case LISTENS:
+    case LISTENS_AGAIN:
+        each_tunnel(it, listens);
+        break;
     case SPEAKS:
         each_tunnel(it, is_in);
         begin_to_count();
         each_tunnel(it, speaks);
         break;
     case HEARD:
+        each_tunnel(it, has_heard);
         check_heard(it);
         break;
     case SAID_ALL:

@@ -16,7 +16,8 @@ bool peace_passes(gateway *it);
 bool is_peace(void);
 bool peace_answers(const uint8_t place[6]);
 
-/* What goes out in peace is noted: a datagram to a place, anything by a descriptor. */
+/* What goes out in peace is noted: anything by a descriptor, a datagram to a place. */
 void peace_hears(int fd, const uint8_t *bytes, size_t length);
+void peace_hears_datagram(const uint8_t place[6], const uint8_t *bytes, size_t length);
 
 #endif

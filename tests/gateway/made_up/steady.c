@@ -14,7 +14,7 @@ enum { MOST_PLAYERS = 8, HUNDREDTH = SECOND_NS / 100, USUAL = 35, FASTEST = 600,
 static struct {
     int fd;
     size_t count;
-    uint8_t places[MOST_PLAYERS][NODE];
+    uint8_t places[MOST_PLAYERS][NODE], nodes[MOST_PLAYERS][NODE];
     unsigned rates[MOST_PLAYERS]; /* packets a second */
     unsigned owed[MOST_PLAYERS];  /* hundredths of a packet */
     bool is_to_all;
@@ -23,17 +23,18 @@ static struct {
 
 bool steady_begins(void)
 {
-    ipxr_client client;
+    ipxr_keyed_member client;
     int fd = descriptor_any(DATAGRAMS);
     network *on = fd >= 0 ? network_at(fd) : NULL;
-    if (on == NULL || on->set->type != LINK_DOSBOX || ipxr_tunnel_clients(&on->tunnel) == 0)
+    if (on == NULL || on->set->type != LINK_DOSBOX || ipxr_keyed_clients(&on->tunnel) == 0)
         return false;
     steady.fd = fd;
     steady.is_to_all = !one_in(4);
     steady.length = one_in(3) ? between(0, 1300) : DATA;
     steady.count = 0;
-    while (steady.count < MOST_PLAYERS && ipxr_tunnel_client(&on->tunnel, steady.count, &client) == 0) {
+    while (steady.count < MOST_PLAYERS && ipxr_keyed_client(&on->tunnel, steady.count, &client) == 0) {
         memcpy(steady.places[steady.count], client.place, NODE);
+        memcpy(steady.nodes[steady.count], client.node, NODE);
         steady.rates[steady.count++] = one_in(6) ? between(USUAL, FASTEST) : USUAL;
     }
     told("%zu players play on %d", steady.count, fd);
@@ -45,11 +46,11 @@ static void say(network *on, size_t player)
 {
     made_packet made = {.length = 0};
     uint8_t data[MOST_MADE] = {0};
-    const uint8_t *to_node = steady.places[below((uint32_t)steady.count)], *own = steady.places[player];
+    const uint8_t *to_node = steady.nodes[below((uint32_t)steady.count)], *own = steady.places[player];
     ipxr_address from = {.network = on->set->network, .socket = GAME}, to = from;
     address at = {.port = get16(own + 4)};
     memcpy(at.host, own, sizeof at.host);
-    memcpy(from.node, own, NODE);
+    memcpy(from.node, steady.nodes[player], NODE);
     memcpy(to.node, to_node, NODE);
     if (steady.is_to_all)
         memset(to.node, IPXR_BROADCAST_BYTE, NODE);

@@ -35,11 +35,24 @@ static int any_tunnel(void)
 /* A place, mostly of somebody who is a client there. */
 static void any_player(network *on, uint8_t place[6])
 {
-    ipxr_client client;
-    size_t count = ipxr_tunnel_clients(&on->tunnel);
+    ipxr_keyed_member client;
+    size_t count = ipxr_keyed_clients(&on->tunnel);
     any_place(place);
-    if (count > 0 && !one_in(4) && ipxr_tunnel_client(&on->tunnel, below((uint32_t)count), &client) == 0)
+    if (count > 0 && !one_in(4) && ipxr_keyed_client(&on->tunnel, below((uint32_t)count), &client) == 0)
         memcpy(place, client.place, NODE);
+}
+
+/* The node by which somebody at a place speaks: the one that he was told, now and then that of his address, or of any client. */
+static void any_source(network *on, const uint8_t place[6], uint8_t node[6])
+{
+    ipxr_keyed_member other;
+    const uint8_t *own = node_of(place);
+    size_t count = ipxr_keyed_clients(&on->tunnel);
+    memcpy(node, own != NULL && !one_in(on->set->nodes_by_address ? 3 : 20) ? own : place, NODE);
+    if (one_in(20) && count > 0 && ipxr_keyed_client(&on->tunnel, below((uint32_t)count), &other) == 0)
+        memcpy(node, other.node, NODE);
+    else if (one_in(20))
+        any_node(node);
 }
 
 /* What a player says: he comes in, answers a ping with its cookie or with another, or says something. */
@@ -48,16 +61,14 @@ static void make_word(made_packet *it, network *on, const uint8_t place[6])
     uint8_t guessed[NODE];
     station from = {.network = one_in(4) ? 0 : on->set->network};
     const uint8_t *cookie = cookie_of(place);
-    memcpy(from.node, place, NODE);
+    any_source(on, place, from.node);
     any_node(guessed);
-    if (one_in(12))
-        any_node(from.node);
-    switch (below(8)) {
+    switch (node_of(place) == NULL && !one_in(4) ? 0 : below(8)) {
     case 0:
         make_registration(it);
         break;
     case 1:
-        make_answer(it, place, cookie != NULL && !one_in(6) ? cookie : guessed);
+        make_answer(it, from.node, cookie != NULL && !one_in(6) ? cookie : guessed);
         break;
     default:
         make_any(it, the_gate, on, &from);

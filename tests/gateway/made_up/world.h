@@ -14,8 +14,9 @@ void world_acts(void);
 
 /* ---- What the world knows ---- */
 
-/* The source of the ping that a place was sent last; NULL where it was sent none. */
+/* The source of the ping that a place was sent last, and the node that a registration's answer told it last; NULL where there was none. */
 const uint8_t *cookie_of(const uint8_t place[6]);
+const uint8_t *node_of(const uint8_t place[6]);
 
 /* The first network whose cable has a descriptor; NULL where none has. */
 network *network_at(int fd);
