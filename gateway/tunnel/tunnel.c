@@ -254,6 +254,7 @@ void tunnel_second(network *on)
 {
     ipxr_own own;
     ipxr_keyed_member gone;
+    outgoing_send(on); /* (what waits is for those who are clients still) */
     ipxr_keyed_second(&on->tunnel);
     for (size_t k = 0; ipxr_keyed_leaver(&on->tunnel, k, &gone) == 0; k++)
         tunnel_tell_leaves(on, gone.place, gone.node);
@@ -287,11 +288,11 @@ static void ping_unanswered(const gateway *it, network *on)
     }
 }
 
-/* The next ping that waits has its turn, unless its client left meanwhile, or registered: that will be pinged again. */
-static void ping_next(const gateway *it, network *on, const ipxr_own *next)
+/* The next ping that waits has its turn, unless its client left meanwhile. (also where somebody registered in the client's name: who did so again
+ * and again would put it out. A DOSBox has its answer by then, or a second one) */
+static void ping_next(network *on, const ipxr_own *next)
 {
-    const member *to = roster_find(&on->roster, next->place);
-    if (to != NULL && !roster_waits(to, it->seconds))
+    if (roster_find(&on->roster, next->place) != NULL)
         ping_one(on, next);
 }
 
@@ -299,7 +300,7 @@ void tunnel_ping(const gateway *it, network *on)
 {
     const ipxr_own *next;
     while ((next = pings_due(&on->pings)) != NULL)
-        ping_next(it, on, next);
+        ping_next(on, next);
     if (asks_are_due(&on->asks))
         ping_unanswered(it, on);
 }

@@ -14,6 +14,7 @@ NARROW = 256  # kilobits a second
 LINES = 4  # networks that share a line
 REGISTERS = 250  # strangers a second, of each of them
 PINGED, BETWEEN = 60, 27  # clients that are pinged by such a line, and milliseconds between two of a few pings
+FORGOTTEN = 10  # seconds after which no registration is remembered
 ASKED_AGAIN, WAITS = 5, 4  # seconds after which the library asks who is silent, and for which a ping may wait
 NEWCOMERS = 3  # registrations of one who wants to come in
 FORGOTTEN = 11  # seconds after which who said only its first word isn't one of those who speak
@@ -160,6 +161,33 @@ def pings_of_many():
         assert count == PINGED, f"{count} pings"
 
 
+def who_registers_again_is_pinged():
+    """By a line of 256 kbit/s 60 clients register at one moment, and one of them again before its ping's turn, as somebody else can in its name: it
+    is pinged all the same."""
+    with Playground(by_a_line(NARROW), numbers=(0, 0, 0), more=1, clock=Clock()) as it:
+        for _ in range(PINGED):
+            player = Player(it.free[0], GATEWAY)
+            it.party.put_in("is pinged", player)
+            player.register()
+            it.party.hear()
+        until(lambda: it.party.hear() or all(player.network for player in it.party.all), "all are answered")
+        for player in it.party.all:
+            player.say(HELLO)
+            it.party.hear()
+        until(lambda: it.party.hear() or it.gate.counted(NETWORK, "clients") == PINGED, "all clients")
+        it.let_pass(FORGOTTEN)
+        for player in it.party.all:
+            player.register()
+        it.gate.report()
+        it.let_pass(FORGOTTEN)
+        last = it.party.all[-1]
+        before = last.pings
+        last.register()
+        it.let_pass(WAITS)
+        it.party.until(lambda: False, QUIET)
+        assert last.pings > before, "the ping that waited is lost"
+
+
 def many_beside_long_packets():
     """40 addresses by 1 Mbit/s, beside a client that says 40 long packets a second: they lose nothing."""
     many_addresses(40, 1000, 6.0, 40, LONGEST)
@@ -171,7 +199,7 @@ def more_than_are_told_apart():
 
 
 TESTS = [strangers_share_a_part, a_newcomer_comes_in, many_beside_long_packets, more_than_are_told_apart, few_of_many_speak,
-         many_words_at_once, a_flood_from_a_wide_network, pings_of_many]
+         many_words_at_once, a_flood_from_a_wide_network, pings_of_many, who_registers_again_is_pinged]
 
 
 def inside():

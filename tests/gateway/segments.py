@@ -6,7 +6,8 @@ import time
 
 from cards import has_bridges, has_cards, has_taps, hears_all_frames, pair
 from frames import Packets, Station, Udp, frame
-from lab import AGAIN, EVERYONE, GAME, LIMIT, Client, Clock, Gateway, address, fresh, is_routers, packet, reaches, rip_response, until
+from lab import (AGAIN, EVERYONE, GAME, LIMIT, Client, Clock, Gateway, address, free_ports, fresh, is_routers, packet, reaches,
+                 reaches_again, rip_response, until)
 from spaces import ip
 from status import Watched, advertise
 from systems import SYSTEM, Windows
@@ -174,6 +175,24 @@ def nobody_takes_a_clients_name():
             assert it.next_is(one, data)
         assert it.next_is(it.anna, tells(it.card, it.anna))
         assert lost(it.gate, "source of another") == 1
+
+
+def by_one_node_at_a_time():
+    """Who is a client by its address says nothing by the node of its place: neither clients nor stations of other links hear that."""
+    with Party("network 20 1 1424 dosbox 127.0.0.1:0\n", below="nodes by-address") as it:
+        (port,) = free_ports(1)
+        elsewhere = Client(it.gate.ports[0x20], own_port=port)
+        elsewhere.close()
+        old = Client(it.gate.ports_of[0], own_port=port, registers=False, gateway=it.gate.nodes[NUMBER])
+        old.network = NUMBER
+        assert reaches_again(old, old)
+        by_place, old.node = old.node, elsewhere.node
+        for to in EVERYONE, PC, it.anna.node:
+            old.say(address(NUMBER, to, GAME), b"by another node")
+        it.gate.until_counted(NUMBER, "no room for a client", 3)
+        old.node = by_place
+        data = calls(old)
+        assert all(it.next_is(one, data) for one in it.all)
 
 
 def lost(gate, what):
@@ -465,7 +484,8 @@ def four_in_one_bridge():
     ip("link", "del", "brs")
 
 
-TESTS = (a_call_finds_all, an_answer_goes_to_one, a_node_moves, two_with_one_node, nobody_takes_a_clients_name, the_router_is_a_station,
+TESTS = (a_call_finds_all, an_answer_goes_to_one, a_node_moves, two_with_one_node, nobody_takes_a_clients_name, by_one_node_at_a_time,
+         the_router_is_a_station,
          each_client_is_sure, a_client_at_two_links)
 OF_LINUX = (stations_are_shown, links_change_while_it_runs, clients_are_sure_after_a_reload, links_change_beneath_a_packet,
             shares_of_several_links, who_is_a_router_there, stations_age)

@@ -64,10 +64,11 @@ static bool is_ping(const uint8_t *bytes, size_t length)
     return length == HEADER && get16(bytes + AT_TO_SOCKET) == PING && is_broadcast(bytes + AT_TO_NODE) && bytes[AT_FROM_NODE] == COOKIE_NODE;
 }
 
-/* Whether it is an answer of the gateway's, to a registration or a ping. */
+/* Whether it is an answer of the gateway's, to a registration or a ping. (what somebody asks at the status socket is for all) */
 static bool is_answer(const network *on, const uint8_t *bytes, size_t length)
 {
-    return length == HEADER && get16(bytes + AT_TO_SOCKET) == PING && same_node(bytes + AT_FROM_NODE, on->node);
+    return length == HEADER && get16(bytes + AT_TO_SOCKET) == PING && same_node(bytes + AT_FROM_NODE, on->node) &&
+           !is_broadcast(bytes + AT_TO_NODE);
 }
 
 static bool will_answer(const uint8_t place[6])
@@ -111,7 +112,7 @@ static void learn(const network *on, const uint8_t place[6], const uint8_t *byte
     player *it = player_at(place);
     if (it != NULL && is_ping(bytes, length))
         memcpy(it->cookie, bytes + AT_FROM_NODE, NODE);
-    else if (it != NULL && is_answer(on, bytes, length) && !is_broadcast(bytes + AT_TO_NODE))
+    else if (it != NULL && is_answer(on, bytes, length))
         memcpy(it->node, bytes + AT_TO_NODE, NODE);
 }
 
