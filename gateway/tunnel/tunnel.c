@@ -237,13 +237,14 @@ static void ping(network *on, const ipxr_own *own)
         ping_one(on, own);
 }
 
-/* Somebody who registered lately is answered again, or pinged, where there is room: for him it was asked then. A client is pinged in any case:
- * the tunnel asks it in no other way meanwhile, so that it would leave by what others do with the line. */
+/* Somebody who registered lately is answered again, or pinged, where there is room: for him it was asked then. A client is pinged in any case, and
+ * at once: the tunnel asks it in no other way meanwhile, so that it would leave by what others do with the line, or register in its name while
+ * its ping waits. */
 static void send_again(network *on, const ipxr_own *own)
 {
     member *to = roster_find(&on->roster, own->place);
     if (to != NULL && is_broadcast(own->bytes + AT_TO_NODE))
-        ping(on, own);
+        ping_one(on, own);
     else if (to != NULL ? lets_answer(on, to) : has_line_for_stranger(on, own->place))
         send_one(on, own, to);
     else
@@ -288,11 +289,11 @@ static void ping_unanswered(const gateway *it, network *on)
     }
 }
 
-/* The next ping that waits has its turn, unless its client left meanwhile. (also where somebody registered in the client's name: who did so again
- * and again would put it out. A DOSBox has its answer by then, or a second one) */
-static void ping_next(network *on, const ipxr_own *next)
+/* The next ping that waits has its turn, unless its client left meanwhile, or registered: that will be pinged again. */
+static void ping_next(const gateway *it, network *on, const ipxr_own *next)
 {
-    if (roster_find(&on->roster, next->place) != NULL)
+    const member *to = roster_find(&on->roster, next->place);
+    if (to != NULL && !roster_waits(to, it->seconds))
         ping_one(on, next);
 }
 
@@ -300,7 +301,7 @@ void tunnel_ping(const gateway *it, network *on)
 {
     const ipxr_own *next;
     while ((next = pings_due(&on->pings)) != NULL)
-        ping_next(on, next);
+        ping_next(it, on, next);
     if (asks_are_due(&on->asks))
         ping_unanswered(it, on);
 }

@@ -14,7 +14,7 @@ NARROW = 256  # kilobits a second
 LINES = 4  # networks that share a line
 REGISTERS = 250  # strangers a second, of each of them
 PINGED, BETWEEN = 60, 27  # clients that are pinged by such a line, and milliseconds between two of a few pings
-FORGOTTEN = 10  # seconds after which no registration is remembered
+LAST_PINGED, FORGOTTEN, SOON = 9, 10, 0.3  # seconds after which who registered is pinged for the last time, and isn't remembered; and a moment
 ASKED_AGAIN, WAITS = 5, 4  # seconds after which the library asks who is silent, and for which a ping may wait
 NEWCOMERS = 3  # registrations of one who wants to come in
 FORGOTTEN = 11  # seconds after which who said only its first word isn't one of those who speak
@@ -162,8 +162,8 @@ def pings_of_many():
 
 
 def who_registers_again_is_pinged():
-    """By a line of 256 kbit/s 60 clients register at one moment, and one of them again before its ping's turn, as somebody else can in its name: it
-    is pinged all the same."""
+    """By a line of 256 kbit/s 60 clients register again at one moment: each is pinged nine seconds later, in that second. (if their pings waited for
+    each other, somebody who registers in a client's name before its turn would put it out)"""
     with Playground(by_a_line(NARROW), numbers=(0, 0, 0), more=1, clock=Clock()) as it:
         for _ in range(PINGED):
             player = Player(it.free[0], GATEWAY)
@@ -179,13 +179,12 @@ def who_registers_again_is_pinged():
         for player in it.party.all:
             player.register()
         it.gate.report()
-        it.let_pass(FORGOTTEN)
-        last = it.party.all[-1]
-        before = last.pings
-        last.register()
-        it.let_pass(WAITS)
+        it.let_pass(LAST_PINGED - SOON)
         it.party.until(lambda: False, QUIET)
-        assert last.pings > before, "the ping that waited is lost"
+        before = [player.pings for player in it.party.all]
+        it.let_pass(SOON)
+        it.party.until(lambda: False, QUIET)
+        assert all(player.pings > count for player, count in zip(it.party.all, before)), "a ping waits"
 
 
 def many_beside_long_packets():
