@@ -5,6 +5,12 @@
 /* Addresses of strangers that are told apart, and bytes of a place that are its address. */
 enum { MOST_ADDRESSES = 4096, HOST = 4 };
 
+/* What goes to strangers, or may follow: of all networks, and to each address. */
+static struct {
+    ipxr_strangers_limits limits;
+    meter sent, hosts[MOST_ADDRESSES];
+} strangers;
+
 static ipxr_line line;
 
 /* What the router uses of it. */
@@ -28,6 +34,7 @@ void line_set(const settings *set)
     for (size_t k = 0; k < set->count; k++)
         if (set->networks[k].kilobits > 0)
             line.kilobits = set->networks[k].kilobits;
+    ipxr_line_strangers(&line, &strangers.limits);
 }
 
 void line_join(line_use *it)
@@ -119,16 +126,27 @@ void line_send_again(size_t length)
     ipxr_line_send(&line, limit_clock(), 0, length, IPXR_LINE_BEYOND, &nobody, &none);
 }
 
+static size_t place_among(const uint8_t key[SIPHASH_KEY], const uint8_t place[6])
+{
+    return siphash(key, place, HOST) % MOST_ADDRESSES;
+}
+
 /* What an address of strangers uses of their part. */
 static uint64_t *stranger(const uint8_t key[SIPHASH_KEY], const uint8_t place[6])
 {
     static uint64_t used[MOST_ADDRESSES];
-    return &used[siphash(key, place, HOST) % MOST_ADDRESSES];
+    return &used[place_among(key, place)];
 }
 
 bool line_lets_stranger(const uint8_t key[SIPHASH_KEY], const uint8_t place[6])
 {
     return ipxr_line_lets_stranger(&line, limit_clock(), stranger(key, place));
+}
+
+bool line_lets_newcomer(const uint8_t key[SIPHASH_KEY], const uint8_t place[6], uint32_t count)
+{
+    ipxr_meter *host = meter_now(&strangers.hosts[place_among(key, place)]);
+    return line_lets_stranger(key, place) && ipxr_strangers_send(&strangers.limits, count, host, meter_now(&strangers.sent)) == IPXR_PASSES;
 }
 
 void line_send_to_stranger(const uint8_t key[SIPHASH_KEY], const uint8_t place[6], size_t length)

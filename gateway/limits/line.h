@@ -52,7 +52,8 @@ bool line_lets_again(void);
 void line_send_again(size_t length);
 
 /* Whether there is room for what the gateway says to a stranger, of whatever network; and a datagram of so many bytes goes out to him. The key
- * is of the hash by which addresses are told apart. */
+ * is of the hash by which addresses are told apart. Where more follows later, so many datagrams are counted at once: later they find room. */
+bool line_lets_newcomer(const uint8_t key[SIPHASH_KEY], const uint8_t place[6], uint32_t count);
 bool line_lets_stranger(const uint8_t key[SIPHASH_KEY], const uint8_t place[6]);
 void line_send_to_stranger(const uint8_t key[SIPHASH_KEY], const uint8_t place[6], size_t length);
 

@@ -30,20 +30,8 @@ static ipxr_meter *of_host(strangers *it, const uint8_t place[6])
     return meter_now(&it->hosts[siphash(it->key, place, HOST) % MOST_HOSTS]);
 }
 
-/* The most datagrams that a limit lets pass at once. */
-static uint64_t most_of(const ipxr_limit *it)
-{
-    return it->each > 0 ? it->burst / it->each : 0;
-}
-
-static uint32_t counted(const strangers *it, uint32_t count)
-{
-    uint64_t all = most_of(&it->limits.all), one = most_of(&it->limits.one), most = all < one ? all : one;
-    return count < most ? count : (uint32_t)most;
-}
-
 bool strangers_let(strangers *it, const uint8_t place[6], uint32_t count)
 {
     return it->has_no_limit ||
-           ipxr_strangers_send(&it->limits, counted(it, count), of_host(it, place), meter_now(&it->sent)) == IPXR_PASSES;
+           ipxr_strangers_send(&it->limits, count, of_host(it, place), meter_now(&it->sent)) == IPXR_PASSES;
 }

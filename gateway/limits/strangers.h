@@ -24,8 +24,7 @@ typedef struct strangers {
 bool strangers_make(strangers *it, uint32_t rate, const uint8_t key[SIPHASH_KEY]);
 void strangers_free(strangers *it);
 
-/* Whether so many datagrams may go to a stranger now, or soon; they are counted then. (where the limit is so low that it never lets so many pass
- * at once, as many count as it does: somebody new may come in still) */
+/* Whether so many datagrams may go to a stranger now, or soon; they are counted then. */
 bool strangers_let(strangers *it, const uint8_t place[6], uint32_t count);
 
 #endif

@@ -206,10 +206,10 @@ static bool has_line_for_stranger(const network *on, const uint8_t place[NODE])
     return !are_by_line(on) || line_lets_stranger(on->strangers.key, place);
 }
 
-/* Whether so many datagrams may go to a stranger now, or soon. */
+/* Whether so many datagrams may go to a stranger now, or soon. (what the network's limit holds back uses nothing of the line, which others share) */
 static bool lets_stranger(network *on, const uint8_t place[NODE], uint32_t count)
 {
-    return has_line_for_stranger(on, place) && strangers_let(&on->strangers, place, count);
+    return strangers_let(&on->strangers, place, count) && (!are_by_line(on) || line_lets_newcomer(on->strangers.key, place, count));
 }
 
 /* Whether a client's registration or ping is answered now. (somebody may ask in its name, so that it would hear nothing else) */

@@ -55,6 +55,7 @@ static int is_said(const ipxr_limits *limits)
 static int is_sent(void)
 {
     uint64_t said = 0, between = 0, stranger = 0, answered = 0;
+    ipxr_strangers_limits newcomers;
     int is_right;
     ipxr_line_join(&line, &from);
     ipxr_line_join(&line, &to);
@@ -67,10 +68,11 @@ static int is_sent(void)
     is_right = is_right && ipxr_line_lets_stranger(&line, line.own, &stranger);
     ipxr_line_send_to_stranger(&line, line.own, 30, &stranger);
     ipxr_line_between_pings(&line, 30, &between);
+    ipxr_line_strangers(&line, &newcomers);
     ipxr_line_second(&line, &from);
     ipxr_line_silence(&line, &from);
     ipxr_line_leave(&line, &from);
-    return is_right && between == 21617777760 && line.speakers == 0 && line.addresses == 1 && from.quiet == 1;
+    return is_right && between == 21617777760 && newcomers.all.each == 27022222200 && line.speakers == 0 && line.addresses == 1 && from.quiet == 1;
 }
 
 int main(void)

@@ -1227,6 +1227,7 @@ static void line_own(void)
 {
     ipxr_line line = LINE;
     uint64_t between = 0, address = 0, answered = 0;
+    ipxr_strangers_limits newcomers;
     CALLS(ipxr_line_send_ping(&line, NOW, SHORT_BYTES));
     WROTE(801000, line.used);
     WROTE(25601000, line.own);
@@ -1240,6 +1241,11 @@ static void line_own(void)
     WROTE(1601000, line.used);
     WROTE(25601000, line.own);
     WROTE(25601000, line.to_strangers);
+    CALLS(ipxr_line_strangers(&line, &newcomers));
+    WROTE(27022200, newcomers.all.each);
+    WROTE(1000000000, newcomers.all.burst);
+    WROTE(216177600, newcomers.one.each);
+    WROTE(3458841600, newcomers.one.burst);
     CALLS(ipxr_line_between_pings(&line, SHORT_BYTES, &between));
     WROTE(25600000, between);
     line.used = 20001001;

@@ -17,7 +17,8 @@ PINGED, BETWEEN = 60, 27  # clients that are pinged by such a line, and millisec
 LAST_PINGED, FORGOTTEN, SOON = 9, 10, 0.3  # seconds after which who registered is pinged for the last time, and isn't remembered; and a moment
 ASKED_AGAIN, WAITS = 5, 4  # seconds after which the library asks who is silent, and for which a ping may wait
 NEWCOMERS = 3  # registrations of one who wants to come in
-FORGOTTEN = 11  # seconds after which who said only its first word isn't one of those who speak
+SLOW, LISTENERS, FEW = 64, 3, 20  # kilobits a second; who only listens there; and strangers who register there in a second
+QUIET_SPEAKER = 11  # seconds after which who said only its first word isn't one of those who speak
 LITTLE = 10  # parts of what is lost at most of one speaker, of what all may lose
 
 
@@ -93,7 +94,7 @@ def few_of_many_speak():
         for player in it.party.speakers:
             player.every = 1 / 12
         with Crowd(it, it.free[0], 1):
-            it.party.until(lambda: False, FORGOTTEN)
+            it.party.until(lambda: False, QUIET_SPEAKER)
             narrow(it, 5000)
             stands(it, flood(it.gate, "forged", "chat", FLOOD, count=FLOOD * SECONDS, host=it.free[0], first=FIRST), it.party.all)
 
@@ -185,6 +186,23 @@ def who_registers_again_is_pinged():
         it.let_pass(SOON)
         it.party.until(lambda: False, QUIET)
         assert all(player.pings > count for player, count in zip(it.party.all, before)), "a ping waits"
+
+
+@played_anew
+def who_only_listens_comes_in():
+    """By a line of 64 kbit/s three register, who never say anything, and then strangers do, 20 times a second from forged addresses: the three are
+    pinged, and come in."""
+    with Playground(by_a_line(SLOW, 1, ""), numbers=(0, 0, 0), more=LISTENERS) as it:
+        narrow(it, SLOW)
+        for at in it.free:
+            player = Player(at, GATEWAY)
+            it.party.put_in("listens", player)
+            player.register()
+        until(lambda: it.party.hear() or all(player.network for player in it.party.all), "all are answered")
+        sent = flood(it.gate, "forged", "register", FEW, host=STRANGERS, hosts=60000, first=3000, count=FEW * FORGOTTEN)
+        came = it.party.until(lambda: it.gate.counted(NETWORK, "clients") == LISTENERS, FORGOTTEN)
+        assert came, "a listener isn't pinged"
+        figures(sent.end())
 
 
 def many_beside_long_packets():

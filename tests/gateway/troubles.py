@@ -485,12 +485,15 @@ def interrupted():
 
 
 def few_strangers():
-    """With `strangers 1` a newcomer comes in, and the next of another address two seconds later."""
+    """With `strangers 1` a newcomer comes in, and the next of another address four seconds later."""
     clock = Clock()
     with Gateway(tunnels(1, extra="strangers 1\n"), SYSTEM.fast, environment=clock.environment()) as gate:
         first, late = Client(gate.ports[0x10]), Client(gate.ports[0x10], host="127.0.0.2", registers=False)
         late.send(registration())
         gate.until_counted(0x10, "too many strangers", 1)
+        clock.let_pass(2)
+        late.send(registration())
+        gate.until_counted(0x10, "too many strangers", 2)
         clock.let_pass(2)
         late.register()
         assert reaches(first, late) and reaches(late, first)

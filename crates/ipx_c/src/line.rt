@@ -4,10 +4,11 @@ ghost use Rattle.ipx_limits.specs.LineMembers.{LineJoined, LineLeft, LineSpoken,
 ghost use Rattle.ipx_limits.specs.LineRoom.{LineAsked, LineSent, lets_beyond, own_after, taken, own_cost, one_cost, one_owed, lets_answer, lets_stranger, strangers_owed, stranger_after};
 ghost use Rattle.ipx_limits.specs.declared.rank.Rank.{Rank};
 ghost use Rattle.std.specs.Prelude.{Option};
+ghost use Rattle.ipx_limits.specs.Strangers.{strangers_of_line};
 ghost use Rattle.ipx_c.specs.LimitValues.{rank_at, room_number};
 
 use crate::limit_values::{rank_at, room_number};
-use ipx_limits::{Line, LineAddress};
+use ipx_limits::{Line, LineAddress, StrangersLimits};
 
 // ---- Who is there
 
@@ -143,6 +144,14 @@ pub extern "C" fn ipxr_line_send_to_stranger(
     ensures address { address.new ≡ taken now true (one_cost line.old bytes) address.old }
 {
     line.send_to_stranger(now, bytes, address);
+}
+
+/// Makes the limits of what goes to all who are no clients, where what follows upon a registration is counted with it.
+#[unsafe(no_mangle)]
+pub extern "C" fn ipxr_line_strangers(line: &Line, limits: &mut StrangersLimits)
+    ensures { limits.new ≡ strangers_of_line line.now }
+{
+    *limits = StrangersLimits::of_line(line);
 }
 
 /// Nanoseconds from a ping of so many bytes to the next.

@@ -11,7 +11,8 @@ use Rattle.ipx_limits.specs.declared.strangers.StrangersLimits.{StrangersLimits}
 use Rattle.ipx_limits.specs.Numbers.{second, most_rate}
 use Rattle.ipx_limits.specs.Deciding.{passes}
 use Rattle.ipx_limits.specs.Receiving.{in_word}
-use Rattle.ipx_limits.specs.Strangers.{registration, one_each, strangers_at, weigh, may_go, Sent, Event, Passing, Sends, time_of, sent, AllRuns, OneRuns}
+use Rattle.ipx_limits.specs.Limits.{each_of}
+use Rattle.ipx_limits.specs.Strangers.{seconds_at_once, registration, one_each, strangers_at, weigh, may_go, Sent, Event, Passing, Sends, time_of, sent, AllRuns, OneRuns}
 
 -- ---- one limit
 
@@ -96,9 +97,18 @@ module _ (limits : StrangersLimits) where
 
 -- ---- the limits of a setting
 
+at_most : (each rate : ℕ) → each * max (seconds_at_once * rate) registration ≤ each * (seconds_at_once * rate + registration)
+at_most each rate = mul-le-mul_left each (omega arith)
+
+spread : (each rate : ℕ) → each * (seconds_at_once * rate + registration) ≡ seconds_at_once * (each * rate) + registration * each
+spread each rate = omega arith
+
+all_fits : (each rate : ℕ) → each * rate ≤ second → each ≤ second → each * max (seconds_at_once * rate) registration < 2 ^ 64 - 1
+all_fits each rate all one = omega (arith, at_most each rate, spread each rate, all, one)
+
 -- nanoseconds for each, and as many as there are in a second, are a second
 pub all_small : (rate : ℕ) → (strangers_at rate).all.burst < 2 ^ 64 - 1
-all_small rate = omega (arith, div-mul-le_self second rate)
+all_small rate = all_fits (each_of rate) rate (div-mul-le_self second rate) (div-le_self second rate)
 
 pub one_small : (rate : ℕ) → rate ≤ most_rate → (strangers_at rate).one.burst < 2 ^ 64 - 1
 one_small rate few =

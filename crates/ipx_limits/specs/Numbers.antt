@@ -219,6 +219,10 @@ own_parts = 32
 abbrev pub pair_parts : ℕ
 pair_parts = 29
 
+-- bytes of a datagram of the gateway's own: a header alone
+abbrev pub own_datagram : ℕ
+own_datagram = 30
+
 -- of what goes to strangers one address gets one part in so many
 abbrev pub parts_of_one : ℕ
 parts_of_one = 8

@@ -6,8 +6,10 @@ use Rattle.ipx_limits.specs.declared.decision.Decision.{Decision}
 use Rattle.ipx_limits.specs.declared.decision.Decision.TheVariants.{Passes, TooMuchForStrangers}
 use Rattle.ipx_limits.specs.declared.limits.Limit.{Limit}
 use Rattle.ipx_limits.specs.declared.strangers.StrangersLimits.{StrangersLimits}
-use Rattle.ipx_limits.specs.Numbers.{second, most_rate}
+use Rattle.ipx_limits.specs.declared.line.Line.{Line}
+use Rattle.ipx_limits.specs.Numbers.{second, most_rate, own_at_once, own_datagram, parts_of_one}
 use Rattle.ipx_limits.specs.Limits.{each_of}
+use Rattle.ipx_limits.specs.LineRoom.{own_cost}
 use Rattle.ipx_limits.specs.Receiving.{in_word}
 use Rattle.ipx_limits.specs.Deciding.{passes, later}
 
@@ -15,13 +17,13 @@ use Rattle.ipx_limits.specs.Deciding.{passes, later}
 abbrev pub address_part : ℕ
 address_part = 8
 
--- seconds of what goes to all, that may go at once; of one address half of that, and no fewer than the datagrams of a registration: its
--- answer and a ping
+-- seconds of what goes to all, that may go at once; of one address half of that; and never fewer than the datagrams of a registration: its
+-- answer, that again, and two pings
 abbrev pub seconds_at_once : ℕ
 seconds_at_once = 2
 
 abbrev pub registration : ℕ
-registration = 2
+registration = 4
 
 abbrev pub one_each : ℕ → ℕ
 one_each rate = address_part * second / rate
@@ -29,12 +31,34 @@ one_each rate = address_part * second / rate
 -- the limits for so many datagrams a second
 abbrev pub strangers_at : ℕ → StrangersLimits
 strangers_at rate = record {
-  all = record { each = each_of rate; burst = seconds_at_once * (each_of rate * rate) };
+  all = record { each = each_of rate; burst = each_of rate * max (seconds_at_once * rate) registration };
   one = record { each = one_each rate; burst = one_each rate * max rate registration };
 }
 
 abbrev pub strangers_of : ℕ → Option StrangersLimits
 strangers_of rate = if rate == 0 then None else Some (strangers_at (min rate most_rate))
+
+-- ---- by a narrow line, all networks together: what follows upon a registration is counted when that comes, and goes out up to nine seconds later
+
+-- registrations at once
+abbrev pub line_registrations : ℕ
+line_registrations = 4
+
+-- of what strangers have of the line, one part in so many more than is counted stays free, so that what goes out later finds room
+abbrev pub spare_part : ℕ
+spare_part = 4
+
+abbrev pub with_spare : ℕ → ℕ
+with_spare nanoseconds = nanoseconds + nanoseconds / spare_part
+
+abbrev pub line_each : Line → ℕ
+line_each line = with_spare (own_cost line own_datagram)
+
+abbrev pub line_limit : ℕ → Limit
+line_limit each = record { each = each; burst = max own_at_once (line_registrations * registration * each) }
+
+abbrev pub strangers_of_line : Line → StrangersLimits
+strangers_of_line line = record { all = line_limit (line_each line); one = line_limit (parts_of_one * line_each line) }
 
 -- ---- datagrams that go out together go out or don't
 

@@ -206,7 +206,8 @@ pub fn strangers_are_sent_little()
         → ((strangers_at rate).all.burst < 2 ^ 64 - 1) × ((strangers_at rate).one.burst < 2 ^ 64 - 1) }
 {}
 
-/// A newcomer's registration is answered, by two datagrams, if its address was sent nothing lately and there is room in what goes to all.
+/// A newcomer's registration is answered and remembered, which takes four datagrams, if its address was sent nothing lately and there is room in
+/// what goes to all.
 pub fn newcomer_is_answered()
     ensures { (rate : ℕ) (decision : Decision) (address address_then all all_then : Meter)
         → Sent (strangers_at rate) registration decision address address_then all all_then → address.used ≡ 0

@@ -36,7 +36,7 @@ const OWN_PARTS: u64 = 32;
 const PAIR_PARTS: u64 = 29;
 
 /// Of what the gateway answers clients, and of what goes to strangers, one address gets one part in so many.
-const PARTS_OF_ONE: u64 = 8;
+pub(crate) const PARTS_OF_ONE: u64 = 8;
 
 /// There are so many parts at most.
 const MOST_PARTS: u32 = 4096;
