@@ -87,6 +87,7 @@ typedef struct gateway {
     arrivals arrivals; /* what came last */
     uint8_t rooms[MOST_TOGETHER][LONGEST]; /* packets of the router's that wait to be sent, and how many; */
     size_t room_count;                     /* from gateway_flush on there is room again */
+    uint8_t entered[LONGEST];              /* the last packet whose numbers were filled in */
 } gateway;
 
 /* Opens the links of all networks; what isn't there yet is waited for. Returns false where one can't be opened, which is told on

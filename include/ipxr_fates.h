@@ -48,7 +48,8 @@ extern "C" {
 #define IPXR_NEXT_FRAME_IS_WHOLE             19 /* of one link: does it hold a whole packet? */
 
 /* Of what the router may hear, wherever it came. */
-#define IPXR_NEXT_ROUTER_LETS_HEAR           20 /* limit: its sender said too much for the router (ipxr_limits_hands, ipxr_limits_frames_hand) */
+#define IPXR_NEXT_ROUTER_LETS_HEAR           20 /* limit: its sender said too much for the router (ipxr_limits_hands, ipxr_limits_frames_hand); or it is
+                                                  * held or denied (ipxr_edge_enter) */
 #define IPXR_NEXT_ROUTER_IS_FOR_ALL          21 /* is it for all of the network where it came? */
 #define IPXR_NEXT_ROUTER_EXTEND              22 /* do: hand copies to other networks that have its socket (ipxr_tunnel_extend) */
 #define IPXR_NEXT_ROUTER_IS_AWAITED          23 /* does somebody who asked wait for it? Then he gets it */
@@ -125,7 +126,9 @@ extern "C" {
 #define IPXR_LOST_TOO_MANY_ANSWERS      23 /* an answer of the gateway to a client that was answered too often */
 #define IPXR_LOST_FOR_FAR_ROUTERS       24 /* what a client says to routers of another network */
 #define IPXR_LOST_TOO_MUCH_FOR_ROUTER   25 /* all else that the router would hear, of an address that said too much */
-#define IPXR_NO_REASON                  26 /* how many there are; of a limit, that it refuses nothing */
+#define IPXR_LOST_FROM_AFAR            26 /* what only neighbours may say to the router, which another router carried there */
+#define IPXR_LOST_DENIED               27 /* a rule of the network denies it */
+#define IPXR_NO_REASON                  28 /* how many there are; of a limit, that it refuses nothing */
 
 /* Where a packet is on its way. With all bytes 0 it is at an end, where nothing is counted. */
 typedef struct ipxr_course {
@@ -147,7 +150,7 @@ IPXR_CALL void ipxr_course_answer(ipxr_course *course, uint16_t answer);
 
 typedef struct ipxr_counts {
     uint64_t in;           /* packets that came */
-    uint64_t lost[26];     /* packets, and all else, that are lost, by the reason */
+    uint64_t lost[28];     /* packets, and all else, that are lost, by the reason */
     uint64_t dropped[190]; /* packets that the router dropped, by its number */
 } ipxr_counts;
 

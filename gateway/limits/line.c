@@ -9,7 +9,7 @@ enum { MOST_ADDRESSES = 4096, HOST = 4 };
 static struct {
     ipxr_strangers_limits limits;
     meter sent, hosts[MOST_ADDRESSES];
-} strangers;
+} newcomers;
 
 static ipxr_line line;
 
@@ -34,7 +34,7 @@ void line_set(const settings *set)
     for (size_t k = 0; k < set->count; k++)
         if (set->networks[k].kilobits > 0)
             line.kilobits = set->networks[k].kilobits;
-    ipxr_line_strangers(&line, &strangers.limits);
+    ipxr_line_strangers(&line, &newcomers.limits);
 }
 
 void line_join(line_use *it)
@@ -145,8 +145,8 @@ bool line_lets_stranger(const uint8_t key[SIPHASH_KEY], const uint8_t place[6])
 
 bool line_lets_newcomer(const uint8_t key[SIPHASH_KEY], const uint8_t place[6], uint32_t count)
 {
-    ipxr_meter *host = meter_now(&strangers.hosts[place_among(key, place)]);
-    return line_lets_stranger(key, place) && ipxr_strangers_send(&strangers.limits, count, host, meter_now(&strangers.sent)) == IPXR_PASSES;
+    ipxr_meter *host = meter_now(&newcomers.hosts[place_among(key, place)]);
+    return line_lets_stranger(key, place) && ipxr_strangers_send(&newcomers.limits, count, host, meter_now(&newcomers.sent)) == IPXR_PASSES;
 }
 
 void line_send_to_stranger(const uint8_t key[SIPHASH_KEY], const uint8_t place[6], size_t length)

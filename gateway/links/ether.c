@@ -3,6 +3,7 @@
 #include <inttypes.h>
 
 #include "ipx.h"
+#include "links/edge.h"
 #include "links/segment.h"
 #include "monitoring/capture.h"
 #include "monitoring/note.h"
@@ -207,6 +208,13 @@ static void put_on_links(incoming *in)
         look_for_twins(in->it, what->on, in->frame + NODE);
 }
 
+/* Why the router doesn't hear a packet; REASONS where it does. */
+static reason lets_hear(incoming *in)
+{
+    reason why = throttle_hears(&in->carried.on->throttle, &in->by);
+    return why != REASONS ? why : edge_lets_in(in->it, &in->carried);
+}
+
 /* Answers what is next with a packet whose network has several links, or this one. */
 static uint16_t answer_carried(incoming *in, uint8_t next)
 {
@@ -231,7 +239,7 @@ static uint16_t answer_carried(incoming *in, uint8_t next)
     case IPXR_NEXT_FRAME_IS_FROM_CLIENT:
         return is_client_elsewhere(in->it, what->on, in->frame + NODE);
     case IPXR_NEXT_ROUTER_LETS_HEAR:
-        return (uint16_t)throttle_hears(&what->on->throttle, &in->by);
+        return (uint16_t)lets_hear(in);
     }
     return gateway_answer(in->it, what, next);
 }

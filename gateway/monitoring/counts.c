@@ -32,6 +32,8 @@ static const char *const WORDS_OF[REASONS] = {
     [TOO_MANY_ANSWERS] = "too many answers",
     [FOR_FAR_ROUTERS] = "for far routers",
     [TOO_MUCH_FOR_ROUTER] = "too much for the router",
+    [FROM_AFAR] = "from afar",
+    [DENIED] = "denied",
 };
 
 const char *reason_words(reason why)

@@ -11,6 +11,7 @@
 #include "ipx.h"
 #include "limits/strangers.h"
 #include "limits/throttle.h"
+#include "links/edge.h"
 #include "links/segment.h"
 #include "monitoring/capture.h"
 #include "monitoring/events.h"
@@ -451,6 +452,13 @@ static bool is_for_far_routers(incoming *in)
     return is;
 }
 
+/* Why the router doesn't hear what a client says; REASONS where it does. */
+static reason lets_hear(incoming *in)
+{
+    reason why = throttle_hands(&in->carried.on->throttle, &in->by);
+    return why != REASONS ? why : edge_lets_in(in->it, &in->carried);
+}
+
 /* Answers what is next with what a client says to others. (behind the tunnel, which has noted that a client answers: no limit drops that) */
 static uint16_t answer_word(incoming *in, uint8_t next)
 {
@@ -480,7 +488,7 @@ static uint16_t answer_word(incoming *in, uint8_t next)
     case IPXR_NEXT_WORD_WAS_CARRIED:
         return in->is_carried || on->segment == NULL;
     case IPXR_NEXT_ROUTER_LETS_HEAR:
-        return (uint16_t)throttle_hands(&on->throttle, &in->by);
+        return (uint16_t)lets_hear(in);
     }
     return gateway_answer(in->it, &in->carried, next);
 }

@@ -446,8 +446,9 @@ def extended():
         assert station.hear() == packet(address(0x20, EVERYONE, GAME), far.at(), b"from DOSBox")
         station.say(address(0, EVERYONE, GAME), b"from the wire", node=EVERYONE)
         assert far.hear() == packet(address(0x10, EVERYONE, GAME), station.at(), b"from the wire")
-        wire.send(frame("raw", EVERYONE, STATION, packet(address(0, EVERYONE, GAME), address(0, STATION, GAME), b"lost")))
-        assert comes_next(station, far) and gate.counted(0x20, "not extended") == 1
+        wire.send(frame("raw", EVERYONE, STATION, packet(address(0, EVERYONE, GAME), address(0, STATION, GAME), b"without a number")))
+        assert far.hear() == packet(address(0x10, EVERYONE, GAME), station.at(), b"without a number")
+        assert comes_next(station, far) and gate.counted(0x20, "not extended") == 0
 
 
 def nobody_listens():

@@ -216,7 +216,7 @@ def more_than_are_told_apart():
 
 
 TESTS = [strangers_share_a_part, a_newcomer_comes_in, many_beside_long_packets, more_than_are_told_apart, few_of_many_speak,
-         many_words_at_once, a_flood_from_a_wide_network, pings_of_many, who_registers_again_is_pinged]
+         many_words_at_once, a_flood_from_a_wide_network, pings_of_many, who_registers_again_is_pinged, who_only_listens_comes_in]
 
 
 def inside():

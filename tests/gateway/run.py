@@ -9,6 +9,7 @@ import bochs
 import complaints
 import counting
 import dosbox
+import edge
 import events
 import fair
 import forged
@@ -42,8 +43,8 @@ import words
 from systems import SYSTEM, Windows
 from trying import Counts, left_out
 
-ALL = (counting, words, siphash, queues, unit, orders, status, events, probes, reloading, staying, tunnel, nodes, links, six, names, segments,
-       kinds, made_up, troubles, reload_memory, wires, refused, houses, attacks, forged, limits, complaints, asked, fair, slow_pc, narrow,
+ALL = (counting, words, siphash, queues, unit, orders, status, events, probes, reloading, staying, tunnel, nodes, links, edge, six, names,
+       segments, kinds, made_up, troubles, reload_memory, wires, refused, houses, attacks, forged, limits, complaints, asked, fair, slow_pc, narrow,
        lossy, dosbox, pc, bochs)
 TESTS = {it.__name__: it for it in ALL}
 

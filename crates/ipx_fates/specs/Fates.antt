@@ -1,11 +1,11 @@
 -- Why a packet goes no further, by number.
 use Rattle.std.specs.Prelude.{ℕ, ◌==◌, if◌then◌else◌, Option, None, Some}
 use Rattle.ipx_fates.specs.declared.reason.Reason.{Reason}
-use Rattle.ipx_fates.specs.declared.reason.Reason.TheVariants.{TooLong, FalseSource, Stranger, NoRoom, NotAllowed, NoClient, NoIpx, OtherKind, SecondKind, ForAnother, OwnFrame, NoMemory, NotExtended, NotSent, NobodyThere, TooManyStrangers, TooMuchForClient, TooMuchForAddress, TooMuchForLine, TooMuchForLink, TooManyPings, TooManyQuestions, TooManyAdvertisements, TooManyAnswers, ForFarRouters, TooMuchForRouter}
+use Rattle.ipx_fates.specs.declared.reason.Reason.TheVariants.{TooLong, FalseSource, Stranger, NoRoom, NotAllowed, NoClient, NoIpx, OtherKind, SecondKind, ForAnother, OwnFrame, NoMemory, NotExtended, NotSent, NobodyThere, TooManyStrangers, TooMuchForClient, TooMuchForAddress, TooMuchForLine, TooMuchForLink, TooManyPings, TooManyQuestions, TooManyAdvertisements, TooManyAnswers, ForFarRouters, TooMuchForRouter, FromAfar, Denied}
 
 -- how many reasons there are
 abbrev pub reasons_count : ℕ
-reasons_count = 26
+reasons_count = 28
 
 abbrev pub reason_number : Reason → ℕ
 reason_number TooLong = 0
@@ -34,6 +34,8 @@ reason_number TooManyAdvertisements = 22
 reason_number TooManyAnswers = 23
 reason_number ForFarRouters = 24
 reason_number TooMuchForRouter = 25
+reason_number FromAfar = 26
+reason_number Denied = 27
 
 -- the reason with a number
 abbrev pub reason_at : ℕ → Option Reason
@@ -64,4 +66,6 @@ reason_at number =
     else if number == 23 then Some TooManyAnswers
     else if number == 24 then Some ForFarRouters
     else if number == 25 then Some TooMuchForRouter
+    else if number == 26 then Some FromAfar
+    else if number == 27 then Some Denied
     else None

@@ -59,6 +59,10 @@ pub enum Reason {
     ForFarRouters,
     /// All else that the router would hear, of an address that said too much.
     TooMuchForRouter,
+    /// What only neighbours may say to the router, which another router carried there.
+    FromAfar,
+    /// A rule of the network denies it.
+    Denied,
 }
 
 impl Reason {
@@ -93,6 +97,8 @@ impl Reason {
             23 => Some(Reason::TooManyAnswers),
             24 => Some(Reason::ForFarRouters),
             25 => Some(Reason::TooMuchForRouter),
+            26 => Some(Reason::FromAfar),
+            27 => Some(Reason::Denied),
             _ => None,
         }
     }
@@ -100,7 +106,7 @@ impl Reason {
     /// Its number.
     pub fn number(self) -> u8
         ensures number { result ≡ reason_number self }
-        ensures small { result < 26 }
+        ensures small { result < 28 }
     {
         match self {
             Reason::TooLong => 0,
@@ -129,6 +135,8 @@ impl Reason {
             Reason::TooManyAnswers => 23,
             Reason::ForFarRouters => 24,
             Reason::TooMuchForRouter => 25,
+            Reason::FromAfar => 26,
+            Reason::Denied => 27,
         }
     }
 }

@@ -53,12 +53,27 @@ static uint64_t all_lost_copies(const gateway *it)
 
 /* ---- What is watched ---- */
 
+/* What the router hears names the network where it comes from; and routers say what they know to their own network. */
+static void judge_entered(const uint8_t *bytes, size_t length)
+{
+    if (!has_length(bytes, length) || length > LONGEST)
+        return;
+    uint16_t socket = get16(bytes + AT_TO_SOCKET);
+    uint32_t to = get32(bytes + AT_TO_NETWORK);
+    bool is_for_routers = bytes[AT_TYPE] != PROPAGATED && (socket == IPXR_RIP_SOCKET || socket == IPXR_SAP_SOCKET);
+    if (get32(bytes + AT_FROM_NETWORK) == 0)
+        wrong("the router hears of network 0");
+    if (hears_now != NULL && is_for_routers && bytes[AT_CONTROL] != 0 && (to == 0 || to == hears_now->set->network))
+        wrong("the router hears what another router carried there");
+}
+
 int32_t __real_ipxr_packet(ipxr *router, uint8_t number, const uint8_t *bytes, size_t length);
 int32_t __wrap_ipxr_packet(ipxr *router, uint8_t number, const uint8_t *bytes, size_t length);
 int32_t __wrap_ipxr_packet(ipxr *router, uint8_t number, const uint8_t *bytes, size_t length)
 {
     now.heard++;
     now.port = number;
+    judge_entered(bytes, length);
     return now.became = __real_ipxr_packet(router, number, bytes, length);
 }
 
@@ -160,10 +175,10 @@ static const reason WHOLLY[] = {TOO_LONG,    FALSE_SOURCE, STRANGER,  NO_ROOM,  
                                 SECOND_KIND, FOR_ANOTHER,  OWN_FRAME, TOO_MANY_STRANGERS, TOO_MANY_PINGS, FOR_FAR_ROUTERS};
 
 /* Those for which the router doesn't hear it, though others may get it. */
-static const reason BY_ROUTER[] = {TOO_MANY_QUESTIONS, TOO_MANY_ADVERTISEMENTS, TOO_MUCH_FOR_ROUTER};
+static const reason BY_ROUTER[] = {TOO_MANY_QUESTIONS, TOO_MANY_ADVERTISEMENTS, TOO_MUCH_FOR_ROUTER, FROM_AFAR, DENIED};
 
 /* (a reason more or fewer has to be put among these, or left to what else is looked at: of copies, of what is sent, and of no client) */
-typedef char has_all_reasons[REASONS == 26 ? 1 : -1];
+typedef char has_all_reasons[REASONS == 28 ? 1 : -1];
 
 static uint64_t lost_since(const counts *it, const counts *before, const reason *list, size_t count)
 {

@@ -14,7 +14,7 @@ use Rattle.ipx_fates.specs.Conditions.{first_of, frame_conditions, datagram_cond
 
 -- no limit refuses it
 abbrev pub nothing : ℕ
-nothing = 26
+nothing = 28
 
 -- a frame of the gateway's own came back
 pub own : Answers

@@ -1,0 +1,125 @@
+"""What a packet passes between its network and the router: numbers that stations don't know are filled in, and what routers carried is held."""
+import struct
+
+from frames import Station, Udp
+from lab import EVERYONE, GAME, RIP, SAP, Client, Gateway, address, comes_next, free_ports, packet, reaches, rip_response, sap_response, tunnels, until
+from trying import begin, tried
+
+STATION = bytes.fromhex("020000000AA1")
+SERVER, OFFERED = 0x4010, 0x451  # a server's type, and the socket of its service
+QUERY = struct.pack(">HH", 1, 0xFFFF)  # for all services
+NETWORK, CABLE, LINE = 0x10, 0x20, 0x30
+
+
+def on_a_cable(wire, more=""):
+    """A network of DOSBox, and a cable whose stations don't know their network."""
+    return tunnels(1) + more + f"network {CABLE:X} 1 1490 qemu-udp 0 {wire.port} raw\n"
+
+
+def unnumbered(gate, wire, network=CABLE):
+    """A station that says 0 for its network."""
+    wire.to = gate.ports[network]
+    return Station(wire, "raw", 0, STATION, gate.nodes[network])
+
+
+def named(station):
+    """What it is called elsewhere."""
+    return address(CABLE, station.node, GAME)
+
+
+def is_answered():
+    """What a station says that doesn't know its network can be answered: a packet to one, and to all by type 20."""
+    wire = Udp()
+    with Gateway(on_a_cable(wire)) as gate:
+        station, far = unnumbered(gate, wire), Client(gate.ports[NETWORK])
+        station.say(far.at(), b"one")
+        assert far.hear() == packet(far.at(), named(station), b"one", control=1)
+        far.say(named(station), b"answer")
+        assert station.hear()[30:] == b"answer"
+        station.say(address(0, EVERYONE, GAME), bytes(32) + b"all", node=EVERYONE, kind=20)
+        heard = far.hear()
+        assert heard[18:30] == named(station) and heard[30:34] == struct.pack(">I", CABLE) and heard[62:] == b"all", heard
+        far.say(heard[18:30], b"found")
+        assert station.hear()[30:] == b"found"
+
+
+def services_of(far, gate):
+    """The services that the router tells, by their name: where they are, and how far."""
+    far.say(address(0, gate.nodes[NETWORK], SAP), QUERY)
+    answer = far.hear(lambda it: it[28:30] == struct.pack(">H", SAP) and it[16:18] == struct.pack(">H", GAME))
+    entries = [answer[start:start + 64] for start in range(32, len(answer), 64)]
+    return {it[2:50].rstrip(b"\0").decode(): (it[50:62], int.from_bytes(it[62:], "big")) for it in entries}
+
+
+def is_found():
+    """Its services are reached from elsewhere; one that a router told further has no number that anybody knows."""
+    wire = Udp()
+    with Gateway(on_a_cable(wire)) as gate:
+        station, far = unnumbered(gate, wire), Client(gate.ports[NETWORK])
+        services = [(SERVER, "NEAR", 0, STATION, OFFERED, 1), (SERVER, "FAR", 0, STATION, OFFERED, 2), (SERVER, "NAMED", CABLE, STATION, OFFERED, 1)]
+        station.wire.send(framed(sap_response(0, STATION, services)))
+        until(lambda: "services: 3\n" in gate.report(), "three services")
+        found = services_of(far, gate)
+        assert found == {"NEAR": (address(CABLE, STATION, OFFERED), 2), "FAR": (address(0, STATION, OFFERED), 3),
+                         "NAMED": (address(CABLE, STATION, OFFERED), 2)}, found
+        far.say(found["NEAR"][0], b"reached")
+        assert station.hear()[30:] == b"reached"
+
+
+def framed(bytes_):
+    """To all on the cable."""
+    return EVERYONE + STATION + struct.pack(">H", len(bytes_)) + bytes_.ljust(46, b"\0")
+
+
+def routes_of_a_neighbour():
+    """Routes are learned of a neighbour, also of one that says 0 for its network; what a router carried there is held, and counted."""
+    wire = Udp()
+    with Gateway(on_a_cable(wire)) as gate:
+        wire.to = gate.ports[CABLE]
+        wire.send(framed(rip_response(0, STATION, [(0x51, 1, 2)])))
+        wire.send(framed(rip_response(CABLE, STATION, [(0x52, 1, 2)])))
+        until(lambda: "routes: 2\n" in gate.report(), "two routes more")
+        for source in (0, CABLE, LINE):
+            told = struct.pack(">HIHH", 2, 0x53, 1, 2)
+            wire.send(framed(packet(address(CABLE, EVERYONE, RIP), address(source, STATION, RIP), told, kind=1, control=1)))
+        gate.until_counted(CABLE, "from afar", 3)
+        assert "routes: 2\n" in gate.report() and "\n  00000053 " not in gate.report()
+
+
+def nobody_passes_for_a_neighbour():
+    """A station on one gateway's cable tells routes to the line between that gateway and another, in the name of a node of the line: the other
+    gateway doesn't learn them."""
+    wire = Udp()
+    here, there = free_ports(2)
+    line = "network {:X} 1 1490 qemu-udp {} {} raw\n"
+    with Gateway(on_a_cable(wire, line.format(LINE, here, there))) as one, \
+            Gateway(line.format(LINE, there, here) + "network 40 1 1424 dosbox 127.0.0.1:0\n") as other:
+        other.until(f"\n  {CABLE:08X} hops 1 ")
+        station, far, own = unnumbered(one, wire), Client(other.ports[0x40]), Client(one.ports[NETWORK])
+        for source in (0, CABLE, LINE):
+            told = struct.pack(">HIHH", 2, 0x53, 1, 2)
+            station.network = source
+            station.say(address(LINE, EVERYONE, RIP), told, kind=1)
+        station.network = CABLE
+        assert reaches(station, far) and reaches(own, far), "what isn't for routers gets there"
+        assert other.counted(LINE, "from afar") == 3
+        assert "\n  00000053 " not in other.report() and "\n  00000053 " not in one.report()
+
+
+def as_it_came():
+    """Who is on its own network hears a client's packet as it said it, and the router with its number."""
+    with Gateway(tunnels(2)) as gate:
+        one, beside, far = Client(gate.ports[0x10]), Client(gate.ports[0x10]), Client(gate.ports[0x20])
+        one.send(packet(address(0, EVERYONE, GAME), address(0, one.node, GAME), bytes(32) + b"all", kind=20))
+        assert beside.hear() == packet(address(0, EVERYONE, GAME), address(0, one.node, GAME), bytes(32) + b"all", kind=20)
+        heard = far.hear()
+        assert heard[18:30] == address(0x10, one.node, GAME) and heard[62:] == b"all", heard
+        assert comes_next(one, beside)
+
+
+def main():
+    return tried(is_answered, is_found, routes_of_a_neighbour, nobody_passes_for_a_neighbour, as_it_came)
+
+
+if __name__ == "__main__":
+    begin(main)
