@@ -1,10 +1,11 @@
 -- What a line makes of the links that stand above it: the same, one more, or another in place of the last, with the same carrier.
 use Rattle.std.proofs.Common.{◌≡◌, ℕ, ◌+◌, ◌-◌, ◌<◌, Bool, true, false, not, ◌==◌, ◌&&◌, nat_lt, nat_le, if◌then◌else◌, List, [], ◌∷◌, refl, sym, ap, subst, ◌∙◌, arith, Option, Some, None, inl, inr, true≢false}
 use Rattle.std.specs.Option.{is_some}
-use Rattle.std.proofs.lemmas.Bool.{cases_Bool, cases_eq, ltb-true}
+use Rattle.std.proofs.lemmas.Bool.{cases_Bool, cases_eq, ltb-true, lt-ltb}
 use Rattle.std.proofs.lemmas.Option.{same_Some}
 use Rattle.ipx_settings.specs.Networks.{link_in, number_in}
 use Rattle.ipx_settings.specs.declared.expected.Expected.{Expected}
+use Rattle.ipx_settings.specs.declared.internal.InternalBegun.{InternalBegun}
 use Rattle.ipx_settings.specs.declared.line.Line.{Line}
 use Rattle.ipx_settings.specs.declared.line.Line.TheVariants as line
 use Rattle.ipx_settings.specs.declared.link.LinkBegun.{LinkBegun}
@@ -12,8 +13,9 @@ use Rattle.ipx_settings.specs.declared.link.LinkBegun.TheVariants as begun
 use Rattle.ipx_settings.specs.declared.network.NetworkBegun.{NetworkBegun}
 use Rattle.ipx_settings.specs.declared.reading.Reading.{Reading}
 use Rattle.ipx_configuration.specs.Carriers.{may_hear_itself, longest_on}
-use Rattle.ipx_configuration.specs.Clashes.{when, first_of, line_fault, first_clash, carrier_in, carrier_fault, link_by}
-use Rattle.ipx_configuration.specs.Configurations.{nothing, a_network, a_link, a_wrong_network, names_link, names_link_by, head_or_none, number_fault, more_links, network_fault, after_network, linked, link_line_by, link_line_fault, link_line, extended_by, link_extended_by, is_below_tunnel, below_network_by, below_link_by, tunnel_fault, now_linked, taken_below, taken_by, read_in, after}
+use Rattle.ipx_configuration.specs.Clashes.{when, first_of, line_fault, first_clash, carrier_in, link_by}
+use Rattle.ipx_configuration.specs.Configurations.{nothing, a_network, a_link, a_wrong_network, names_link, names_link_by, head_or_none, number_fault, more_links, network_fault, after_network, linked, link_line_by, link_line_fault, link_line, after_internal, internal_fault, network_above, extended_by, link_extended_by, is_below_tunnel, below_network_by, below_link_by, tunnel_fault, now_linked, taken_below, taken_by, read_in, after}
+use Rattle.ipx_configuration.specs.Internals.{all_networks, is_full, internal_clash}
 use Rattle.ipx_configuration.specs.Lines.{if_right, once, rate_of, clients_said, rate_said, number_said, with_clients, with_rate, with_strangers, with_kilobits, with_nodes, kilobits_fault, link_taken, link_by as line_by}
 use Rattle.ipx_configuration.specs.Memory.{networks_in, links_in, last_network, last_link, with_link, with_last_link}
 use Rattle.ipx_configuration.specs.Said.{new_link}
@@ -56,9 +58,9 @@ after_clash carrier longest own =
     ∷ line_fault own
     ∷ []
 
-and_right : (a b : Bool) → a && b ≡ true → b ≡ true
-and_right true b e = e
-and_right false b e = absurd (true≢false (sym e))
+and_left : (a b : Bool) → a && b ≡ true → a ≡ true
+and_left true b e = refl
+and_left false b e = absurd (true≢false (sym e))
 
 link_free : (longest : ℕ) (links : List LinkSetting) (own : Option Expected) (o : Option Carrier) (carrier : Carrier)
     → link_by o longest links own ≡ None → o ≡ Some carrier → first_clash carrier links ≡ None
@@ -100,14 +102,19 @@ of_named : (b : Bool) (x y : Option Fault) → b ≡ true → (if b then x else 
 of_named true x y is e = e
 of_named false x y is e = absurd (true≢false (sym is))
 
-abbrev is_full : Capacity → Configuration → Bool
-is_full capacity c = not (nat_lt c.networks.count capacity.networks && nat_lt c.networks.count 32)
-
 abbrev named_fault : NetworkBegun → Option Expected → Configuration → Option Fault
 named_fault b own c = if names_link b own then more_links (link_in b) (head_or_none b).longest c.links own else line_fault own
 
 abbrev number_and_link : NetworkBegun → Option Expected → Configuration → List (Option Fault)
-number_and_link b own c = number_fault (number_in b) (networks_in c.networks) ∷ named_fault b own c ∷ []
+number_and_link b own c =
+    number_fault (number_in b) (networks_in c.networks) ∷ internal_clash (number_in b) c.internal ∷ named_fault b own c ∷ []
+
+-- where one more has room, one has
+pub has_room : (capacity : Capacity) (c : Configuration) → is_full capacity c ≡ false → nat_lt c.networks.count 32 ≡ true
+has_room capacity c e =
+    let all = all_networks c in
+    let less : all < 32 = ltb-true all 32 (and_left (nat_lt all 32) (nat_lt all capacity.networks) (not_not (nat_lt all 32 && nat_lt all capacity.networks) e)) in
+    lt-ltb c.networks.count 32 (omega (arith, less))
 
 network_follows : (capacity : Capacity) (n : ℕ) (b : NetworkBegun) (own : Option Expected) (c : Configuration)
     → Follows (after_network capacity n b own c).networks.count c.links (after_network capacity n b own c).links
@@ -115,11 +122,10 @@ network_follows capacity n b own c = elim (cases_Bool (is_some (network_fault ca
   | inl wrong ↦ rw wrong (same refl)
   | inr right ↦
       let checks = first_none (when (is_full capacity c) fault.ManyNetworks) (number_and_link b own c) (no_fault (network_fault capacity b own c) right) in
-      let numbers = first_none (number_fault (number_in b) (networks_in c.networks)) (named_fault b own c ∷ []) checks.1 in
-      let links = first_none (named_fault b own c) [] numbers.1 in
-      let free : nat_lt c.networks.count 32 ≡ true =
-      and_right (nat_lt c.networks.count capacity.networks) (nat_lt c.networks.count 32)
-      (not_not (nat_lt c.networks.count capacity.networks && nat_lt c.networks.count 32) (unless (is_full capacity c) fault.ManyNetworks checks.0)) in
+      let numbers = first_none (number_fault (number_in b) (networks_in c.networks)) (internal_clash (number_in b) c.internal ∷ named_fault b own c ∷ []) checks.1 in
+      let own_number = first_none (internal_clash (number_in b) c.internal) (named_fault b own c ∷ []) numbers.1 in
+      let links = first_none (named_fault b own c) [] own_number.1 in
+      let free : nat_lt c.networks.count 32 ≡ true = has_room capacity c (unless (is_full capacity c) fault.ManyNetworks checks.0) in
       rw (right, free) (linked_follows (c.networks.count + 1) n c.networks.count c.links (carrier_in (link_in b)) refl (λ carrier is.
       free_and_room (link_in b) (head_or_none b).longest c.links own carrier
       (of_named (names_link b own) (more_links (link_in b) (head_or_none b).longest c.links own) (line_fault own) (names (link_in b) own carrier is) links.0) is))
@@ -166,16 +172,30 @@ added_follows n o c last e is free =
     let is_last : (c.networks.count - 1) + 1 ≡ (now_linked c.networks last).count = counted c.networks last e is ∙ sym (now_count c.networks last) in
     linked_follows (now_linked c.networks last).count n (c.networks.count - 1) c.links o is_last free
 
+-- a network that a link would be of is the last
+above_last : (c : Configuration) → is_some (network_above c) ≡ true → is_some (last_network c.networks) ≡ true
+above_last c is = elim (cases_Bool (c.above == nothing)) [
+  | inl none ↦ absurd (true≢false (sym is ∙ rw none refl))
+  | inr some ↦ rw some at is
+]
+
 link_follows : (capacity : Capacity) (n : ℕ) (b : LinkBegun) (own : Option Expected) (c : Configuration)
     → Follows (link_line capacity n b own c).0.networks.count c.links (link_line capacity n b own c).0.links
 link_follows capacity n b own c = elim (cases_Bool (nat_lt c.above a_wrong_network)) [
   | inl looked ↦ rw looked (elim (cases_Bool (is_some (link_line_fault capacity b own c))) [
     | inl wrong ↦ rw wrong (same refl)
     | inr right ↦ rw right (added_follows n (carrier_in b) c (last_network c.networks) refl
-        (has_one capacity b own c.links (last_network c.networks) (no_fault (link_line_fault capacity b own c) right)) (λ carrier is.
-        line_free capacity b own c.links (last_network c.networks) carrier (no_fault (link_line_fault capacity b own c) right) is))
+        (above_last c (has_one capacity b own c.links (network_above c) (no_fault (link_line_fault capacity b own c) right))) (λ carrier is.
+        line_free capacity b own c.links (network_above c) carrier (no_fault (link_line_fault capacity b own c) right) is))
   ])
   | inr passed ↦ rw passed (same refl)
+]
+
+internal_follows : (capacity : Capacity) (n : ℕ) (b : InternalBegun) (own : Option Expected) (c : Configuration)
+    → Follows (after_internal capacity n b own c).networks.count c.links (after_internal capacity n b own c).links
+internal_follows capacity n b own c = elim (cases_Bool (is_some (internal_fault capacity b own c))) [
+  | inl wrong ↦ rw wrong (same refl)
+  | inr right ↦ rw right (same refl)
 ]
 
 -- ---- lines below them
@@ -201,6 +221,7 @@ carrier_kept n text (line.Rate b) read own links link = kept (once (rate_of link
 carrier_kept n text (line.Strangers b) read own links link = kept (once link.strangers.line own) link (with_strangers link (number_said n b)) refl
 carrier_kept n text (line.Kilobits b) read own links link = kept (kilobits_fault link b own links) link (with_kilobits link (number_said n b)) refl
 carrier_kept n text (line.Nodes b) read own links link = kept (once link.nodes_line own) link (with_nodes link n) refl
+carrier_kept n text (line.Internal b) read own links link = refl
 
 number_kept : (n : ℕ) (text : List ℕ) (l : Line) (read : ℕ) (own : Option Expected) (links : List LinkSetting) (link : LinkSetting)
     → (line_by n text l read own links link).0.network ≡ link.network
@@ -215,6 +236,7 @@ number_kept n text (line.Rate b) read own links link = network_kept (once (rate_
 number_kept n text (line.Strangers b) read own links link = network_kept (once link.strangers.line own) link (with_strangers link (number_said n b)) refl
 number_kept n text (line.Kilobits b) read own links link = network_kept (kilobits_fault link b own links) link (with_kilobits link (number_said n b)) refl
 number_kept n text (line.Nodes b) read own links link = network_kept (once link.nodes_line own) link (with_nodes link n) refl
+number_kept n text (line.Internal b) read own links link = refl
 
 extends_follow : (c : Configuration) (text : List ℕ) (read : ℕ) (own : Option Expected) (o : Option NetworkSetting)
     → Follows (extended_by c text read own o).0.networks.count c.links (extended_by c text read own o).0.links
@@ -241,6 +263,7 @@ below_network_follows text r (line.Rate b) c = same refl
 below_network_follows text r (line.Strangers b) c = same refl
 below_network_follows text r (line.Kilobits b) c = same refl
 below_network_follows text r (line.Nodes b) c = same refl
+below_network_follows text r (line.Internal b) c = same refl
 
 either : (l : LinkList) (b : Bool) (x y : Configuration × Option Fault) → Follows x.0.networks.count l x.0.links → Follows y.0.networks.count l y.0.links
     → Follows (if b then x else y).0.networks.count l (if b then x else y).0.links
@@ -269,6 +292,7 @@ module _ (n : ℕ) (text : List ℕ) (r : Reading) (c : Configuration) where
   below_link_follows (line.Strangers b) = tunnel_follows (tunnel_fault c)
   below_link_follows (line.Kilobits b) = tunnel_follows (tunnel_fault c)
   below_link_follows (line.Nodes b) = tunnel_follows (tunnel_fault c)
+  below_link_follows (line.Internal b) = tunnel_follows (tunnel_fault c)
 
   below_follows : Follows (taken_below n text r c).0.networks.count c.links (taken_below n text r c).0.links
   below_follows =
@@ -288,6 +312,7 @@ module _ (n : ℕ) (text : List ℕ) (r : Reading) (c : Configuration) where
   taken_follows capacity (line.Strangers b) = below_follows
   taken_follows capacity (line.Kilobits b) = below_follows
   taken_follows capacity (line.Nodes b) = below_follows
+  taken_follows capacity (line.Internal b) = internal_follows capacity n b r.fault c
 
 pub follows : (capacity : Capacity) (n : ℕ) (text : List ℕ) (c : Configuration)
     → Follows (after capacity n text c).networks.count c.links (after capacity n text c).links

@@ -1,15 +1,16 @@
 -- Networks become no fewer, whatever the line is.
-use Rattle.std.proofs.Common.{◌≡◌, ℕ, ◌+◌, ◌-◌, ◌<◌, ◌≤◌, Bool, true, false, not, ◌==◌, ◌&&◌, nat_lt, nat_le, if◌then◌else◌, List, length, set, refl, sym, ap, ◌∙◌, arith, Option, Some, None, inl, inr}
+use Rattle.std.proofs.Common.{◌≡◌, ℕ, ◌-◌, ◌<◌, ◌≤◌, Bool, true, false, not, ◌==◌, ◌&&◌, nat_lt, nat_le, if◌then◌else◌, List, length, refl, arith, Option, Some, None, inl, inr}
 use Rattle.std.specs.Option.{is_some}
 use Rattle.std.proofs.lemmas.Bool.{cases_Bool, ltb-true}
 use Rattle.std.proofs.lemmas.List.{length-set}
 use Rattle.ipx_settings.specs.declared.expected.Expected.{Expected}
+use Rattle.ipx_settings.specs.declared.internal.InternalBegun.{InternalBegun}
 use Rattle.ipx_settings.specs.declared.line.Line.{Line}
 use Rattle.ipx_settings.specs.declared.line.Line.TheVariants as line
 use Rattle.ipx_settings.specs.declared.link.LinkBegun.{LinkBegun}
 use Rattle.ipx_settings.specs.declared.network.NetworkBegun.{NetworkBegun}
 use Rattle.ipx_settings.specs.declared.reading.Reading.{Reading}
-use Rattle.ipx_configuration.specs.Configurations.{nothing, a_network, a_link, a_wrong_network, names_link, network_of, network_fault, after_network, now_linked, with_a_link, link_line_fault, link_line, extended_by, link_extended_by, is_below_tunnel, tunnel_fault, below_network_by, below_link_by, taken_below, taken_by, read_in, after}
+use Rattle.ipx_configuration.specs.Configurations.{nothing, a_network, a_link, a_wrong_network, names_link, network_of, network_fault, after_network, internal_fault, after_internal, now_linked, with_a_link, link_line_fault, link_line, extended_by, link_extended_by, is_below_tunnel, tunnel_fault, below_network_by, below_link_by, taken_below, taken_by, read_in, after}
 use Rattle.ipx_configuration.specs.Extends.{network_taken}
 use Rattle.ipx_configuration.specs.Memory.{last_network, last_link, with_network, with_last_network}
 use Rattle.ipx_configuration.specs.declared.configuration.Capacity.{Capacity}
@@ -62,6 +63,13 @@ link_grows capacity n b own c = elim (cases_Bool (nat_lt c.above a_wrong_network
   | inr passed ↦ rw passed (stays c.networks)
 ]
 
+internal_grows : (capacity : Capacity) (n : ℕ) (b : InternalBegun) (own : Option Expected) (c : Configuration)
+    → Grows c.networks (after_internal capacity n b own c).networks
+internal_grows capacity n b own c = elim (cases_Bool (is_some (internal_fault capacity b own c))) [
+  | inl wrong ↦ rw wrong (stays c.networks)
+  | inr right ↦ rw right (stays c.networks)
+]
+
 extended_grows : (c : Configuration) (text : List ℕ) (read : ℕ) (own : Option Expected) (o : Option NetworkSetting)
     → Grows c.networks (extended_by c text read own o).0.networks
 extended_grows c text read own None = stays c.networks
@@ -90,6 +98,7 @@ module _ (n : ℕ) (text : List ℕ) (r : Reading) (c : Configuration) where
   below_network_grows (line.Strangers b) = stays c.networks
   below_network_grows (line.Kilobits b) = stays c.networks
   below_network_grows (line.Nodes b) = stays c.networks
+  below_network_grows (line.Internal b) = stays c.networks
 
   last_grows : Grows c.networks (link_extended_by c n text r (last_link c.links)).0.networks
   last_grows = link_extended_grows c n text r (last_link c.links)
@@ -109,6 +118,7 @@ module _ (n : ℕ) (text : List ℕ) (r : Reading) (c : Configuration) where
   below_link_grows (line.Strangers b) = tunnel_grows
   below_link_grows (line.Kilobits b) = tunnel_grows
   below_link_grows (line.Nodes b) = tunnel_grows
+  below_link_grows (line.Internal b) = tunnel_grows
 
   below_grows : Grows c.networks (taken_below n text r c).0.networks
   below_grows =
@@ -128,6 +138,7 @@ module _ (n : ℕ) (text : List ℕ) (r : Reading) (c : Configuration) where
   taken_grows capacity (line.Strangers b) = below_grows
   taken_grows capacity (line.Kilobits b) = below_grows
   taken_grows capacity (line.Nodes b) = below_grows
+  taken_grows capacity (line.Internal b) = internal_grows capacity n b r.fault c
 
 pub grows : (capacity : Capacity) (n : ℕ) (text : List ℕ) (c : Configuration) → Grows c.networks (after capacity n text c).networks
 grows capacity n text c = let r = read_in capacity text c in taken_grows n text r c capacity r.line

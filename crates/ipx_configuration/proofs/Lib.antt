@@ -7,4 +7,5 @@ pub mod Listing
 pub mod Meaning
 pub mod Sharing
 pub mod Naming
+pub mod Owning
 pub mod examples

@@ -104,3 +104,4 @@ unchanged capacity n text r c f (line.Rate b) is wrong = absurd (true≢false (s
 unchanged capacity n text r c f (line.Strangers b) is wrong = absurd (true≢false (sym is))
 unchanged capacity n text r c f (line.Kilobits b) is wrong = absurd (true≢false (sym is))
 unchanged capacity n text r c f (line.Nodes b) is wrong = absurd (true≢false (sym is))
+unchanged capacity n text r c f (line.Internal b) is wrong = absurd (true≢false (sym is))

@@ -1,2 +1,3 @@
 -- Worked examples: each is checked by computing it.
 pub mod Nodes
+pub mod Internal

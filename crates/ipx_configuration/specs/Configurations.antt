@@ -1,12 +1,14 @@
 -- A configuration, line by line.
-use Rattle.std.specs.Prelude.{ℕ, ◌+◌, ◌-◌, Bool, true, false, not, ◌==◌, ◌&&◌, ◌||◌, if◌then◌else◌, nat_lt, List, [], ◌∷◌, replicate, Option, Some, None, slice_get}
+use Rattle.std.specs.Prelude.{ℕ, ◌-◌, Bool, true, false, not, ◌==◌, ◌&&◌, if◌then◌else◌, nat_lt, List, [], ◌∷◌, replicate, Option, Some, None, slice_get}
 use Rattle.std.specs.List.{position}
 use Rattle.std.specs.Option.{is_some, unwrap_or, option_map}
 use Rattle.ipx_settings.specs.Cutting.{◌>>=◌}
+use Rattle.ipx_settings.specs.Internals.{internal_number}
 use Rattle.ipx_settings.specs.Lines.{reading_of}
 use Rattle.ipx_settings.specs.Networks.{number_in, head_in, link_in, node_in}
 use Rattle.ipx_settings.specs.declared.expected.Expected.{Expected}
 use Rattle.ipx_settings.specs.declared.expected.Expected.TheVariants as expected
+use Rattle.ipx_settings.specs.declared.internal.InternalBegun.{InternalBegun}
 use Rattle.ipx_settings.specs.declared.line.Context.{Context}
 use Rattle.ipx_settings.specs.declared.line.Line.{Line}
 use Rattle.ipx_settings.specs.declared.line.Line.TheVariants as line
@@ -19,8 +21,9 @@ use Rattle.ipx_settings.specs.declared.reading.Reading.{Reading}
 use Rattle.ipx_configuration.specs.Carriers.{tunnel}
 use Rattle.ipx_configuration.specs.Clashes.{first_of, when, line_fault, carrier_in, link_fault}
 use Rattle.ipx_configuration.specs.Extends.{network_taken}
+use Rattle.ipx_configuration.specs.Internals.{is_said, is_full, internal_clash, internal_said}
 use Rattle.ipx_configuration.specs.Lines.{link_taken}
-use Rattle.ipx_configuration.specs.Memory.{most_networks, most_links, networks_in, links_in, last_network, last_link, with_network, with_link, with_last_network, with_last_link}
+use Rattle.ipx_configuration.specs.Memory.{most_links, networks_in, links_in, last_network, last_link, with_network, with_link, with_last_network, with_last_link}
 use Rattle.ipx_configuration.specs.Said.{no_sockets, new_link}
 use Rattle.ipx_configuration.specs.declared.carrier.Carrier.{Carrier}
 use Rattle.ipx_configuration.specs.declared.configuration.Capacity.{Capacity}
@@ -30,12 +33,13 @@ use Rattle.ipx_configuration.specs.declared.fault.Fault.{Fault}
 use Rattle.ipx_configuration.specs.declared.fault.Fault.TheVariants as fault
 use Rattle.ipx_configuration.specs.declared.memory.LinkList.{LinkList}
 use Rattle.ipx_configuration.specs.declared.memory.NetworkList.{NetworkList}
+use Rattle.ipx_configuration.specs.declared.said.InternalSaid.{InternalSaid}
 use Rattle.ipx_configuration.specs.declared.said.LinkSetting.{LinkSetting}
 use Rattle.ipx_configuration.specs.declared.said.NetworkSetting.{NetworkSetting}
 
 -- ---- what a line stands below
 
--- nothing; a network that has no link yet; a link; a link that is wrong; a network that is wrong
+-- nothing, or the router's own network; a network that has no link yet; a link; a link that is wrong; a network that is wrong
 abbrev pub nothing : ℕ
 nothing = 0
 
@@ -51,11 +55,11 @@ a_wrong_link = 3
 abbrev pub a_wrong_network : ℕ
 a_wrong_network = 4
 
-abbrev pub configuration_at : NetworkList → LinkList → ℕ → Configuration
-configuration_at networks links above = record { networks = networks; links = links; above = above }
+abbrev pub configuration_at : NetworkList → LinkList → InternalSaid → ℕ → Configuration
+configuration_at networks links internal above = record { networks = networks; links = links; internal = internal; above = above }
 
 abbrev pub with_above : Configuration → ℕ → Configuration
-with_above c above = configuration_at c.networks c.links above
+with_above c above = configuration_at c.networks c.links c.internal above
 
 abbrev pub is_tunnel : Option LinkSetting → Bool
 is_tunnel None = false
@@ -135,8 +139,9 @@ more_links begun longest l own = first_of (when (not (nat_lt l.count most_links)
 abbrev pub network_fault : Capacity → NetworkBegun → Option Expected → Configuration → Option Fault
 network_fault capacity begun own c =
     first_of (
-    when (not (nat_lt c.networks.count capacity.networks && nat_lt c.networks.count most_networks)) fault.ManyNetworks
+    when (is_full capacity c) fault.ManyNetworks
     ∷ number_fault (number_in begun) (networks_in c.networks)
+    ∷ internal_clash (number_in begun) c.internal
     ∷ (if names_link begun own then more_links (link_in begun) (head_or_none begun).longest c.links own else line_fault own)
     ∷ [])
 
@@ -150,13 +155,35 @@ add_network line begun own c =
     configuration_at
     (with_network c.networks (network_of line c.links.count begun (not (names_link begun own))))
     (linked line c.networks.count c.links (carrier_in (link_in begun)))
+    c.internal
     (if names_link begun own then a_link else a_network)
 
 abbrev pub after_network : Capacity → ℕ → NetworkBegun → Option Expected → Configuration → Configuration
 after_network capacity line begun own c =
     if is_some (network_fault capacity begun own c) then with_above c a_wrong_network else add_network line begun own c
 
+-- ---- the line of the router's own network
+
+abbrev pub internal_fault : Capacity → InternalBegun → Option Expected → Configuration → Option Fault
+internal_fault capacity begun own c =
+    first_of (
+    when (is_said c.internal) (fault.Once c.internal.line)
+    ∷ when (is_full capacity c) fault.ManyNetworks
+    ∷ number_fault (internal_number begun) (networks_in c.networks)
+    ∷ line_fault own
+    ∷ [])
+
+-- (nothing stands below it)
+abbrev pub after_internal : Capacity → ℕ → InternalBegun → Option Expected → Configuration → Configuration
+after_internal capacity line begun own c =
+    if is_some (internal_fault capacity begun own c) then with_above c nothing
+    else configuration_at c.networks c.links (internal_said line begun) nothing
+
 -- ---- the line of a link
+
+-- the network that it would be of
+abbrev pub network_above : Configuration → Option NetworkSetting
+network_above c = if c.above == nothing then None else last_network c.networks
 
 abbrev pub link_line_by : Capacity → LinkBegun → Option Expected → LinkList → Option NetworkSetting → Option Fault
 link_line_by capacity begun own l None = Some fault.LinkBelow
@@ -168,7 +195,7 @@ link_line_by capacity begun own l (Some network) =
     ∷ [])
 
 abbrev pub link_line_fault : Capacity → LinkBegun → Option Expected → Configuration → Option Fault
-link_line_fault capacity begun own c = link_line_by capacity begun own c.links (last_network c.networks)
+link_line_fault capacity begun own c = link_line_by capacity begun own c.links (network_above c)
 
 abbrev pub with_a_link : NetworkSetting → NetworkSetting
 with_a_link n = record {
@@ -194,7 +221,7 @@ now_linked n (Some network) = with_last_network n (with_a_link network)
 -- a link more of the last network
 abbrev pub add_link : ℕ → LinkBegun → Configuration → Configuration
 add_link line begun c =
-    configuration_at (now_linked c.networks (last_network c.networks)) (linked line (c.networks.count - 1) c.links (carrier_in begun)) a_link
+    configuration_at (now_linked c.networks (last_network c.networks)) (linked line (c.networks.count - 1) c.links (carrier_in begun)) c.internal a_link
 
 -- (what stands below a network that is wrong isn't looked at)
 abbrev pub link_line : Capacity → ℕ → LinkBegun → Option Expected → Configuration → Configuration × Option Fault
@@ -208,7 +235,7 @@ link_line capacity line begun own c =
 abbrev pub extended_by : Configuration → List ℕ → ℕ → Option Expected → Option NetworkSetting → Configuration × Option Fault
 extended_by c text read own None = (c, None)
 extended_by c text read own (Some network) =
-    (configuration_at (with_last_network c.networks (network_taken network text read own).0) c.links c.above, (network_taken network text read own).1)
+    (configuration_at (with_last_network c.networks (network_taken network text read own).0) c.links c.internal c.above, (network_taken network text read own).1)
 
 -- behind a line `extend`, which the last network takes
 abbrev pub extended : List ℕ → ℕ → Option Expected → Configuration → Configuration × Option Fault
@@ -217,7 +244,7 @@ extended text read own c = extended_by c text read own (last_network c.networks)
 abbrev pub link_extended_by : Configuration → ℕ → List ℕ → Reading → Option LinkSetting → Configuration × Option Fault
 link_extended_by c line text r None = (c, None)
 link_extended_by c line text r (Some link) = (
-  configuration_at c.networks (with_last_link c.links (link_taken line text r (links_in c.links) link).0) c.above,
+  configuration_at c.networks (with_last_link c.links (link_taken line text r (links_in c.links) link).0) c.internal c.above,
   (link_taken line text r (links_in c.links) link).1,
 )
 
@@ -262,6 +289,7 @@ abbrev pub taken_by : Capacity → ℕ → List ℕ → Reading → Line → Con
 taken_by capacity n text r line.Nothing c = (c, line_fault r.fault)
 taken_by capacity n text r (line.Network begun) c = (after_network capacity n begun r.fault c, network_fault capacity begun r.fault c)
 taken_by capacity n text r (line.Link begun) c = link_line capacity n begun r.fault c
+taken_by capacity n text r (line.Internal begun) c = (after_internal capacity n begun r.fault c, internal_fault capacity begun r.fault c)
 taken_by capacity n text r other c = taken_below n text r c
 
 abbrev pub taken : Capacity → ℕ → List ℕ → Reading → Configuration → Configuration × Option Fault
@@ -276,6 +304,7 @@ read_in capacity text c = reading_of (context_of capacity c) text
 
 abbrev pub unlinked_by : Line → Configuration → Option ℕ
 unlinked_by (line.Network begun) c = unlinked c
+unlinked_by (line.Internal begun) c = unlinked c
 unlinked_by other c = None
 
 abbrev pub told_at : Reading → Option ℕ → Option Fault → Told

@@ -8,6 +8,7 @@ pub mod Lines
 pub mod Extends
 -- all networks and links
 pub mod Memory
+pub mod Internals
 pub mod Configurations
 pub mod Configured
 -- laws

@@ -1,9 +1,10 @@
 -- What lines say of networks and links.
-use Rattle.std.specs.Prelude.{ℕ, ◌+◌, Bool, true, false, ◌==◌, nat_lt, if◌then◌else◌, List, [], ◌∷◌, take, replicate, slice_set}
+use Rattle.std.specs.Prelude.{ℕ, ◌+◌, Bool, ◌==◌, nat_lt, if◌then◌else◌, List, [], ◌∷◌, take, replicate, slice_set}
 use Rattle.std.specs.List.{list_any}
 use Rattle.ipx_settings.specs.declared.addresses.HostRange.{HostRange}
 use Rattle.ipx_configuration.specs.declared.carrier.Carrier.{Carrier}
 use Rattle.ipx_configuration.specs.declared.said.ClientsSaid.{ClientsSaid}
+use Rattle.ipx_configuration.specs.declared.said.InternalSaid.{InternalSaid}
 use Rattle.ipx_configuration.specs.declared.said.LinkSetting.{LinkSetting}
 use Rattle.ipx_configuration.specs.declared.said.NumberSaid.{NumberSaid}
 use Rattle.ipx_configuration.specs.declared.said.Ranges.{Ranges}
@@ -49,6 +50,13 @@ no_rate = record { line = 0; rate = 0; share = 0; household = 0 }
 
 abbrev pub no_number : NumberSaid
 no_number = record { line = 0; number = 0 }
+
+abbrev pub no_internal : InternalSaid
+no_internal = record { line = 0; number = 0; node = replicate 6 0 }
+
+-- the router's node in its own network, where the line doesn't say one
+abbrev pub usual_node : List ℕ
+usual_node = 0 ∷ 0 ∷ 0 ∷ 0 ∷ 0 ∷ 1 ∷ []
 
 abbrev pub link_at : ℕ → ℕ → Carrier → ClientsSaid → RateSaid → NumberSaid → NumberSaid → Ranges → Ranges → ℕ → LinkSetting
 link_at line network carrier clients rate strangers kilobits allowed trusted nodes_line = record {

@@ -20,6 +20,7 @@ pub record IsBlank (c : Configuration) : Type 0 where
   pub links_room : length c.links.list ≡ most_links
   pub no_networks : c.networks.count ≡ 0
   pub no_links : c.links.count ≡ 0
+  pub no_internal : c.internal.line ≡ 0
   pub at_first : c.above ≡ nothing
 
 -- no link clashes with one above it
@@ -35,6 +36,11 @@ abbrev pub is_of_network_or_link : Line → Bool
 is_of_network_or_link (line.Network begun) = true
 is_of_network_or_link (line.Link begun) = true
 is_of_network_or_link other = false
+
+-- a line that begins with internal
+abbrev pub is_of_internal : Line → Bool
+is_of_internal (line.Internal begun) = true
+is_of_internal other = false
 
 -- a line that begins with nodes
 abbrev pub is_of_nodes : Line → Bool

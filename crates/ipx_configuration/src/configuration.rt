@@ -1,9 +1,10 @@
 //! A configuration, line by line.
 ghost use Rattle.std.specs.Prelude.{◌≡◌};
 ghost use Rattle.std.specs.List.{position};
+ghost use Rattle.ipx_configuration.specs.Internals.{is_full, internal_clash, internal_said, told_internal};
 ghost use Rattle.ipx_configuration.specs.Said.{new_link};
 ghost use Rattle.ipx_configuration.specs.Wholes.{IsBlank};
-ghost use Rattle.ipx_configuration.specs.Configurations.{unlinked, is_below_tunnel, head_or_none, names_link, network_of, has_number, number_fault, more_links, network_fault, add_network, after_network, link_line_fault, add_link, link_line, extended, link_extended, tunnel_fault, below_network, below_link, taken_below, taken, told, after};
+ghost use Rattle.ipx_configuration.specs.Configurations.{unlinked, is_below_tunnel, head_or_none, names_link, network_of, has_number, number_fault, more_links, network_fault, add_network, after_network, internal_fault, after_internal, network_above, link_line_fault, add_link, link_line, extended, link_extended, tunnel_fault, below_network, below_link, taken_below, taken, told, after};
 
 use crate::carrier::{Carrier, TUNNEL};
 use crate::clash::{carrier_in, line_fault, link_fault};
@@ -11,12 +12,15 @@ use crate::fault::Fault;
 use crate::lines::link_taken;
 use crate::memory::{LinkList, MOST_LINKS, MOST_NETWORKS, NetworkList};
 use crate::said::{
-    ClientsSaid, LinkSetting, NetworkSetting, NumberSaid, Ranges, RateSaid, Sockets,
+    ClientsSaid, InternalSaid, LinkSetting, NetworkSetting, NumberSaid, Ranges, RateSaid, Sockets,
+    USUAL_NODE,
 };
 use crate::sockets::network_taken;
-use ipx_settings::{Context, Expected, Head, Line, LinkBegun, NetworkBegun, Reading};
+use ipx_settings::{
+    Context, Expected, Head, InternalBegun, Line, LinkBegun, NetworkBegun, Reading,
+};
 
-/// What a line stands below: nothing,
+/// What a line stands below: nothing, or the router's own network,
 const NOTHING: u8 = 0;
 
 /// a network that has no link yet,
@@ -85,6 +89,8 @@ pub struct Told {
 pub struct Configuration {
     pub networks: NetworkList,
     pub links: LinkList,
+    /// The router's own network.
+    pub internal: InternalSaid,
     /// What the next line stands below.
     pub above: u8,
 }
@@ -142,6 +148,29 @@ fn number_fault(number: Option<u32>, networks: &[NetworkSetting]) -> Option<Faul
             None => None,
         },
         None => None,
+    }
+}
+
+/// What was expected where the router's own network has the number.
+fn internal_clash(number: Option<u32>, internal: InternalSaid) -> Option<Fault>
+    ensures { result ≡ internal_clash number internal }
+{
+    match number {
+        Some(number) if internal.line > 0 && internal.number == number => {
+            Some(Fault::OtherNetwork(internal.line))
+        }
+        _ => None,
+    }
+}
+
+/// The router's own network, as its line says it.
+fn internal_said(line: usize, begun: InternalBegun) -> InternalSaid
+    ensures { result ≡ internal_said line begun }
+{
+    InternalSaid {
+        line,
+        number: begun.number().unwrap_or(0),
+        node: begun.node().unwrap_or(USUAL_NODE),
     }
 }
 
@@ -228,6 +257,7 @@ impl Configuration {
                 list: links,
                 count: 0,
             },
+            internal: InternalSaid::none(),
             above: NOTHING,
         }
     }
@@ -252,6 +282,29 @@ impl Configuration {
         }
     }
 
+    /// The router's own network, if a line says it.
+    pub fn internal(&self) -> Option<InternalSaid>
+        ensures { result ≡ told_internal self.now }
+    {
+        if self.internal.line > 0 {
+            Some(self.internal)
+        } else {
+            None
+        }
+    }
+
+    /// Whether there are as many networks as there may be, the router's own among them.
+    fn is_full(&self, capacity: Capacity) -> bool
+        ensures { result ≡ is_full capacity self.now }
+    {
+        if self.networks.count >= MOST_NETWORKS {
+            return true;
+        }
+        let own = if self.internal.line > 0 { 1 } else { 0 };
+        let all = self.networks.count + own;
+        all >= MOST_NETWORKS || all >= capacity.networks
+    }
+
     fn network_fault(
         &self,
         capacity: Capacity,
@@ -260,12 +313,16 @@ impl Configuration {
     ) -> Option<Fault>
         ensures { result ≡ network_fault capacity begun own self.now }
     {
-        if self.networks.count >= capacity.networks || self.networks.count >= MOST_NETWORKS {
+        if self.is_full(capacity) {
             return Some(Fault::ManyNetworks);
         }
         let other = number_fault(begun.number(), self.networks.listed());
         if other.is_some() {
             return other;
+        }
+        let own_network = internal_clash(begun.number(), self.internal);
+        if own_network.is_some() {
+            return own_network;
         }
         if names_link(begun, own) {
             more_links(begun.link(), head_or_none(begun).longest, &self.links, own)
@@ -310,6 +367,56 @@ impl Configuration {
         fault
     }
 
+    fn internal_fault(
+        &self,
+        capacity: Capacity,
+        begun: InternalBegun,
+        own: Option<Expected>,
+    ) -> Option<Fault>
+        ensures { result ≡ internal_fault capacity begun own self.now }
+    {
+        if self.internal.line > 0 {
+            return Some(Fault::Once(self.internal.line));
+        }
+        if self.is_full(capacity) {
+            return Some(Fault::ManyNetworks);
+        }
+        let other = number_fault(begun.number(), self.networks.listed());
+        if other.is_some() {
+            return other;
+        }
+        line_fault(own)
+    }
+
+    /// Takes the line of the router's own network, below which nothing stands.
+    fn take_internal(
+        &mut self,
+        capacity: Capacity,
+        line: usize,
+        begun: InternalBegun,
+        own: Option<Expected>,
+    ) -> Option<Fault>
+        ensures fault { result ≡ internal_fault capacity begun own self.old }
+        ensures after { self.new ≡ after_internal capacity line begun own self.old }
+    {
+        let fault = self.internal_fault(capacity, begun, own);
+        if fault.is_none() {
+            self.internal = internal_said(line, begun);
+        }
+        self.above = NOTHING;
+        fault
+    }
+
+    /// The network that a link here would be of.
+    fn network_above(&self) -> Option<NetworkSetting>
+        ensures { result ≡ network_above self.now }
+    {
+        if self.above == NOTHING {
+            return None;
+        }
+        self.networks.last()
+    }
+
     fn link_line_fault(
         &self,
         capacity: Capacity,
@@ -318,7 +425,7 @@ impl Configuration {
     ) -> Option<Fault>
         ensures { result ≡ link_line_fault capacity begun own self.now }
     {
-        match self.networks.last() {
+        match self.network_above() {
             Some(network) => {
                 if !network.is_of_several {
                     return Some(Fault::LinkBelow);
@@ -472,6 +579,7 @@ impl Configuration {
             Line::Nothing => line_fault(reading.fault),
             Line::Network(begun) => self.take_network(capacity, line, begun, reading.fault),
             Line::Link(begun) => self.take_link(capacity, line, begun, reading.fault),
+            Line::Internal(begun) => self.take_internal(capacity, line, begun, reading.fault),
             _ => self.take_below(line, text, reading),
         }
     }
@@ -489,6 +597,7 @@ impl Configuration {
         let reading = Reading::of(text, context);
         let unlinked = match reading.line {
             Line::Network(_) => self.unlinked(),
+            Line::Internal(_) => self.unlinked(),
             _ => None,
         };
         let fault = self.take(capacity, line, text, reading);

@@ -1,14 +1,17 @@
 //! What follows from the definitions alone, for all lines.
-ghost use Rattle.std.specs.Prelude.{◌≡◌, ℕ, ◌<◌, ◌≤◌, ◌==◌, true, false, List, None, Some, slice_get};
+ghost use Rattle.std.specs.Prelude.{◌≡◌, ℕ, ◌<◌, ◌≤◌, ◌==◌, true, false, List, Option, None, Some, slice_get};
 ghost use Rattle.std.specs.Option.{is_some};
+ghost use Rattle.ipx_settings.specs.Networks.{number_in};
+ghost use Rattle.ipx_settings.specs.declared.expected.Expected.{Expected};
+ghost use Rattle.ipx_settings.specs.declared.network.NetworkBegun.{NetworkBegun};
 ghost use Rattle.ipx_settings.specs.declared.reading.Reading.{Reading};
 ghost use Rattle.ipx_configuration.specs.Carriers.{tunnel, any_frames, same_carrier, take_the_same};
 ghost use Rattle.ipx_configuration.specs.Clashes.{clash};
-ghost use Rattle.ipx_configuration.specs.Configurations.{read_in, told, after};
+ghost use Rattle.ipx_configuration.specs.Configurations.{read_in, told, after, network_fault};
 ghost use Rattle.ipx_configuration.specs.Configured.{configured, rate_or_usual};
 ghost use Rattle.ipx_configuration.specs.Lines.{rate_of, with_nodes, link_taken};
 ghost use Rattle.ipx_configuration.specs.Memory.{most_networks, links_in};
-ghost use Rattle.ipx_configuration.specs.Wholes.{after_lines, IsBlank, AreApart, AreOrdered, is_of_network_or_link, is_of_nodes};
+ghost use Rattle.ipx_configuration.specs.Wholes.{after_lines, IsBlank, AreApart, AreOrdered, is_of_network_or_link, is_of_internal, is_of_nodes};
 ghost use Rattle.ipx_configuration.specs.declared.carrier.Carrier.{Carrier};
 ghost use Rattle.ipx_configuration.specs.declared.fault.Fault.{Fault};
 ghost use Rattle.ipx_configuration.specs.declared.fault.Fault.TheVariants.{Once};
@@ -43,6 +46,20 @@ pub fn what_apart_is()
 pub fn wrong_lines_change_nothing()
     ensures { (capacity : Capacity) (n : ℕ) (text : List ℕ) (c : Configuration) (f : Fault) → is_of_network_or_link (read_in capacity text c).line ≡ true
         → (told capacity n text c).fault ≡ Some f → ((after capacity n text c).networks ≡ c.networks) × ((after capacity n text c).links ≡ c.links) }
+{}
+
+/// One more line `internal` is told where the first is. A wrong one changes nothing, no other line says what it says, and the line of a network
+/// with its number is wrong.
+pub fn internal_is_said_once()
+    ensures again { (capacity : Capacity) (n : ℕ) (text : List ℕ) (c : Configuration) → is_of_internal (read_in capacity text c).line ≡ true → 0 < c.internal.line
+        → (told capacity n text c).fault ≡ Some (Once c.internal.line) }
+    ensures wrong { (capacity : Capacity) (n : ℕ) (text : List ℕ) (c : Configuration) (f : Fault) → is_of_internal (read_in capacity text c).line ≡ true
+        → (told capacity n text c).fault ≡ Some f
+        → ((after capacity n text c).networks ≡ c.networks) × ((after capacity n text c).links ≡ c.links) × ((after capacity n text c).internal ≡ c.internal) }
+    ensures others { (capacity : Capacity) (n : ℕ) (text : List ℕ) (c : Configuration) → is_of_internal (read_in capacity text c).line ≡ false
+        → (after capacity n text c).internal ≡ c.internal }
+    ensures number { (capacity : Capacity) (b : NetworkBegun) (own : Option Expected) (c : Configuration) → 0 < c.internal.line → number_in b ≡ Some c.internal.number
+        → is_some (network_fault capacity b own c) ≡ true }
 {}
 
 /// Two links on one carrier, which is no tunnel's, receive at one rate.

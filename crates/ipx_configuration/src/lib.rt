@@ -30,5 +30,5 @@ pub use crate::endpoint::Endpoint;
 pub use crate::fault::Fault;
 pub use crate::memory::{LinkList, NetworkList};
 pub use crate::said::{
-    ClientsSaid, LinkSetting, NetworkSetting, NumberSaid, Ranges, RateSaid, Sockets,
+    ClientsSaid, InternalSaid, LinkSetting, NetworkSetting, NumberSaid, Ranges, RateSaid, Sockets,
 };

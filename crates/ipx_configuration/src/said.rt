@@ -1,6 +1,6 @@
 //! What lines say of networks and links, as memory of C has it.
 ghost use Rattle.std.specs.Prelude.{◌≡◌, take};
-ghost use Rattle.ipx_configuration.specs.Said.{has_socket, with_socket, with_range, no_sockets, no_ranges};
+ghost use Rattle.ipx_configuration.specs.Said.{has_socket, with_socket, with_range, no_sockets, no_ranges, no_internal};
 ghost use Rattle.std.specs.List.{list_any};
 
 use crate::carrier::Carrier;
@@ -31,6 +31,9 @@ pub struct Ranges {
     pub list: [HostRange; 16],
     pub count: usize,
 }
+
+/// The router's node in its own network, where the line doesn't say one.
+pub(crate) const USUAL_NODE: [u8; 6] = [0, 0, 0, 0, 0, 1];
 
 /// What a line `clients` says. Where no line says it, the number of its line is 0; so it is with the others.
 ///
@@ -68,6 +71,19 @@ pub struct RateSaid {
 pub struct NumberSaid {
     pub line: usize,
     pub number: u32,
+}
+
+/// What a line `internal` says: the router's own network, which no cable carries. Where no line says it, the number of its line is 0.
+///
+/// See the example of [`Configuration`](crate::Configuration).
+#[repr(C)]
+#[derive(Clone, Copy, Debug, PartialEq, Eq)]
+pub struct InternalSaid {
+    pub line: usize,
+    /// Its number among networks.
+    pub number: u32,
+    /// The router's node there.
+    pub node: [u8; 6],
 }
 
 /// A network, as its line says it, and the lines `extend` below.
@@ -123,6 +139,18 @@ pub struct LinkSetting {
     pub trusted: Ranges,
     /// The number of the line that says that the nodes of clients may be their addresses, or 0.
     pub nodes_line: usize,
+}
+
+impl InternalSaid {
+    pub(crate) fn none() -> InternalSaid
+        ensures { result ≡ no_internal }
+    {
+        InternalSaid {
+            line: 0,
+            number: 0,
+            node: [0; 6],
+        }
+    }
 }
 
 impl Sockets {

@@ -10,6 +10,7 @@ use Rattle.ipx_settings.specs.declared.addresses.Host.TheVariants.{Four, Six}
 use Rattle.ipx_settings.specs.declared.addresses.Place.TheVariants.{At}
 use Rattle.ipx_settings.specs.declared.expected.Expected.{Expected}
 use Rattle.ipx_settings.specs.declared.expected.Expected.TheVariants as expected
+use Rattle.ipx_settings.specs.declared.internal.InternalBegun.TheVariants as internal
 use Rattle.ipx_settings.specs.declared.line.ClientsBegun.TheVariants as clients
 use Rattle.ipx_settings.specs.declared.line.Context.{Context}
 use Rattle.ipx_settings.specs.declared.line.Line.{Line}
@@ -119,6 +120,11 @@ can_end c (line.Kilobits None) some = (codes "1" ∷ [], (line.Kilobits (Some 1)
 can_end c (line.Kilobits (Some n)) some = ends_now c (line.Kilobits (Some n)) refl
 can_end c (line.Nodes false) some = (codes "by-address" ∷ [], (line.Nodes true, (refl, refl)))
 can_end c (line.Nodes true) some = ends_now c (line.Nodes true) refl
+can_end c (line.Internal internal.Nothing) some = (codes "1" ∷ [], (line.Internal (internal.Number 1), (refl, refl)))
+can_end c (line.Internal (internal.Number number)) some = ends_now c (line.Internal (internal.Number number)) refl
+can_end c (line.Internal (internal.Node number)) some =
+    (codes "020000000001" ∷ [], (line.Internal (internal.Whole number (2 ∷ 0 ∷ 0 ∷ 0 ∷ 0 ∷ 1 ∷ [])), (refl, refl)))
+can_end c (line.Internal (internal.Whole number node)) some = ends_now c (line.Internal (internal.Whole number node)) refl
 
 -- ---- what doesn't end says what was expected
 
@@ -178,3 +184,7 @@ refuses c (line.Kilobits None) open_still = (expected.Kilobits, refl)
 refuses c (line.Kilobits (Some n)) open_still = absurd cc
 refuses c (line.Nodes false) open_still = (expected.ByAddress, refl)
 refuses c (line.Nodes true) open_still = absurd cc
+refuses c (line.Internal internal.Nothing) open_still = (expected.Network, refl)
+refuses c (line.Internal (internal.Number number)) open_still = absurd cc
+refuses c (line.Internal (internal.Node number)) open_still = (expected.Node, refl)
+refuses c (line.Internal (internal.Whole number node)) open_still = absurd cc

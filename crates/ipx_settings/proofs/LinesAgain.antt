@@ -12,11 +12,13 @@ use Rattle.ipx_settings.specs.Lines.{most_rate, most_kilobits, read_from, read_t
 use Rattle.ipx_settings.specs.Links.{is_the, link_step}
 use Rattle.ipx_settings.specs.Networks.{last_network, least_longest, most_longest, head_of, is_share, with_link, behind_head, may_have_node, network_step}
 use Rattle.ipx_settings.specs.Right.{IsWord, IsLink}
-use Rattle.ipx_settings.specs.RightLines.{Within, IsShares, IsHead, IsNode, MayHaveNode, IsWhole, IsNetwork, IsClients, IsRate, IsMost, IsRight}
+use Rattle.ipx_settings.specs.RightLines.{Within, IsShares, IsHead, IsNode, MayHaveNode, IsWhole, IsNetwork, IsClients, IsRate, IsMost, IsInternal, IsRight}
 use Rattle.ipx_settings.specs.Words.{most_words}
 use Rattle.ipx_settings.specs.WritingLinks.{spaced, link_words}
-use Rattle.ipx_settings.specs.WritingLines.{bytes_digits, number_word, shares_words, head_words, maybe_link_words, begun_words, network_words, clients_words, rates_words, strangers_words, kilobits_words, nodes_words, line_words}
+use Rattle.ipx_settings.specs.WritingLines.{bytes_digits, number_word, shares_words, head_words, maybe_link_words, begun_words, network_words, clients_words, rates_words, strangers_words, kilobits_words, nodes_words, internal_words, line_words}
 use Rattle.ipx_settings.specs.declared.expected.Expected.{Expected}
+use Rattle.ipx_settings.specs.declared.internal.InternalBegun.{InternalBegun}
+use Rattle.ipx_settings.specs.declared.internal.InternalBegun.TheVariants as internal
 use Rattle.ipx_settings.specs.declared.line.ClientsBegun.{ClientsBegun}
 use Rattle.ipx_settings.specs.declared.line.ClientsBegun.TheVariants as clients
 use Rattle.ipx_settings.specs.declared.line.Context.{Context}
@@ -236,6 +238,12 @@ nodes_line : (c : Context) (by_address : Bool) → by_address ≡ true → IsLin
 nodes_line c false is = absurd cc
 nodes_line c true is = (refl, refl)
 
+internal_line : (c : Context) (it : InternalBegun) → IsInternal it → IsLine c (line.Internal it) (codes "internal" ∷ internal_words it)
+internal_line c internal.Nothing is = absurd is
+internal_line c (internal.Number number) is = (rw (network_again number is.0 is.1) refl, refl)
+internal_line c (internal.Node number) is = absurd is
+internal_line c (internal.Whole number node) is = (rw (network_again number is.0.0 is.0.1, node_again node is.1) refl, refl)
+
 pub line_again : (c : Context) (l : Line) → IsRight c l → IsLine c l (line_words l)
 line_again c line.Nothing is = (refl, refl)
 line_again c (line.Network it) is = network_line c it is
@@ -248,6 +256,7 @@ line_again c (line.Rate it) is = rate_line c it is
 line_again c (line.Strangers it) is = strangers_line c it is
 line_again c (line.Kilobits it) is = kilobits_line c it is
 line_again c (line.Nodes by_address) is = nodes_line c by_address is
+line_again c (line.Internal it) is = internal_line c it is
 
 -- ---- its words
 
@@ -318,6 +327,12 @@ nodes_are_words : (by_address : Bool) → AllByRecursion IsWord (nodes_words by_
 nodes_are_words false = tt
 nodes_are_words true = (literal (codes "by-address") (omega arith) refl, tt)
 
+internal_are_words : (it : InternalBegun) → IsInternal it → AllByRecursion IsWord (internal_words it)
+internal_are_words internal.Nothing is = absurd is
+internal_are_words (internal.Number number) is = (number_is_word number, tt)
+internal_are_words (internal.Node number) is = absurd is
+internal_are_words (internal.Whole number node) is = (number_is_word number, (literal (codes "node") (omega arith) refl, (node_is_word node is.1, tt)))
+
 line_is_words : (c : Context) (l : Line) → IsRight c l → AllByRecursion IsWord (line_words l)
 line_is_words c line.Nothing is = tt
 line_is_words c (line.Network it) is = network_is_words c.has_cards it is
@@ -330,6 +345,7 @@ line_is_words c (line.Rate it) is = (literal (codes "rate") (omega arith) refl, 
 line_is_words c (line.Strangers it) is = (literal (codes "strangers") (omega arith) refl, strangers_are_words it is)
 line_is_words c (line.Kilobits it) is = (literal (codes "line") (omega arith) refl, kilobits_are_words it is)
 line_is_words c (line.Nodes by_address) is = (literal (codes "nodes") (omega arith) refl, nodes_are_words by_address)
+line_is_words c (line.Internal it) is = (literal (codes "internal") (omega arith) refl, internal_are_words it is)
 
 -- ---- how many they are
 
@@ -397,6 +413,10 @@ line_count (line.Kilobits None) = omega arith
 line_count (line.Kilobits (Some n)) = omega arith
 line_count (line.Nodes false) = omega arith
 line_count (line.Nodes true) = omega arith
+line_count (line.Internal internal.Nothing) = omega arith
+line_count (line.Internal (internal.Number number)) = omega arith
+line_count (line.Internal (internal.Node number)) = omega arith
+line_count (line.Internal (internal.Whole number node)) = omega arith
 
 -- ---- texts
 

@@ -4,18 +4,21 @@ use Rattle.std.specs.Option.{is_some, is_none}
 use Rattle.std.specs.Prelude.{Result, Ok, Err, codes}
 use Rattle.ipx_settings.specs.Addresses.{range_of, is_first}
 use Rattle.ipx_settings.specs.Beginnings.{if_right, said_by}
-use Rattle.ipx_settings.specs.Lines.{most_rate, most_kilobits, rate_or_none, socket_of, line_first, clients_step, share_behind, rate_step, strangers_step, kilobits_step, nodes_step, range_by, with_network, line_step, line_ends, read_from, read_to, reading_by, reading_of}
+use Rattle.ipx_settings.specs.Lines.{most_rate, most_kilobits, rate_or_none, socket_of, line_first, clients_step, share_behind, rate_step, strangers_step, kilobits_step, nodes_step, range_by, with_network, with_internal, line_step, line_ends, read_from, read_to, reading_by, reading_of}
 use Rattle.ipx_settings.specs.Lines as lines
+use Rattle.ipx_settings.specs.Internals.{internal_step, internal_ends}
 use Rattle.ipx_settings.specs.Links.{said, is_the, link_step, link_ends}
 use Rattle.ipx_settings.specs.Networks.{last_network, least_longest, most_longest, head_of, with_shares, is_share, with_link, behind_head, may_have_node, behind_whole, network_step, network_ends}
 use Rattle.ipx_settings.specs.Nodes.{byte_at, bytes_by, step_of, is_single, node_bytes_of, node_of}
 use Rattle.ipx_settings.specs.Numbers.{number_of, hexadecimal_of}
 use Rattle.ipx_settings.specs.Right.{AreNumbers, IsInWord, IsWord, IsLink}
-use Rattle.ipx_settings.specs.RightLines.{Within, IsHead, IsNode, MayHaveNode, IsWhole, IsNetwork, IsClients, IsRate, IsMost, IsSaid}
+use Rattle.ipx_settings.specs.RightLines.{Within, IsHead, IsNode, MayHaveNode, IsWhole, IsNetwork, IsClients, IsRate, IsMost, IsInternal, IsSaid}
 use Rattle.ipx_settings.specs.Words.{is_blank, is_mark, before_mark, words, most_words}
 use Rattle.ipx_settings.specs.declared.addresses.HostRange.{HostRange}
 use Rattle.ipx_settings.specs.declared.expected.Expected.{Expected}
 use Rattle.ipx_settings.specs.declared.expected.Expected.TheVariants as expected
+use Rattle.ipx_settings.specs.declared.internal.InternalBegun.{InternalBegun}
+use Rattle.ipx_settings.specs.declared.internal.InternalBegun.TheVariants as internal
 use Rattle.ipx_settings.specs.declared.line.ClientsBegun.{ClientsBegun}
 use Rattle.ipx_settings.specs.declared.line.ClientsBegun.TheVariants as clients
 use Rattle.ipx_settings.specs.declared.line.Context.{Context}
@@ -212,6 +215,12 @@ abbrev MostPart : ℕ → ℕ → Option ℕ → Type 0
 MostPart least most None = Unit {0}
 MostPart least most (Some n) = Within least most n
 
+abbrev InternalPart : InternalBegun → Type 0
+InternalPart internal.Nothing = Unit {0}
+InternalPart (internal.Number number) = Within 1 last_network number
+InternalPart (internal.Node number) = Within 1 last_network number
+InternalPart (internal.Whole number node) = Within 1 last_network number × IsNode node
+
 abbrev LinePart : Context → Line → Type 0
 LinePart c line.Nothing = Unit {0}
 LinePart c (line.Network b) = NetworkPart c.has_cards b
@@ -224,6 +233,7 @@ LinePart c (line.Rate it) = RatePart c.is_below_tunnel it
 LinePart c (line.Strangers it) = MostPart 0 most_rate it
 LinePart c (line.Kilobits it) = MostPart 1 most_kilobits it
 LinePart c (line.Nodes by_address) = Unit {0}
+LinePart c (line.Internal it) = InternalPart it
 
 first_part : (c : Context) (word : List ℕ) (next : Line) → line_first word ≡ Ok next → LinePart c next
 first_part c word next e =
@@ -237,8 +247,9 @@ first_part c word next e =
     chosen_right P (is_the word (codes "rate")) _ _ next (λ _ f. ok_right P (line.Rate rate.Nothing) next tt f) (λ _ e7.
     chosen_right P (is_the word (codes "strangers")) _ _ next (λ _ f. ok_right P (line.Strangers None) next tt f) (λ _ e8.
     chosen_right P (is_the word (codes "line")) _ _ next (λ _ f. ok_right P (line.Kilobits None) next tt f) (λ _ e9.
-    chosen_right P (is_the word (codes "nodes")) _ _ next (λ _ f. ok_right P (line.Nodes false) next tt f) (λ _ f. absurd (no_error expected.Line next f))
-    e9) e8) e7) e6) e5) e4) e3) e2) e1) e
+    chosen_right P (is_the word (codes "nodes")) _ _ next (λ _ f. ok_right P (line.Nodes false) next tt f) (λ _ e10.
+    chosen_right P (is_the word (codes "internal")) _ _ next (λ _ f. ok_right P (line.Internal internal.Nothing) next tt f) (λ _ f. absurd (no_error expected.Line next f))
+    e10) e9) e8) e7) e6) e5) e4) e3) e2) e1) e
 
 network_line_part : (c : Context) (b : NetworkBegun) (word : List ℕ) (r : Result NetworkBegun Expected) (next : Line) → IsWord word → NetworkPart c.has_cards b → network_step c.has_cards b word ≡ r
     → with_network r ≡ Ok next → LinePart c next
@@ -292,6 +303,20 @@ nodes_part c by_address word next e =
     chosen_right P by_address _ _ next (λ _ f. absurd (no_error expected.Nothing next f)) (λ _ e1.
     chosen_right P (is_the word (codes "by-address")) _ _ next (λ _ f. ok_right P (line.Nodes true) next tt f) (λ _ f. absurd (no_error expected.ByAddress next f)) e1) e
 
+internal_part : (it next : InternalBegun) (word : List ℕ) → InternalPart it → internal_step it word ≡ Ok next → InternalPart next
+internal_part internal.Nothing next word part e =
+    said_right InternalPart expected.Network internal.Number (hexadecimal_of 8 1 last_network word) next (λ n read. hexadecimal_within 8 1 last_network n word read) e
+internal_part (internal.Number number) next word part e =
+    chosen_right InternalPart (is_the word (codes "node")) _ _ next (λ _ f. ok_right InternalPart (internal.Node number) next part f) (λ _ f. absurd (no_error expected.NodeWord next f)) e
+internal_part (internal.Node number) next word part e =
+    said_right InternalPart expected.Node (internal.Whole number) (node_of word) next (λ node read. (part, node_right word node read)) e
+internal_part (internal.Whole number node) next word part e = absurd (no_error expected.Nothing next e)
+
+internal_line_part : (c : Context) (it : InternalBegun) (word : List ℕ) (r : Result InternalBegun Expected) (next : Line) → InternalPart it → internal_step it word ≡ r
+    → with_internal r ≡ Ok next → LinePart c next
+internal_line_part c it word (Ok more) next part read e = ok_right (LinePart c) (line.Internal more) next (internal_part it more word part read) e
+internal_line_part c it word (Err why) next part read e = absurd (no_error why next e)
+
 line_part : (c : Context) (l next : Line) (word : List ℕ) → IsWord word → LinePart c l → line_step c l word ≡ Ok next → LinePart c next
 line_part c line.Nothing next word one part e = first_part c word next e
 line_part c (line.Network b) next word one part e = network_line_part c b word (network_step c.has_cards b word) next one part refl e
@@ -304,6 +329,7 @@ line_part c (line.Rate it) next word one part e = rate_part c it word next part 
 line_part c (line.Strangers it) next word one part e = strangers_part c it word next e
 line_part c (line.Kilobits it) next word one part e = kilobits_part c it word next e
 line_part c (line.Nodes by_address) next word one part e = nodes_part c by_address word next e
+line_part c (line.Internal it) next word one part e = internal_line_part c it word (internal_step it word) next part refl e
 
 said_part : (c : Context) (l last : Line) (ws : List (List ℕ)) → AllByRecursion IsWord ws → LinePart c l → said_by c l ws ≡ Some last → LinePart c last
 said_part c l last [] are part e = subst (LinePart c) (one_value l last e) part
@@ -329,6 +355,12 @@ most_right : (least most : ℕ) (it : Option ℕ) → MostPart least most it →
 most_right least most None part ends = absurd cc
 most_right least most (Some n) part ends = part
 
+internal_right : (it : InternalBegun) → InternalPart it → internal_ends it ≡ true → IsInternal it
+internal_right internal.Nothing part ends = absurd cc
+internal_right (internal.Number number) part ends = part
+internal_right (internal.Node number) part ends = absurd cc
+internal_right (internal.Whole number node) part ends = part
+
 line_said : (c : Context) (l : Line) → LinePart c l → line_ends l ≡ true → IsSaid c l
 line_said c line.Nothing part ends = tt
 line_said c (line.Network b) part ends = network_right c.has_cards b part ends
@@ -341,6 +373,7 @@ line_said c (line.Rate it) part ends = rate_right c.is_below_tunnel it part ends
 line_said c (line.Strangers it) part ends = most_right 0 most_rate it part ends
 line_said c (line.Kilobits it) part ends = most_right 1 most_kilobits it part ends
 line_said c (line.Nodes by_address) part ends = ends
+line_said c (line.Internal it) part ends = internal_right it part ends
 
 words_said : (c : Context) (ws : List (List ℕ)) → AllByRecursion IsWord ws → (reading_by c ws).fault ≡ None → IsSaid c (reading_by c ws).line
 words_said c ws are none = by (nat_lt most_words (length ws)) refl

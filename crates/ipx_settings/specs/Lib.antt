@@ -8,6 +8,7 @@ pub mod Names
 pub mod Addresses
 pub mod Links
 pub mod Networks
+pub mod Internals
 pub mod Lines
 -- what is written, and values that are read
 pub mod Writing

@@ -2,6 +2,7 @@
 use Rattle.std.specs.Prelude.{ℕ, Bool, true, false, not, if◌then◌else◌, List, [], length, Option, Some, None, Result, Ok, Err, codes, ◌==◌, ◌+◌, ◌∷◌, nat_lt}
 use Rattle.std.specs.Option.{is_some}
 use Rattle.ipx_settings.specs.Addresses.{range_of, is_first}
+use Rattle.ipx_settings.specs.Internals.{internal_step, internal_ends}
 use Rattle.ipx_settings.specs.Links.{said, is_the, link_step, link_ends}
 use Rattle.ipx_settings.specs.Networks.{network_step, network_ends}
 use Rattle.ipx_settings.specs.Numbers.{number_of, hexadecimal_of}
@@ -10,6 +11,8 @@ use Rattle.ipx_settings.specs.declared.reading.Reading.{Reading}
 use Rattle.ipx_settings.specs.declared.addresses.HostRange.{HostRange}
 use Rattle.ipx_settings.specs.declared.expected.Expected.{Expected}
 use Rattle.ipx_settings.specs.declared.expected.Expected.TheVariants as expected
+use Rattle.ipx_settings.specs.declared.internal.InternalBegun.{InternalBegun}
+use Rattle.ipx_settings.specs.declared.internal.InternalBegun.TheVariants as internal
 use Rattle.ipx_settings.specs.declared.line.ClientsBegun.{ClientsBegun}
 use Rattle.ipx_settings.specs.declared.line.ClientsBegun.TheVariants as clients
 use Rattle.ipx_settings.specs.declared.line.Context.{Context}
@@ -49,6 +52,7 @@ line_first word =
     else if is_the word (codes "strangers") then Ok (line.Strangers None)
     else if is_the word (codes "line") then Ok (line.Kilobits None)
     else if is_the word (codes "nodes") then Ok (line.Nodes false)
+    else if is_the word (codes "internal") then Ok (line.Internal internal.Nothing)
     else Err expected.Line
 
 -- the most clients, and the most of one address, which are no more
@@ -107,6 +111,10 @@ abbrev pub with_link : Result LinkBegun Expected → Result Line Expected
 with_link (Ok next) = Ok (line.Link next)
 with_link (Err e) = Err e
 
+abbrev pub with_internal : Result InternalBegun Expected → Result Line Expected
+with_internal (Ok next) = Ok (line.Internal next)
+with_internal (Err e) = Err e
+
 -- a word more
 abbrev pub line_step : Context → Line → List ℕ → Result Line Expected
 line_step c line.Nothing word = line_first word
@@ -120,6 +128,7 @@ line_step c (line.Rate begun) word = rate_step begun c.is_below_tunnel word
 line_step c (line.Strangers begun) word = strangers_step begun word
 line_step c (line.Kilobits begun) word = kilobits_step begun word
 line_step c (line.Nodes by_address) word = nodes_step by_address word
+line_step c (line.Internal begun) word = with_internal (internal_step begun word)
 
 abbrev pub clients_end : ClientsBegun → Bool
 clients_end clients.Nothing = false
@@ -145,6 +154,7 @@ line_ends (line.Rate begun) = rate_ends begun
 line_ends (line.Strangers begun) = is_some begun
 line_ends (line.Kilobits begun) = is_some begun
 line_ends (line.Nodes by_address) = by_address
+line_ends (line.Internal begun) = internal_ends begun
 
 abbrev pub fault_of : {A : Type 0} → Result A Expected → Option Expected
 fault_of (Ok a) = None

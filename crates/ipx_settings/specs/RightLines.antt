@@ -8,6 +8,8 @@ use Rattle.ipx_settings.specs.Nodes.{is_single}
 use Rattle.ipx_settings.specs.Right.{AreNumbers, IsLink}
 use Rattle.ipx_settings.specs.Words.{most_words}
 use Rattle.ipx_settings.specs.declared.addresses.HostRange.{HostRange}
+use Rattle.ipx_settings.specs.declared.internal.InternalBegun.{InternalBegun}
+use Rattle.ipx_settings.specs.declared.internal.InternalBegun.TheVariants as internal
 use Rattle.ipx_settings.specs.declared.line.ClientsBegun.{ClientsBegun}
 use Rattle.ipx_settings.specs.declared.line.ClientsBegun.TheVariants as clients
 use Rattle.ipx_settings.specs.declared.line.Context.{Context}
@@ -74,6 +76,12 @@ abbrev pub IsMost : ℕ → ℕ → Option ℕ → Type 0
 IsMost least most None = ⊥
 IsMost least most (Some n) = Within least most n
 
+-- the router's own network, with a node there or without
+abbrev pub IsInternal : InternalBegun → Type 0
+IsInternal (internal.Number number) = Within 1 last_network number
+IsInternal (internal.Whole number node) = Within 1 last_network number × IsNode node
+IsInternal other = ⊥
+
 -- what a line without a list can say, read in that context
 abbrev pub IsRight : Context → Line → Type 0
 IsRight c line.Nothing = Unit {0}
@@ -87,6 +95,7 @@ IsRight c (line.Rate it) = IsRate c.is_below_tunnel it
 IsRight c (line.Strangers it) = IsMost 0 most_rate it
 IsRight c (line.Kilobits it) = IsMost 1 most_kilobits it
 IsRight c (line.Nodes by_address) = by_address ≡ true
+IsRight c (line.Internal it) = IsInternal it
 
 -- a range whose address is its first
 abbrev pub IsRange : HostRange → Type 0
@@ -109,3 +118,4 @@ IsSaid c (line.Rate it) = IsRate c.is_below_tunnel it
 IsSaid c (line.Strangers it) = IsMost 0 most_rate it
 IsSaid c (line.Kilobits it) = IsMost 1 most_kilobits it
 IsSaid c (line.Nodes by_address) = by_address ≡ true
+IsSaid c (line.Internal it) = IsInternal it

@@ -7,6 +7,8 @@ use Rattle.ipx_settings.specs.Words.{most_words}
 use Rattle.ipx_settings.specs.Writing.{written_size, written_into}
 use Rattle.ipx_settings.specs.WritingLinks.{spaced, link_words}
 use Rattle.ipx_settings.specs.declared.addresses.HostRange.{HostRange}
+use Rattle.ipx_settings.specs.declared.internal.InternalBegun.{InternalBegun}
+use Rattle.ipx_settings.specs.declared.internal.InternalBegun.TheVariants as internal
 use Rattle.ipx_settings.specs.declared.line.ClientsBegun.{ClientsBegun}
 use Rattle.ipx_settings.specs.declared.line.ClientsBegun.TheVariants as clients
 use Rattle.ipx_settings.specs.declared.line.Line.{Line}
@@ -85,6 +87,11 @@ abbrev pub nodes_words : Bool → List (List ℕ)
 nodes_words false = []
 nodes_words true = codes "by-address" ∷ []
 
+abbrev pub internal_words : InternalBegun → List (List ℕ)
+internal_words (internal.Number number) = number_word number ∷ []
+internal_words (internal.Whole number node) = number_word number ∷ codes "node" ∷ bytes_digits node ∷ []
+internal_words other = []
+
 -- all words of a line but for lists, which are written by themselves
 abbrev pub line_words : Line → List (List ℕ)
 line_words line.Nothing = []
@@ -98,6 +105,7 @@ line_words (line.Rate it) = codes "rate" ∷ rates_words it
 line_words (line.Strangers it) = codes "strangers" ∷ strangers_words it
 line_words (line.Kilobits it) = codes "line" ∷ kilobits_words it
 line_words (line.Nodes by_address) = codes "nodes" ∷ nodes_words by_address
+line_words (line.Internal it) = codes "internal" ∷ internal_words it
 
 -- a socket by four digits
 abbrev pub socket_word : ℕ → List ℕ

@@ -14,6 +14,7 @@ mod addresses;
 mod cutting;
 mod expected;
 mod hosts;
+mod internal;
 pub mod laws;
 mod line;
 mod link;
@@ -32,6 +33,7 @@ mod writing_lists;
 
 pub use crate::addresses::{Address, Host, HostRange, Place, read_range};
 pub use crate::expected::Expected;
+pub use crate::internal::InternalBegun;
 pub use crate::line::{ClientsBegun, Context, Line, RateBegun, socket};
 pub use crate::link::{End, Frames, Link, LinkBegun};
 pub use crate::network::{Head, NetworkBegun, Shares};

@@ -4,6 +4,7 @@ ghost use Rattle.ipx_settings.specs.Lines.{rate_or_none, socket_of, share_behind
 
 use crate::addresses::{HostRange, read_range};
 use crate::expected::Expected;
+use crate::internal::InternalBegun;
 use crate::link::LinkBegun;
 use crate::network::NetworkBegun;
 use crate::numbers::{hexadecimal, number, short};
@@ -76,6 +77,8 @@ pub enum Line {
     Kilobits(Option<u32>),
     /// The nodes of clients may be their addresses; false where that word is missing still.
     Nodes(bool),
+    /// The router's own network.
+    Internal(InternalBegun),
 }
 
 /// A number a second, or 0 for `none`.
@@ -120,6 +123,8 @@ fn first(word: &[u8]) -> Result<Line, Expected>
         Ok(Line::Kilobits(None))
     } else if is_word(word, b"nodes") {
         Ok(Line::Nodes(false))
+    } else if is_word(word, b"internal") {
+        Ok(Line::Internal(InternalBegun::Nothing))
     } else {
         Err(Expected::Line)
     }
@@ -263,6 +268,10 @@ impl Line {
             Line::Strangers(begun) => strangers_step(begun, word),
             Line::Kilobits(begun) => kilobits_step(begun, word),
             Line::Nodes(by_address) => nodes_step(by_address, word),
+            Line::Internal(begun) => match begun.step(word) {
+                Ok(next) => Ok(Line::Internal(next)),
+                Err(expected) => Err(expected),
+            },
         }
     }
 
@@ -282,6 +291,7 @@ impl Line {
             Line::Strangers(begun) => begun.is_some(),
             Line::Kilobits(begun) => begun.is_some(),
             Line::Nodes(by_address) => by_address,
+            Line::Internal(begun) => begun.ends(),
         }
     }
 

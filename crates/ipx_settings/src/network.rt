@@ -9,7 +9,7 @@ use crate::numbers::{hexadecimal, short};
 use crate::words::is_word;
 
 /// The largest number of a network.
-const LAST_NETWORK: u32 = 0xFFFF_FFFD;
+pub(crate) const LAST_NETWORK: u32 = 0xFFFF_FFFD;
 
 /// Bytes of the longest packet: the least that may be said, and the most.
 const SHORTEST_LONGEST: u16 = 576;

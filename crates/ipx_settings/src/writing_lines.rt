@@ -2,8 +2,9 @@
 ghost use Rattle.std.specs.Prelude.{◌≡◌, ◌+◌, ◌*◌, ◌<◌, ◌≤◌, ◌∷◌, [], ◌++◌, length, take, codes, decimal, Some};
 ghost use Rattle.ipx_settings.specs.Writing.{written_size, written_into};
 ghost use Rattle.ipx_settings.specs.WritingLinks.{spaced, link_words};
-ghost use Rattle.ipx_settings.specs.WritingLines.{bytes_digits, head_words, maybe_link_words, begun_words, network_words, rate_word, clients_words, rates_words, strangers_words, kilobits_words, nodes_words, line_words};
+ghost use Rattle.ipx_settings.specs.WritingLines.{bytes_digits, head_words, maybe_link_words, begun_words, network_words, rate_word, clients_words, rates_words, strangers_words, kilobits_words, nodes_words, internal_words, line_words};
 
+use crate::internal::InternalBegun;
 use crate::line::{ClientsBegun, Line, RateBegun};
 use crate::link::{Link, LinkBegun};
 use crate::network::{Head, NetworkBegun};
@@ -226,6 +227,27 @@ fn put_nodes(room: &mut [u8], at: usize, by_address: bool) -> usize
     }
 }
 
+fn put_internal(room: &mut [u8], at: usize, internal: InternalBegun) -> usize
+    requires { at + 35 ≤ length room.old }
+    ensures room { take result room.new ≡ take at room.old ++ spaced (codes "internal" ∷ internal_words internal) }
+    ensures most { result ≤ at + 35 }
+    ensures size { length room.new ≡ length room.old }
+{
+    match internal {
+        InternalBegun::Number(number) => {
+            let at = put_text(room, at, b"internal ");
+            put_bytes(room, at, &number.to_be_bytes())
+        }
+        InternalBegun::Whole(number, node) => {
+            let at = put_text(room, at, b"internal ");
+            let at = put_bytes(room, at, &number.to_be_bytes());
+            let at = put_text(room, at, b" node ");
+            put_bytes(room, at, &node)
+        }
+        _ => put_text(room, at, b"internal"),
+    }
+}
+
 /// Puts a line but for its list.
 fn put_line(room: &mut [u8], at: usize, line: &Line) -> usize
     requires { at + LONGEST_LINE ≤ length room.old }
@@ -245,6 +267,7 @@ fn put_line(room: &mut [u8], at: usize, line: &Line) -> usize
         Line::Strangers(rate) => put_strangers(room, at, *rate),
         Line::Kilobits(kilobits) => put_kilobits(room, at, *kilobits),
         Line::Nodes(by_address) => put_nodes(room, at, *by_address),
+        Line::Internal(internal) => put_internal(room, at, *internal),
     }
 }
 

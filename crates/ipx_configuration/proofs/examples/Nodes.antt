@@ -8,7 +8,7 @@ use Rattle.ipx_configuration.specs.Carriers.{no_carrier}
 use Rattle.ipx_configuration.specs.Configurations.{nothing, configuration_at, network_of, told}
 use Rattle.ipx_configuration.specs.Configured.{configured}
 use Rattle.ipx_configuration.specs.Memory.{most_networks, most_links, network_list, link_list}
-use Rattle.ipx_configuration.specs.Said.{new_link}
+use Rattle.ipx_configuration.specs.Said.{no_internal, new_link}
 use Rattle.ipx_configuration.specs.Wholes.{after_lines}
 use Rattle.ipx_configuration.specs.declared.configuration.Capacity.{Capacity}
 use Rattle.ipx_configuration.specs.declared.configuration.Configuration.{Configuration}
@@ -21,7 +21,7 @@ capacity = record { has_cards = true; networks = 32; links = 32; clients = 4096;
 abbrev blank : Configuration
 blank =
     configuration_at (network_list (replicate most_networks (network_of 0 0 network.Nothing true)) 0)
-    (link_list (replicate most_links (new_link 0 0 no_carrier)) 0) nothing
+    (link_list (replicate most_links (new_link 0 0 no_carrier)) 0) no_internal nothing
 
 -- what the first lines of a file say
 abbrev said : List (List ℕ) → Configuration
