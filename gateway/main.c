@@ -197,7 +197,8 @@ int gateway_main(int count, char **words)
     if (fault != 0)
         return fault;
     if (it.is_check) {
-        printf("%s: %zu %s, nothing wrong\n", it.configuration, set.ports, set.ports == 1 ? "network" : "networks");
+        size_t networks = set.ports + (set.has_internal ? 1 : 0);
+        printf("%s: %zu %s, nothing wrong\n", it.configuration, networks, networks == 1 ? "network" : "networks");
         return written();
     }
     return route_and_say(&it, &set);

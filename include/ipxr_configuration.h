@@ -8,12 +8,14 @@
  *     ipxr_setting said;
  *     ipxr_line_wrong wrong;
  *     ipxr_configured link;
+ *     ipxr_internal own;
  *     size_t k;
  *     for each line of the text, counted from 1:
  *         uint8_t expected = ipxr_configuration_line(&all, text, length, line, 1, &said, &wrong);
  *         if (wrong.unlinked > 0) ...;   -- the network of that line has no link
  *         if (expected != 0) ...;        -- the line is wrong
  *     if (ipxr_configuration_unlinked(&all) > 0) ...;
+ *     if (ipxr_configuration_internal(&all, &own)) ...;
  *     for (k = 0; ipxr_configuration_link(&all, k, &link); k++) ...;
  *
  * A line that is wrong leaves networks and links as they were; of a wrong `extend`, `allow` or `trust` the words before the wrong one count.
@@ -32,7 +34,7 @@ extern "C" {
 
 /* ---- Sizes ---- */
 
-#define IPXR_ALL_NETWORKS 32 /* the most networks of a configuration; a library for fewer ports takes no more than these */
+#define IPXR_ALL_NETWORKS 32 /* the most networks of a configuration, with the router's own; a library for fewer ports takes no more than these */
 #define IPXR_ALL_LINKS 64    /* the most links of all networks together */
 #define IPXR_ALL_SOCKETS 16  /* the most sockets that a network extends */
 #define IPXR_ALL_RANGES 16   /* the most ranges of a list */
@@ -44,7 +46,7 @@ extern "C" {
 #define IPXR_EXPECTED_BELOW_TUNNEL 34            /* a network of DOSBox' above */
 #define IPXR_EXPECTED_BELOW_TUNNEL_LINK 35       /* a link of DOSBox' above */
 #define IPXR_EXPECTED_BELOW_SEVERAL 36           /* above, a network that names no link itself */
-#define IPXR_EXPECTED_FEWER_NETWORKS 37          /* at most IPXR_MOST_PORTS networks */
+#define IPXR_EXPECTED_FEWER_NETWORKS 37          /* at most IPXR_MOST_PORTS networks, with the router's own */
 #define IPXR_EXPECTED_FEWER_LINKS 38             /* at most IPXR_ALL_LINKS links */
 #define IPXR_EXPECTED_FEWER_LINKS_OF_NETWORK 39  /* at most IPXR_MOST_LINKS links of the network */
 #define IPXR_EXPECTED_OTHER_NETWORK 40           /* another network than that of `line` */
@@ -143,10 +145,18 @@ typedef struct ipxr_link_list {
     size_t count;
 } ipxr_link_list;
 
+/* What a line `internal` says: the router's own network, which no cable carries. */
+typedef struct ipxr_internal {
+    size_t line;             /* the number of the line, or 0 where none says it */
+    uint32_t number;         /* of the network */
+    uint8_t node[6];         /* the router's there: 000000000001 where the line doesn't say it */
+} ipxr_internal;
+
 /* A configuration, as far as its lines were read. All bytes 0 are that of no line. */
 typedef struct ipxr_configuration {
     ipxr_network_list networks;
     ipxr_link_list links;
+    ipxr_internal internal;
     uint8_t above;           /* what the next line stands below */
 } ipxr_configuration;
 
@@ -198,6 +208,10 @@ IPXR_CALL uint8_t ipxr_configuration_line(ipxr_configuration *it, const uint8_t 
 
 /* The line of the last network, if that has no link though no more lines come; or 0. */
 IPXR_CALL size_t ipxr_configuration_unlinked(const ipxr_configuration *it);
+
+/* What a line says of the router's own network, whose number no other network has. Returns whether one does; if not, `internal` stays as it
+ * was. */
+IPXR_CALL ipxr_flag ipxr_configuration_internal(const ipxr_configuration *it, ipxr_internal *internal);
 
 /* What all lines say of the link with that number, from 0: links of one network stand behind each other. Returns whether there is one; if
  * not, `link` stays as it was. */

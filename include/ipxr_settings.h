@@ -36,6 +36,7 @@ extern "C" {
 #define IPXR_SETTING_STRANGERS 8 /* strangers: of `numbers` the rate; 0 for none */
 #define IPXR_SETTING_KILOBITS 9  /* line: of `numbers` the kilobits */
 #define IPXR_SETTING_NODES 10    /* nodes: clients' nodes may be their addresses */
+#define IPXR_SETTING_INTERNAL 11 /* internal: the router's own network: of `network` the number, and the node */
 
 /* ---- What carries a link. These numbers have no words. ---- */
 
@@ -111,7 +112,7 @@ typedef struct ipxr_setting_link {
     uint8_t name[16];         /* of a TAP or an interface, alike */
 } ipxr_setting_link;
 
-/* What a line says of a network. */
+/* What a line says of a network; of the router's own, its number and node. */
 typedef struct ipxr_setting_network {
     uint32_t number;      /* 0 where it wasn't read */
     ipxr_flag has_head;   /* all before the link was read: these */

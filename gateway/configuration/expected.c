@@ -8,7 +8,7 @@
 
 /* What is told of each fault in which nothing else is. */
 static const char *const TOLD[] = {
-    [IPXR_EXPECTED_LINE] = "expected network, link, extend, clients, allow, trust, rate, strangers, line or nodes",
+    [IPXR_EXPECTED_LINE] = "expected network, link, extend, clients, allow, trust, rate, strangers, line, nodes or internal",
     [IPXR_EXPECTED_NETWORK] = "expected the number of a network in hexadecimal digits, 1 to FFFFFFFD",
     [IPXR_EXPECTED_COST] = "expected the cost in ticks, 1 to 65535",
     [IPXR_EXPECTED_ROUTES] = "expected the most routes, 0 to 65535",

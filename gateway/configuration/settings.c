@@ -84,12 +84,24 @@ static void take_link(network_setting *it, const ipxr_configured *said)
     it->nodes_by_address = said->nodes_by_address;
 }
 
+static void take_internal(settings *it, const ipxr_configuration *all)
+{
+    ipxr_internal said;
+    it->has_internal = ipxr_configuration_internal(all, &said);
+    if (!it->has_internal)
+        return;
+    it->internal.line = said.line;
+    it->internal.network = said.number;
+    memcpy(it->internal.node, said.node, sizeof it->internal.node);
+}
+
 static void take_all(settings *it, const ipxr_configuration *all)
 {
     ipxr_configured said;
     while (ipxr_configuration_link(all, it->count, &said))
         take_link(&it->networks[it->count++], &said);
     it->ports = all->networks.count;
+    take_internal(it, all);
 }
 
 bool same_link(const network_setting *a, const network_setting *b)

@@ -66,11 +66,20 @@ typedef struct network_setting {
     bool nodes_by_address;     /* whether a client's node may be its address and port */
 } network_setting;
 
+/* The router's own network, which no cable carries. */
+typedef struct internal_setting {
+    size_t line; /* the number of its line, for messages */
+    uint32_t network;
+    uint8_t node[6];
+} internal_setting;
+
 /* The links of one network stand one behind the other. */
 typedef struct settings {
     network_setting networks[MOST_LINKS];
     size_t count;
-    size_t ports; /* how many networks there are */
+    size_t ports;              /* how many networks there are, without the router's own */
+    bool has_internal;         /* whether there is that: */
+    internal_setting internal;
 } settings;
 
 /* Reads a configuration. Returns how many faults there are; each has been told on `complaints` with its line and word, and what

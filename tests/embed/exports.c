@@ -1695,6 +1695,15 @@ static void a_line(void)
     ANSWERS(IPXR_EXPECTED_BY_ADDRESS, ipxr_settings_line(READS("nodes by-name"), 0, 1, 99, &said));
     WROTE(1, said.read);
     WROTE(IPXR_SETTING_NODES, said.kind);
+    ANSWERS(0, ipxr_settings_line(READS("internal 2F node 02:00:00:00:00:07"), 0, 0, 99, &said));
+    WROTE(IPXR_SETTING_INTERNAL, said.kind);
+    WROTE(0x2F, said.network.number);
+    WROTE(0, said.network.has_head);
+    WROTE(1, said.network.has_node);
+    WROTE_BYTES("020000000007", said.network.node);
+    ANSWERS(IPXR_EXPECTED_NODE_WORD, ipxr_settings_line(READS("internal 2F nodes"), 0, 0, 99, &said));
+    WROTE(2, said.read);
+    WROTE(0, said.network.has_node);
     ANSWERS(4, ipxr_settings_word(READS("one three four # five"), 2, &start));
     WROTE(10, start);
     ANSWERS(0, ipxr_settings_word(READS("one three four # five"), 3, &start));
@@ -1835,6 +1844,34 @@ static void a_line_is_wrong(void)
     ANSWERS(0, ipxr_configuration_unlinked(&all));
 }
 
+/* The router's own network beside those of a_configuration. */
+static void an_own_network(void)
+{
+    ipxr_setting said;
+    ipxr_line_wrong wrong;
+    ipxr_internal own;
+    memset(&own, 0xAA, sizeof own);
+    ANSWERS(0, ipxr_configuration_internal(&all, &own));
+    ANSWERS(0, SAYS(43, "network F 6 1100"));
+    ANSWERS(IPXR_EXPECTED_OTHER_NETWORK, SAYS(44, "internal B"));
+    WROTE(43, wrong.unlinked);
+    WROTE(1, wrong.word);
+    WROTE(21, wrong.line);
+    ANSWERS(IPXR_EXPECTED_BELOW_SEVERAL, SAYS(45, "link tap Bb raw"));
+    ANSWERS(0, SAYS(46, "internal 10"));
+    ANSWERS(IPXR_EXPECTED_ONCE, SAYS(47, "internal 11"));
+    WROTE(46, wrong.line);
+    WROTE(0, wrong.word);
+    ANSWERS(IPXR_EXPECTED_OTHER_NETWORK, SAYS(48, "network 10 1 1400 dosbox 54"));
+    WROTE(46, wrong.line);
+    ANSWERS(1, ipxr_configuration_internal(&all, &own));
+    WROTE(46, own.line);
+    WROTE(0x10, own.number);
+    WROTE_BYTES("000000000001", own.node);
+    WROTE(46, all.internal.line);
+    WROTE(4, all.above);
+}
+
 static void a_configuration(void)
 {
     ipxr_setting said;
@@ -1863,6 +1900,7 @@ static void a_configuration(void)
     all_is_kept();
     all_is_told();
     a_line_is_wrong();
+    an_own_network();
 }
 
 /* ---- The edge of a cable ---- */

@@ -200,7 +200,7 @@ def names_and_marks():
         for text, status, told in (
             (tunnels(2).replace("\n", "\r\n"), 0, ": 2 networks, nothing wrong\n"),
             (tunnels(1) + "\x1a\nnetwork", 2,
-             ":2: '\\x1A': expected network, link, extend, clients, allow, trust, rate, strangers, line or nodes\n"),
+             ":2: '\\x1A': expected network, link, extend, clients, allow, trust, rate, strangers, line, nodes or internal\n"),
         ):
             name = "Müller Ωμέγα.conf"
             with open(os.path.join(folder, name), "w", encoding="utf-8", newline="") as it:

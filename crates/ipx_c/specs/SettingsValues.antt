@@ -1,6 +1,7 @@
 -- What a line of a configuration says, as C knows it.
 use Rattle.std.specs.Prelude.{ℕ, Bool, true, false, List, [], ◌∷◌, replicate, Option, None, Some}
 use Rattle.std.specs.Option.{is_some, unwrap_or}
+use Rattle.ipx_settings.specs.Internals.{internal_number, internal_node}
 use Rattle.ipx_settings.specs.Networks.{number_in, head_in, link_in, node_in}
 use Rattle.ipx_settings.specs.declared.addresses.Address.{Address}
 use Rattle.ipx_settings.specs.declared.addresses.Host.{Host}
@@ -9,6 +10,7 @@ use Rattle.ipx_settings.specs.declared.addresses.Place.{Place}
 use Rattle.ipx_settings.specs.declared.addresses.Place.TheVariants.{At, Named}
 use Rattle.ipx_settings.specs.declared.expected.Expected.{Expected}
 use Rattle.ipx_settings.specs.declared.expected.Expected.TheVariants as expected
+use Rattle.ipx_settings.specs.declared.internal.InternalBegun.{InternalBegun}
 use Rattle.ipx_settings.specs.declared.line.ClientsBegun.TheVariants as clients
 use Rattle.ipx_settings.specs.declared.line.Context.{Context}
 use Rattle.ipx_settings.specs.declared.line.Line.{Line}
@@ -133,6 +135,10 @@ network_by number head node = record {
 abbrev pub network_values : NetworkBegun → NetworkSaid
 network_values begun = network_by (number_in begun) (head_in begun) (node_in begun)
 
+-- the router's own network has a number and a node
+abbrev pub internal_values : InternalBegun → NetworkSaid
+internal_values begun = network_by (internal_number begun) None (internal_node begun)
+
 -- ---- lines
 
 -- the word that begins a line
@@ -148,6 +154,7 @@ line_number (line.Rate begun) = 7
 line_number (line.Strangers begun) = 8
 line_number (line.Kilobits begun) = 9
 line_number (line.Nodes by_address) = 10
+line_number (line.Internal begun) = 11
 
 abbrev pub three : ℕ → ℕ → ℕ → List ℕ
 three a b c = a ∷ b ∷ c ∷ []
@@ -170,6 +177,7 @@ link_of_line other = no_link false
 
 abbrev pub network_of_line : Line → NetworkSaid
 network_of_line (line.Network begun) = network_values begun
+network_of_line (line.Internal begun) = internal_values begun
 network_of_line other = network_values network.Nothing
 
 -- what was expected; 0 where nothing is wrong (32 to 51 are those of lines together)

@@ -3,6 +3,7 @@ ghost use Rattle.std.specs.Prelude.{◌≡◌};
 ghost use Rattle.std.specs.Option.{unwrap_or, is_some};
 ghost use Rattle.ipx_configuration.specs.Configurations.{told, after, unlinked};
 ghost use Rattle.ipx_configuration.specs.Configured.{configured};
+ghost use Rattle.ipx_configuration.specs.Internals.{told_internal};
 ghost use Rattle.ipx_c.specs.ConfigurationValues.{capacity_of, most_default, fault_number, fault_word, fault_line, fault_numbers, wrong_at, line_wrong};
 ghost use Rattle.ipx_c.specs.SettingsValues.{line_said};
 ghost use Rattle.ipx_c.specs.Writes.{is_yes};
@@ -11,7 +12,7 @@ use crate::settings_values::{
     LineSaid, bits_of, expected_number, line_number, link_of_line, network_of_line, numbers_of,
 };
 use crate::sizes::{MOST_CLIENTS, MOST_LINKS, MOST_PORTS, MOST_ROUTES, MOST_SERVICES};
-use ipx_configuration::{Capacity, Configuration, Fault, LinkConfigured};
+use ipx_configuration::{Capacity, Configuration, Fault, InternalSaid, LinkConfigured};
 use ipx_settings::Reading;
 
 /// What is wrong with a line, but for what was expected there.
@@ -161,6 +162,24 @@ pub extern "C" fn ipxr_configuration_unlinked(it: &Configuration) -> usize
     ensures { result ≡ unwrap_or (unlinked it.now) 0 }
 {
     it.unlinked().unwrap_or(0)
+}
+
+/// What a line says of the router's own network. Returns whether one does.
+#[unsafe(no_mangle)]
+pub extern "C" fn ipxr_configuration_internal(
+    it: &Configuration,
+    internal: &mut InternalSaid,
+) -> bool
+    ensures is_one { result ≡ is_some (told_internal it.now) }
+    ensures internal { internal.new ≡ unwrap_or (told_internal it.now) internal.old }
+{
+    match it.internal() {
+        Some(found) => {
+            *internal = found;
+            true
+        }
+        None => false,
+    }
 }
 
 /// What all lines say of the link with that number. Returns whether there is one.

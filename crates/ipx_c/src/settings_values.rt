@@ -1,10 +1,10 @@
 //! The structs of a configuration's line that cross to C, as its header has them, and its numbers.
 ghost use Rattle.std.specs.Prelude.{◌≡◌};
-ghost use Rattle.ipx_c.specs.SettingsValues.{no_host, host_values, no_link, place_name, place_values, frames_number, end_values, link_values, network_values, line_number, numbers_of, link_of_line, network_of_line, expected_number, bits_of};
+ghost use Rattle.ipx_c.specs.SettingsValues.{no_host, host_values, no_link, place_name, place_values, frames_number, end_values, link_values, network_values, internal_values, line_number, numbers_of, link_of_line, network_of_line, expected_number, bits_of};
 
 use ipx_settings::{
-    Address, ClientsBegun, End, Expected, Frames, Head, Host, Line, Link, LinkBegun, NetworkBegun,
-    Place, RateBegun,
+    Address, ClientsBegun, End, Expected, Frames, Head, Host, InternalBegun, Line, Link, LinkBegun,
+    NetworkBegun, Place, RateBegun,
 };
 
 /// An address with its port.
@@ -223,6 +223,23 @@ fn network_values(begun: NetworkBegun) -> NetworkSaid
     }
 }
 
+/// The router's own network.
+fn internal_values(begun: InternalBegun) -> NetworkSaid
+    ensures { result ≡ internal_values begun }
+{
+    NetworkSaid {
+        number: begun.number().unwrap_or(0),
+        has_head: false,
+        has_shares: false,
+        cost: 0,
+        longest: 0,
+        routes: 0,
+        services: 0,
+        has_node: begun.node().is_some(),
+        node: begun.node().unwrap_or([0; 6]),
+    }
+}
+
 /// The word that begins a line.
 pub(crate) fn line_number(line: Line) -> u8
     ensures { result ≡ line_number line }
@@ -239,6 +256,7 @@ pub(crate) fn line_number(line: Line) -> u8
         Line::Strangers(_) => 8,
         Line::Kilobits(_) => 9,
         Line::Nodes(_) => 10,
+        Line::Internal(_) => 11,
     }
 }
 
@@ -275,6 +293,7 @@ pub(crate) fn network_of_line(line: Line) -> NetworkSaid
 {
     match line {
         Line::Network(begun) => network_values(begun),
+        Line::Internal(begun) => internal_values(begun),
         _ => network_values(NetworkBegun::Nothing),
     }
 }
