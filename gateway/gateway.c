@@ -57,6 +57,8 @@ network *first_of(gateway *it, const port *router_port)
 
 uint32_t port_network(const gateway *it, uint8_t number)
 {
+    if (number == it->port_count && it->internal != NULL)
+        return it->internal->network;
     return number < it->port_count ? it->networks[it->ports[number].first].set->network : 0;
 }
 
@@ -113,7 +115,8 @@ static void send_all(gateway *it, const origin *by, const uint8_t *heard)
     for (size_t k = 0; k < count; k++) {
         ipxr_packet_sent sent;
         uint8_t *packet = gateway_room(it);
-        if (ipxr_get(&it->router, k, &sent, packet, LONGEST) == 0)
+        bool is_there = ipxr_get(&it->router, k, &sent, packet, LONGEST) == 0;
+        if (is_there && sent.port < it->port_count) /* (on the router's own network is nobody else) */
             gateway_send(it, &it->ports[sent.port], by != NULL && goes_on(packet, heard) ? by : NULL, sent.node, packet, sent.length);
     }
     ipxr_clear(&it->router);

@@ -71,7 +71,8 @@ typedef struct port {
 typedef struct gateway {
     ipxr router;
     port ports[IPXR_MOST_PORTS];
-    size_t port_count;
+    size_t port_count;                  /* without the router's own network, */
+    const internal_setting *internal;   /* whose port comes behind these; or NULL */
     network networks[MOST_LINKS]; /* in the order of their ports */
     size_t count;
     cable cables[MOST_LINKS];

@@ -48,6 +48,7 @@ bool gateway_open(gateway *it, const settings *set)
     if (!make_keys(it))
         return false;
     line_set(set);
+    it->internal = internal_of(set);
     for (size_t k = 0; k < set->count; k++) {
         network *on = &it->networks[it->count++];
         on->set = &set->networks[k];
@@ -124,7 +125,7 @@ static int32_t make(gateway *it)
         const network *first = first_of(it, &it->ports[k]);
         ports[k] = node_port(first->set, first->cable->card);
     }
-    int32_t made = ipxr_make(&it->router, ports, it->port_count);
+    int32_t made = ipxr_make(&it->router, ports, internal_port_add(it->internal, ports, it->port_count));
     for (size_t k = 0; made >= 0 && k < it->count; k++)
         memcpy(it->networks[k].node, ports[it->networks[k].set->port].node, NODE);
     return made < 0 ? made : ipxr_start(&it->router);
@@ -138,6 +139,8 @@ static void tell_start(const gateway *it)
         const network *on = &it->networks[k];
         say("network %08" PRIX32 " on %s, node %s", on->set->network, cable_words(on->cable, on->set, words), node_words(on->node, node));
     }
+    if (it->internal != NULL)
+        say("network %08" PRIX32 " is the router's own, node %s", it->internal->network, node_words(it->internal->node, node));
 }
 
 void gateway_tell_nodes(const gateway *it)

@@ -261,6 +261,7 @@ changed gateway_change(gateway *it, const settings *set)
         segment_close(&it->ports[k]);
     keep_before(it);
     move_networks(it, set);
+    it->internal = internal_of(set);
     count_on(it);
     close_cables();
     begin_links(it, &what);

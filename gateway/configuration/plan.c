@@ -3,6 +3,7 @@
 #include <string.h>
 
 #include "configuration/compared.h"
+#include "ipx.h"
 #include "links/node.h"
 #include "links/segment.h"
 #include "tunnel/tunnel.h"
@@ -18,13 +19,22 @@ static size_t first_link(const settings *set, size_t number)
 
 /* ---- What stays ---- */
 
+/* Whether the router's own network stays as it is. */
+static bool has_same_internal(const gateway *gate, const settings *set)
+{
+    const internal_setting *was = gate->internal, *is = internal_of(set);
+    if (was == NULL || is == NULL)
+        return was == is;
+    return was->network == is->network && same_node(was->node, is->node);
+}
+
 /* (there are never too many links, and there is room for what is said of all) */
 static bool plan_links(plan *it, gateway *gate)
 {
     static compared both;
     compare(&both, gate, it->set, it->ports);
     int32_t stays = ipxr_plan(both.old, gate->count, both.links, it->set->count, it->origins, MOST_LINKS, it->fates, MOST_LINKS);
-    it->is_new_router = stays != 1;
+    it->is_new_router = stays != 1 || !has_same_internal(gate, it->set);
     return stays >= 0;
 }
 
@@ -42,7 +52,7 @@ static int32_t make_router(plan *it)
 {
     if (!it->is_new_router)
         return 0;
-    int32_t made = ipxr_make(&it->router, it->ports, it->set->ports);
+    int32_t made = ipxr_make(&it->router, it->ports, internal_port_add(internal_of(it->set), it->ports, it->set->ports));
     return made < 0 ? made : ipxr_start(&it->router);
 }
 

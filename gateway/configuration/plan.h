@@ -10,7 +10,7 @@ typedef struct plan {
     const settings *set;
     ipxr_plan_origin origins[MOST_LINKS]; /* what each link of the settings is made from, */
     ipxr_plan_fate fates[MOST_LINKS];     /* and what becomes of each link until now */
-    ipxr_port ports[IPXR_MOST_PORTS]; /* of the router, with the gateway's nodes */
+    ipxr_port ports[IPXR_MOST_PORTS]; /* of the router, with the gateway's nodes, but for that of its own network */
     bool is_new_router;         /* the router is made anew: */
     ipxr router;                /* this one, which has started */
     ipxr_segment segments[IPXR_MOST_PORTS]; /* of networks of several links, by their port */

@@ -104,6 +104,11 @@ static void take_all(settings *it, const ipxr_configuration *all)
     take_internal(it, all);
 }
 
+const internal_setting *internal_of(const settings *set)
+{
+    return set->has_internal ? &set->internal : NULL;
+}
+
 bool same_link(const network_setting *a, const network_setting *b)
 {
     return a->type == b->type && strcmp(a->name, b->name) == 0 && strcmp(a->host, b->host) == 0 &&

@@ -82,6 +82,9 @@ typedef struct settings {
     internal_setting internal;
 } settings;
 
+/* The router's own network, or NULL where there is none. */
+const internal_setting *internal_of(const settings *set);
+
 /* Reads a configuration. Returns how many faults there are; each has been told on `complaints` with its line and word, and what
  * was expected. `name` is the file's, for the messages. */
 size_t settings_read(settings *it, FILE *file, const char *name, FILE *complaints);

@@ -37,6 +37,15 @@ void node_choose(const network_setting *set, const uint8_t card[6], uint8_t node
     ipxr_node_choose(set->type == LINK_DOSBOX, set->is_of_several, set->has_node, set->node, card, hash_of(set), node);
 }
 
+size_t internal_port_add(const internal_setting *internal, ipxr_port ports[IPXR_MOST_PORTS], size_t count)
+{
+    if (internal == NULL)
+        return count;
+    ports[count] = (ipxr_port){.network = internal->network, .cost = 1, .longest = LONGEST}; /* (nobody there says anything that is learned) */
+    memcpy(ports[count].node, internal->node, NODE);
+    return count + 1;
+}
+
 ipxr_port node_port(const network_setting *first, const uint8_t card[6])
 {
     ipxr_port port = {.network = first->network, .cost = first->cost, .longest = first->longest, .routes = first->routes,

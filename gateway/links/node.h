@@ -12,4 +12,7 @@ void node_choose(const network_setting *set, const uint8_t card[6], uint8_t node
 /* The port of the router by which a network is reached, whose first link is that, with the gateway's node there. */
 ipxr_port node_port(const network_setting *first, const uint8_t card[6]);
 
+/* Adds the port of the router's own network behind so many, where there is that. Returns how many there are then. */
+size_t internal_port_add(const internal_setting *internal, ipxr_port ports[IPXR_MOST_PORTS], size_t count);
+
 #endif

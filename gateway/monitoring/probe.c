@@ -186,6 +186,15 @@ static void begin(viewer *v, bool is_trace, unsigned number)
     viewer_add(v, HERE, sizeof HERE);
 }
 
+/* Whether it is the router's own network, where nobody else is; which is said. */
+static bool is_internal(const gateway *it, viewer *v, uint32_t number)
+{
+    bool is = it->internal != NULL && it->internal->network == number;
+    if (is)
+        viewer_complain(v, "network %08" PRIX32 " is the router's own: nobody else is there", number);
+    return is;
+}
+
 void probe_ping(gateway *it, viewer *v, const char *word, unsigned number)
 {
     char words[WORDS];
@@ -195,6 +204,8 @@ void probe_ping(gateway *it, viewer *v, const char *word, unsigned number)
         viewer_complain(v, "expected NETWORK.NODE or NETWORK.NODE.SOCKET in hexadecimal digits, such as 00000010.7F0000010BB8");
         return;
     }
+    if (is_internal(it, v, p->to.network))
+        return;
     network *on = way_to(it, &p->to, hop);
     if (on == NULL || !port_of(it, on)->is_up) {
         const char *why = on == NULL ? "there is no route to network %08" PRIX32 : "the way to network %08" PRIX32 " is down";
@@ -232,6 +243,8 @@ void probe_trace(gateway *it, viewer *v, const char *word, unsigned number)
         viewer_complain(v, "expected the number of a network in hexadecimal digits");
         return;
     }
+    if (is_internal(it, v, p->to.network))
+        return;
     const network *own = own_network(it, p->to.network, p->to.node);
     if (own != NULL) {
         trace_own(it, v, own);

@@ -31,6 +31,13 @@ static void show_network(network *on)
         tunnel_show(on);
 }
 
+static void show_internal(const gateway *it)
+{
+    char node[WORDS];
+    if (it->internal != NULL)
+        say("network %08" PRIX32 " is the router's own, node %s", it->internal->network, node_words(it->internal->node, node));
+}
+
 static void show_routes(gateway *it)
 {
     char node[WORDS];
@@ -61,6 +68,7 @@ void gateway_report(gateway *it)
     say("report after %" PRIu64 " s", it->told);
     for (size_t k = 0; k < it->count; k++)
         show_network(&it->networks[k]);
+    show_internal(it);
     for (size_t k = 0; k < it->port_count; k++)
         stations_show(it, &it->ports[k]);
     show_routes(it);

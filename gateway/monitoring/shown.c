@@ -6,6 +6,7 @@
 #include <string.h>
 
 #include "configuration/words.h"
+#include "ipx.h"
 #include "links/links.h"
 #include "monitoring/note.h"
 #include "systems/clock.h"
@@ -61,11 +62,30 @@ static const char *kinds_on(const network *on, char words[KINDS_ROOM])
     return on->set->kind == ANY_KIND ? kinds_words(&on->kinds, words) : kind_word(on->set->kind);
 }
 
+/* The router's own network, which no link carries, behind all others. */
+static bool next_internal(const gateway *it, cursor *so_far, sheet *s)
+{
+    if (so_far->network > it->count || it->internal == NULL)
+        return false;
+    so_far->network++;
+    record_begin(s, LINK_COLUMNS);
+    field_network(s, it->internal->network);
+    field_text(s, "up");
+    field_number(s, 1);
+    field_number(s, LONGEST);
+    field_node(s, it->internal->node);
+    field_text(s, "internal");
+    field_text(s, NULL);
+    field_text(s, NULL);
+    record_end(s);
+    return true;
+}
+
 static bool next_link(gateway *it, cursor *so_far, sheet *s)
 {
     char link[LINK_ROOM], lack[LACK_ROOM], kinds[KINDS_ROOM];
     if (so_far->network >= it->count)
-        return false;
+        return next_internal(it, so_far, s);
     const network *on = &it->networks[so_far->network++];
     record_begin(s, LINK_COLUMNS);
     field_network(s, on->set->network);

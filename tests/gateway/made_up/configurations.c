@@ -198,12 +198,22 @@ static void add_network(size_t *at, const made_network *it)
     }
 }
 
+/* The router's own network: it comes, changes and goes with the first network's longest packet. (so seeds play as they did before there was one) */
+static void add_internal(size_t *at)
+{
+    if (networks[0].longest == 1492)
+        add(at, "internal A1\n");
+    else if (networks[0].longest == 1500)
+        add(at, "internal A2 node 020000000007\n");
+}
+
 static void write_text(void)
 {
     size_t at = 0;
     text[0] = '\0';
     for (size_t k = 0; k < count; k++)
         add_network(&at, &networks[k]);
+    add_internal(&at);
 }
 
 /* A byte of it is another one, or the rest of a line is missing. */
