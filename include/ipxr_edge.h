@@ -3,13 +3,16 @@
  *
  * A station that doesn't know its network's number says 0 for it, and nobody elsewhere can answer it. And a router believes what
  * comes for RIP and SAP, though a host elsewhere may have sent it through other routers. These calls fill the numbers in, and hold what
- * only a neighbour may say. docs/EDGE.md has the rules. They keep nothing: the packet is changed where it lies.
+ * only a neighbour may say. And they filter packets, routes and services by rules. docs/EDGE.md explains all of this. They keep nothing:
+ * the packet is changed where it lies.
  *
- *     int32_t comes = ipxr_edge_enter(&ports[port], bytes, length);   -- of each packet that comes from a cable
- *     if (comes == 1)
- *         ipxr_packet(&router, port, bytes, length);
+ *     size_t passes;
+ *     if (ipxr_edge_enter(&ports[port], bytes, length) == 1 &&        -- of each packet that comes from a cable
+ *         ipxr_edge_filter(IPXR_WAY_IN, &ports[port], rules, count, bytes, length, &passes) == 1)
+ *         ipxr_packet(&router, port, bytes, passes);
  *
- * WHAT C HAS TO PROMISE is what ipxr.h says of bytes and of a port's values: they are yours, and stay during the call. */
+ * WHAT C HAS TO PROMISE is what ipxr.h says of bytes and of a port's values: they are yours, and stay during the call. Any values may be given
+ * for a rule: those that are none are answered with a fault. */
 #ifndef IPXR_EDGE_H
 #define IPXR_EDGE_H
 
@@ -18,6 +21,50 @@
 #ifdef __cplusplus
 extern "C" {
 #endif
+
+/* ---- Faults, of ipxr_edge_filter alone ---- */
+
+#define IPXR_BAD_WAY (-26)    /* a way that is neither in nor out */
+#define IPXR_MANY_RULES (-27) /* there are more than IPXR_MOST_RULES */
+#define IPXR_BAD_RULE (-28)   /* values that are no rule: ipxr_rule says which are */
+
+/* ---- Rules of a filter ---- */
+
+/* The most rules that one filter has. */
+#define IPXR_MOST_RULES 64
+
+/* The way of a packet. These numbers have no words, nor have those below. */
+#define IPXR_WAY_IN 1  /* from a cable to the router */
+#define IPXR_WAY_OUT 2 /* from the router to a cable */
+
+/* What a rule names. */
+#define IPXR_RULE_TYPE 1     /* packets of a type, in and out; 20 are NetBIOS broadcasts */
+#define IPXR_RULE_SOCKET 2   /* packets from a socket or to it, in and out */
+#define IPXR_RULE_NEAREST 3  /* queries for the nearest service that come in */
+#define IPXR_RULE_ROUTES 4   /* routes to the networks of a range, that come in or go out */
+#define IPXR_RULE_SERVICES 5 /* services of a type with certain names, that come in or go out */
+
+/* Which names. A service without a name is among all of them alone. */
+#define IPXR_NAMES_ALL 0   /* all */
+#define IPXR_NAMES_IS 1    /* one */
+#define IPXR_NAMES_BEGIN 2 /* those that begin so */
+
+/* A rule. What it names says which of the values behind `what` count; the others may be anything. It is no rule where `permits` is neither
+ * 1 nor 0, where `what` or a number that counts is none of those above, where a type of packets is above 255, or where a name that counts
+ * is empty or has no 0 behind it. All bytes 0 are no rule. */
+typedef struct ipxr_rule {
+    uint8_t permits;  /* 1 if it permits what it names, 0 if it denies it */
+    uint8_t what;     /* IPXR_RULE_TYPE and so on */
+    uint8_t way;      /* of routes and services: IPXR_WAY_IN or IPXR_WAY_OUT */
+    uint8_t names;    /* of services: IPXR_NAMES_ALL and so on */
+    uint16_t type;    /* of packets, or of services: FFFFh for every type */
+    uint16_t socket;  /* of packets from a socket or to it */
+    uint32_t from;    /* of routes: the first network of the range, */
+    uint32_t to;      /* and the last one */
+    uint8_t name[48]; /* of services: the name, or what it begins with, and a 0 behind */
+} ipxr_rule;
+
+/* ---- Calls ---- */
 
 /* Each call takes the port that ipxr_make was given, and the bytes of a packet, or any others. Below 0 is the fault of a port
  * (IPXR_BAD_LONGEST and so on): then the bytes stay as they were. */
@@ -30,6 +77,14 @@ IPXR_CALL int32_t ipxr_edge_is_held(const ipxr_port *port, const uint8_t *bytes,
 
 /* Fills in the port's network in the place of 0, held or not. Returns 0. */
 IPXR_CALL int32_t ipxr_edge_number(const ipxr_port *port, uint8_t *bytes, size_t length);
+
+/* Filters a packet that comes in from the port's cable or goes out to it, by `count` rules: the first that names something decides, and what
+ * none names is permitted. Returns 1 if anything passes: the first bytes, as many as `*passes` then says. A response of routes or services
+ * may have lost some; all else passes whole. Returns 0 where nothing passes: `*passes` is 0, and the bytes stay as they were. `length` says
+ * of how many bytes it is called, also where fewer pass. The first fault of IPXR_BAD_WAY, a port's, IPXR_MANY_RULES and IPXR_BAD_RULE: bytes
+ * and `*passes` stay as they were. */
+IPXR_CALL int32_t ipxr_edge_filter(uint8_t way, const ipxr_port *port, const ipxr_rule *rules, size_t count, uint8_t *bytes, size_t length,
+                                   size_t *passes);
 
 #ifdef __cplusplus
 }

@@ -2,7 +2,7 @@
  * answers is read back: the first wrong answer is named, and the program ends with 1. dev/exports sees that it fails where two exports,
  * two arguments or two fields are exchanged. What is wanted was given here, or follows from the documents: docs/PACKETS.md,
  * docs/ROUTER.md, docs/TUNNEL.md, docs/SEGMENT.md, docs/RELOAD.md, docs/GATEWAY-REFERENCE.md, docs/FAIR.md, docs/LIMITS.md,
- * docs/CABLE.md and docs/FATES.md. */
+ * docs/CABLE.md, docs/FATES.md and docs/EDGE.md. */
 #include <stdio.h>
 #include <stdlib.h>
 #include <string.h>
@@ -1928,6 +1928,80 @@ static void edges(void)
     WROTE_BYTES("FFFF 001E 01 00 00000000 FFFFFFFFFFFF 0453 11121314 310000000000 0453", buffer);
 }
 
+/* As many rules as a filter has, and one more: the first are rules, and zeros are none. */
+static const ipxr_rule RULES_OF_ROUTES[IPXR_MOST_RULES + 1] = {
+    {.permits = 0, .what = IPXR_RULE_ROUTES, .way = IPXR_WAY_IN, .from = 0xD0000002, .to = 0xD1D2D3D4},
+};
+static const ipxr_rule RULES_OF_SERVICES[IPXR_MOST_RULES] = {
+    {.permits = 1, .what = IPXR_RULE_SERVICES, .way = IPXR_WAY_OUT, .names = IPXR_NAMES_BEGIN, .type = 0xFFFF, .name = "FI"},
+    {.permits = 0, .what = IPXR_RULE_SERVICES, .way = IPXR_WAY_OUT, .names = IPXR_NAMES_ALL, .type = 0xFFFF},
+};
+static const ipxr_rule RULES_OF_PACKETS[IPXR_MOST_RULES] = {
+    {.permits = 1, .what = IPXR_RULE_TYPE, .type = 1},
+    {.permits = 0, .what = IPXR_RULE_NEAREST},
+    {.permits = 0, .what = IPXR_RULE_SOCKET, .socket = 0x0457},
+    {.permits = 0, .what = IPXR_RULE_SERVICES, .way = IPXR_WAY_IN, .names = IPXR_NAMES_IS, .type = 0x0D0E, .name = "FILES"},
+};
+static const ipxr_port EDGE = {.network = 0x11121314, .node = {0x21}, .cost = 1, .longest = 576};
+static const ipxr_address SERVER = {.node = {0x31}, .socket = IPXR_SAP_SOCKET};
+static const ipxr_address ALL_SERVERS = {.node = EVERYONE, .socket = IPXR_SAP_SOCKET};
+
+/* Of three routes that come in, one is within the range. No filter is made of what is none, the first of these. */
+static void filtered_routes(void)
+{
+    const ipxr_port none = {.network = 0x11121314, .node = {0x21}, .longest = 576};
+    const ipxr_address from = {.node = {0x31}, .socket = IPXR_RIP_SOCKET}, to = {.node = EVERYONE, .socket = IPXR_RIP_SOCKET};
+    const ipxr_route_entry routes[3] = {{.network = 0x01020304, .hops = 1, .ticks = 2}, ENTRIES[0], ENTRIES[1]};
+    const ipxr_rule *rules = RULES_OF_ROUTES;
+    size_t passes = 77;
+    ANSWERS(56, ipxr_write_rip(&from, &to, IPXR_RIP_RESPONSE, routes, 3, buffer, sizeof buffer));
+    ANSWERS(IPXR_BAD_WAY, ipxr_edge_filter(0, &none, rules, IPXR_MOST_RULES + 1, buffer, 56, &passes));
+    ANSWERS(IPXR_BAD_COST, ipxr_edge_filter(IPXR_WAY_OUT, &none, rules, IPXR_MOST_RULES + 1, buffer, 56, &passes));
+    ANSWERS(IPXR_MANY_RULES, ipxr_edge_filter(IPXR_WAY_OUT, &EDGE, rules, IPXR_MOST_RULES + 1, buffer, 56, &passes));
+    ANSWERS(IPXR_BAD_RULE, ipxr_edge_filter(IPXR_WAY_OUT, &EDGE, rules, IPXR_MOST_RULES, buffer, 56, &passes));
+    WROTE(77, passes);
+    ANSWERS(1, ipxr_edge_filter(IPXR_WAY_OUT, &EDGE, rules, 1, buffer, 56, &passes));
+    WROTE(56, passes);
+    ANSWERS(1, ipxr_edge_filter(IPXR_WAY_IN, &EDGE, rules, 1, buffer, 56, &passes));
+    WROTE(48, passes);
+    WROTE_BYTES("FFFF 0030 00 01 00000000 FFFFFFFFFFFF 0453 00000000 310000000000 0453 0002 01020304 0001 0002 E1E2E3E4 E5E6 E7E8", buffer);
+}
+
+/* Of two services that go out, the one whose name begins so passes; then none does, and the bytes stay. */
+static void filtered_services(void)
+{
+    const ipxr_address from = {.network = 0x11121314, .node = {0x21}, .socket = IPXR_SAP_SOCKET};
+    size_t passes = 77;
+    ANSWERS(160, ipxr_write_sap(&from, &ALL_SERVERS, 0, OFFERS, 2, buffer, sizeof buffer));
+    ANSWERS(1, ipxr_edge_filter(IPXR_WAY_OUT, &EDGE, RULES_OF_SERVICES, 2, buffer, 160, &passes));
+    WROTE(96, passes);
+    WROTE_BYTES("FFFF 0060 00 04 00000000 FFFFFFFFFFFF 0452 11121314 210000000000 0452 0002 0D0E 46494C4553 " BEHIND_A_NAME
+                "01020304 05060708090A 0B0C 0F10", buffer);
+    ANSWERS(0, ipxr_edge_filter(IPXR_WAY_OUT, &EDGE, RULES_OF_SERVICES + 1, 1, buffer, 96, &passes));
+    WROTE(0, passes);
+    WROTE_BYTES("FFFF 0060 00 04", buffer);
+    ANSWERS(160, ipxr_write_sap(&SERVER, &ALL_SERVERS, 0, OFFERS, 2, buffer, sizeof buffer));
+    ANSWERS(1, ipxr_edge_filter(IPXR_WAY_IN, &EDGE, RULES_OF_PACKETS, 4, buffer, 160, &passes));
+    WROTE(96, passes);
+}
+
+/* A packet that a rule permits goes whole, though a later one denies it; a query, and one from a socket that is denied, don't. */
+static void filtered_packets(void)
+{
+    const ipxr_address to = {.network = 0x11121314, .node = {0x51}, .socket = 0x0457};
+    size_t passes = 77;
+    ANSWERS(50, ipxr_write_packet(&SERVER, &to, 1, 0, DATA, sizeof DATA, buffer, sizeof buffer));
+    ANSWERS(1, ipxr_edge_filter(IPXR_WAY_IN, &EDGE, RULES_OF_PACKETS, 4, buffer, 50, &passes));
+    WROTE(50, passes);
+    ANSWERS(50, ipxr_write_packet(&SERVER, &to, 4, 0, DATA, sizeof DATA, buffer, sizeof buffer));
+    ANSWERS(0, ipxr_edge_filter(IPXR_WAY_IN, &EDGE, RULES_OF_PACKETS, 4, buffer, 50, &passes));
+    ANSWERS(34, ipxr_write_query(&SERVER, &ALL_SERVERS, 1, 4, buffer, sizeof buffer));
+    ANSWERS(0, ipxr_edge_filter(IPXR_WAY_IN, &EDGE, RULES_OF_PACKETS, 4, buffer, 34, &passes));
+    ANSWERS(34, ipxr_write_query(&SERVER, &ALL_SERVERS, 0, 4, buffer, sizeof buffer));
+    ANSWERS(1, ipxr_edge_filter(IPXR_WAY_IN, &EDGE, RULES_OF_PACKETS, 4, buffer, 34, &passes));
+    WROTE(34, passes);
+}
+
 int main(void)
 {
     words();
@@ -1955,5 +2029,8 @@ int main(void)
     a_line();
     a_configuration();
     edges();
+    filtered_routes();
+    filtered_services();
+    filtered_packets();
     return 0;
 }

@@ -12,11 +12,12 @@ from telling import has, left_out, prints, quietly, succeeds, tell
 STRICT = ["-Wall", "-Wextra", "-Wpedantic", "-Wconversion", "-Werror"]
 ROUTER, TUNNEL, KEYED, SEGMENT, PLAN, SETTINGS, FAIR, LIMITS, CABLE, CONFIGURATION, FATES, EDGE = HEADERS
 # Numbers with words: all of the router's, and those of the others that a call answers. The kinds of frames, what a datagram said, what a
-# link is, what limits say of a packet, what a probe does, and what is next with a packet have no words.
+# link is, what limits say of a packet, what a probe does, what is next with a packet, and what a rule names have no words.
 ANSWERS = {
     ROUTER: re.compile(r"(?m)^(?!.*_FRAME)#define (IPXR_[A-Z_]+) +\(?-?[0-9]+\)? +/\*"),
     TUNNEL: re.compile(r"(?m)^#define (IPXR_[A-Z_]+) +\(-[0-9]+\) +/\*"),
     SEGMENT: re.compile(r"(?m)^#define (IPXR_[A-Z_]+) +\(-[0-9]+\) +/\*"),
+    EDGE: re.compile(r"(?m)^#define (IPXR_[A-Z_]+) +\(-[0-9]+\) +/\*"),
 }
 EXPORTED = re.compile(r"(?m)^\S+ T (ipxr_\S*)$")
 # What is altered in a header, each of which the sources must refuse.
@@ -60,6 +61,8 @@ ALTERED = (
     (CONFIGURATION, "uint8_t above; ", "uint16_t above; "),
     (CONFIGURATION, "size_t line, uint8_t has_cards", "uint8_t has_cards, size_t line"),
     (EDGE, "ipxr_edge_enter(const ipxr_port *port, uint8_t *bytes, size_t length)", "ipxr_edge_enter(uint8_t *bytes, size_t length)"),
+    (EDGE, "uint16_t socket;  /*", "uint32_t socket;  /*"),
+    (EDGE, "_RULES 64", "_RULES 63"),
     (FATES, "uint16_t number; /*", "uint8_t number; /*"),
     (FATES, "uint64_t lost[26];", "uint64_t lost[25];"),
     (FATES, "ipxr_counts *counts, uint8_t why", "ipxr_counts *counts, uint16_t why"),
@@ -77,7 +80,7 @@ SHOWN = ("an empty handle, a text and a router of one port", "an empty handle of
          "an empty handle of a segment, and a segment", "a plan", "a line of a configuration",
          "a receiver of zeros, a receiver and a meter", "limits, and what they let pass",
          "kinds of frames, two links that are one cable, a range, a pace, a node that moves, and who is asked again",
-         "a configuration of two networks", "the way of a packet, and counts", "a packet that is numbered")
+         "a configuration of two networks", "the way of a packet, and counts", "a packet that is numbered, and a rule")
 
 BEGIN = """\
 #include <stdio.h>

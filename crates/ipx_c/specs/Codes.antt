@@ -14,7 +14,7 @@ use Rattle.ipx_router.specs.declared.ports_fault.PortsFault.TheVariants.{NoPort 
 use Rattle.ipx_router.specs.declared.why.Why.{Why}
 use Rattle.ipx_router.specs.declared.why.Why.TheVariants.{NotRunning, Malformed, OwnEcho, BadSource, CrossedShort, CrossedFull, CrossedSeen, Elsewhere, OtherSocket, NotNeighbour, BadRip, BadSap, NearestReply, TooManyRouters, FarSide, NoRoute, TooLong, DownPort}
 use Rattle.ipx_c.specs.declared.fault.Fault.{Fault}
-use Rattle.ipx_c.specs.declared.fault.Fault.TheVariants.{NoRouter, NoPort, NoPacket, NoRecord, ShortBuffer, OutOfMemory, NoTunnel, ManyClients, NoSegment, NoLink, BadLink, ManyLinks, ManyStations, Port, Ports, Operation, NoEntries, ManyEntries, Name, LongPacket}
+use Rattle.ipx_c.specs.declared.fault.Fault.TheVariants.{NoRouter, NoPort, NoPacket, NoRecord, ShortBuffer, OutOfMemory, NoTunnel, ManyClients, NoSegment, NoLink, BadLink, ManyLinks, ManyStations, Port, Ports, Operation, NoEntries, ManyEntries, Name, LongPacket, Way, ManyRules, Rule}
 
 -- ---- why an event was dropped
 
@@ -104,6 +104,9 @@ fault_number NoEntries = 22
 fault_number ManyEntries = 23
 fault_number Name = 24
 fault_number LongPacket = 25
+fault_number Way = 26
+fault_number ManyRules = 27
+fault_number Rule = 28
 
 -- ---- the numbers as C hears them
 

@@ -38,8 +38,9 @@ pub mod Plans
 pub mod SettingsValues
 pub mod SettingsWritten
 pub mod ConfigurationValues
--- what passes between a cable and the router
+-- what passes between a cable and the router; and rules of a filter
 pub mod Edges
+pub mod RuleValues
 -- a gateway's limits: numbers
 pub mod LimitValues
 pub mod CableValues

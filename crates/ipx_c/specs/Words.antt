@@ -9,7 +9,7 @@ use Rattle.ipx_router.specs.declared.port.PortFault.TheVariants.{Longest, Cost, 
 use Rattle.ipx_router.specs.declared.ports_fault.PortsFault.TheVariants.{NoPort as NoPorts, TooMany as ManyPorts, SameNetwork}
 use Rattle.ipx_router.specs.declared.why.Why.TheVariants.{NotRunning, Malformed, OwnEcho, BadSource, CrossedShort, CrossedFull, CrossedSeen, Elsewhere, OtherSocket, NotNeighbour, BadRip, BadSap, NearestReply, TooManyRouters, FarSide, NoRoute, TooLong, DownPort}
 use Rattle.ipx_c.specs.Codes.{outcome_number, fault_number}
-use Rattle.ipx_c.specs.declared.fault.Fault.TheVariants.{NoRouter, NoPort, NoPacket, NoRecord, ShortBuffer, OutOfMemory, NoTunnel, ManyClients, NoSegment, NoLink, BadLink, ManyLinks, ManyStations, Port, Ports, Operation, NoEntries, ManyEntries, Name, LongPacket}
+use Rattle.ipx_c.specs.declared.fault.Fault.TheVariants.{NoRouter, NoPort, NoPacket, NoRecord, ShortBuffer, OutOfMemory, NoTunnel, ManyClients, NoSegment, NoLink, BadLink, ManyLinks, ManyStations, Port, Ports, Operation, NoEntries, ManyEntries, Name, LongPacket, Way, ManyRules, Rule}
 
 -- of what became of an event
 abbrev pub event_word : ℕ → List ℕ
@@ -85,7 +85,10 @@ fault_word n =
     if n == fault_number NoEntries then codes "no entries" else
     if n == fault_number ManyEntries then codes "too many entries" else
     if n == fault_number Name then codes "bad name" else
-    if n == fault_number LongPacket then codes "packet too long" else []
+    if n == fault_number LongPacket then codes "packet too long" else
+    if n == fault_number Way then codes "bad way" else
+    if n == fault_number ManyRules then codes "too many rules" else
+    if n == fault_number Rule then codes "bad rule" else []
 
 -- from here on the numbers are those of drops
 abbrev pub first_drop : ℕ

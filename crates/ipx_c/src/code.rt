@@ -65,6 +65,9 @@ fn fault_number(fault: Fault) -> u16
         Fault::ManyEntries => 23,
         Fault::Name => 24,
         Fault::LongPacket => 25,
+        Fault::Way => 26,
+        Fault::ManyRules => 27,
+        Fault::Rule => 28,
     }
 }
 

@@ -1,12 +1,13 @@
 //! What passes between a cable and the router, as C asks for it. The packet is changed where it lies, and nothing needs a handle.
-ghost use Rattle.std.specs.Prelude.{◌≡◌};
-ghost use Rattle.ipx_c.specs.Edges.{Enters, IsHeld, Numbers};
+ghost use Rattle.std.specs.Prelude.{◌≡◌, IfOk, IfErr};
+ghost use Rattle.ipx_c.specs.Edges.{Enters, IsHeld, Numbers, IsLeft, IsUnfiltered, Filters};
 
 use crate::code::{DONE, fault_code};
 use crate::fault::Fault;
 use crate::making::port_of;
+use crate::rule_values::{MOST_RULES, RuleValues, rules_of, way_of};
 use crate::values::PortValues;
-use ipx_edge::{enter, is_held, number};
+use ipx_edge::{enter, filter, is_held, number};
 
 /// What C hears of a question.
 const NO: i32 = 0;
@@ -47,4 +48,47 @@ pub extern "C" fn ipxr_edge_number(port: &PortValues, bytes: &mut [u8]) -> i32
         }
         Err(fault) => fault_code(Fault::Port(fault)),
     }
+}
+
+/// Filters what comes from a cable, or goes out to it. Returns whether anything of it passes: the first bytes, as many as `passes` then says.
+#[unsafe(no_mangle)]
+pub extern "C" fn ipxr_edge_filter(
+    way: u8,
+    port: &PortValues,
+    rules: &[RuleValues],
+    bytes: &mut [u8],
+    passes: &mut usize,
+) -> i32
+    ensures { Filters way port.now rules.now bytes.old bytes.new passes.old passes.new result }
+{
+    match left(way, port, rules, bytes) {
+        Ok(Some(count)) => {
+            *passes = count;
+            YES
+        }
+        Ok(None) => {
+            *passes = 0;
+            NO
+        }
+        Err(fault) => fault_code(fault),
+    }
+}
+
+/// How many bytes pass, if any do.
+fn left(
+    way: u8,
+    port: &PortValues,
+    rules: &[RuleValues],
+    bytes: &mut [u8],
+) -> Result<Option<usize>, Fault>
+    ensures passes { IfOk result (IsLeft way port.now rules.now bytes.old bytes.new) }
+    ensures fault { IfErr result (λ fault. IsUnfiltered way port.now rules.now fault × (bytes.new ≡ bytes.old)) }
+{
+    let way = way_of(way).ok_or(Fault::Way)?;
+    let port = port_of(port).map_err(Fault::Port)?;
+    if rules.len() > MOST_RULES {
+        return Err(Fault::ManyRules);
+    }
+    let rules = rules_of(rules).ok_or(Fault::Rule)?;
+    Ok(filter(way, &port, &rules, bytes))
 }

@@ -44,4 +44,10 @@ pub enum Fault {
     Name,
     /// More data than a packet may have.
     LongPacket,
+    /// A way of packets that is none.
+    Way,
+    /// More rules than a filter may have.
+    ManyRules,
+    /// Values that are no rule.
+    Rule,
 }

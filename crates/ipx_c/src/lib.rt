@@ -23,6 +23,8 @@
 //!   becomes of each packet, by `ipx_fates`, whose steps, fates and reasons have numbers (`CourseValues`, `CountValues`).
 //! - Frames of Ethernet are read and written as `ipx_capture` does, by the numbers of their kinds (`Kinds`).
 //! - Packets are written by the writers of `ipx_wire`, of values that C gives (`Writes`).
+//! - What passes between a cable and the router is asked with the port's values (`Edges`), by `ipx_edge`. The rules of a filter are values
+//!   too, whose numbers say what a rule names (`RuleValues`); each call reads them anew.
 //! - `cell` is the only place with a raw pointer; its proofs, and those alone, are walks by hand.
 //! - A handle isn't `Drop`: what doesn't hand its machine on, or put it into an empty one, doesn't compile or isn't proved. So no
 //!   call loses a router. That `ipxr_free` and `ipxr_make` free is one line in `making`, `drop(machine)`, which no clause can say; for
@@ -56,6 +58,7 @@ mod making;
 mod plan_values;
 mod planning;
 mod reading;
+mod rule_values;
 mod segment_events;
 mod segment_machine;
 mod segment_making;
@@ -134,6 +137,7 @@ pub use crate::reading::ipxr_route;
 pub use crate::reading::ipxr_routes;
 pub use crate::reading::ipxr_service;
 pub use crate::reading::ipxr_services;
+pub use crate::rule_values::RuleValues;
 pub use crate::segment_events::ipxr_segment_change;
 pub use crate::segment_events::ipxr_segment_come;
 pub use crate::segment_events::ipxr_segment_hear;

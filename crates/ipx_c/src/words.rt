@@ -126,6 +126,9 @@ fn fault_word(number: u32) -> &'static str
         23 => "too many entries",
         24 => "bad name",
         25 => "packet too long",
+        26 => "bad way",
+        27 => "too many rules",
+        28 => "bad rule",
         _ => "",
     }
 }

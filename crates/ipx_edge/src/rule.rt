@@ -1,4 +1,6 @@
 //! Rules of a filter.
+ghost use Rattle.std.specs.Prelude.{◌≡◌, true};
+ghost use Rattle.ipx_edge.specs.declared.rule.What.TheVariants.{Nearest};
 
 use ipx_wire::{Network, ServiceName, Socket};
 
@@ -82,4 +84,16 @@ pub struct Rule {
     pub permits: bool,
     /// What it names.
     pub what: What,
+}
+
+/// A rule that permits what is permitted without it, for a place that has none yet.
+impl Default for Rule {
+    fn default() -> Rule
+        ensures { result ≡ record { permits = true; what = Nearest } }
+    {
+        Rule {
+            permits: true,
+            what: What::Nearest,
+        }
+    }
 }

@@ -9,6 +9,7 @@
 #include <string.h>
 
 #include "ipxr_cable.h"
+#include "ipxr_edge.h"
 #include "ipxr_limits.h"
 #include "ipxr_segment.h"
 #include "ipxr_keyed.h"
@@ -323,6 +324,34 @@ static void write_all(void)
         answer = ipxr_write_packet(&here, &here, 0, 0, data, sizeof data, packet, sizeof packet);
 }
 
+/* ---- The edge of a cable ---- */
+
+static const ipxr_port AT_EDGE = {2, {0, 0, 0, 0, 0, 2}, 1, LONGEST, IPXR_NO_LIMIT, IPXR_NO_LIMIT};
+static ipxr_rule rules[IPXR_MOST_RULES];
+
+/* As many rules as there may be: only the last one names the services. */
+static void make_rules(void)
+{
+    for (size_t k = 0; k < IPXR_MOST_RULES; k++) {
+        rules[k].what = IPXR_RULE_SERVICES;
+        rules[k].way = IPXR_WAY_IN;
+        rules[k].type = 4;
+        rules[k].names = IPXR_NAMES_BEGIN;
+        rules[k].name[0] = k + 1 < IPXR_MOST_RULES ? 'T' : 'S';
+    }
+}
+
+/* As many services as a packet may have come in. */
+static void filter(void)
+{
+    size_t passes;
+    answer = ipxr_edge_enter(&AT_EDGE, packet, length);
+    if (answer == 1)
+        answer = ipxr_edge_filter(IPXR_WAY_IN, &AT_EDGE, rules, IPXR_MOST_RULES, packet, length, &passes);
+    if (answer != 0)
+        answer = -1;
+}
+
 /* ---- Measuring ---- */
 
 static void *on_thread(void *call)
@@ -560,6 +589,13 @@ static void play_limits(void)
     measure("all of it is read", read_all, MOST);
 }
 
+static void play_edge(void)
+{
+    make_rules();
+    put_services(1, 0, 1);
+    measure("seven services are filtered by sixty-four rules", filter, MOST);
+}
+
 static void play_cables(void)
 {
     measure("stations of any kind are heard", hear_kinds, MOST);
@@ -586,6 +622,7 @@ int main(int count, char **words)
     play_receiver();
     play_limits();
     play_cables();
+    play_edge();
     free(stack);
     printf("faults: %d\n", faults);
     return 0;
