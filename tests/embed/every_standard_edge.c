@@ -4,7 +4,7 @@
 #include "ipxr_edge.h"
 
 static const ipxr_port PORT = {0x10, {0, 0, 0, 0, 0, 1}, 1, 576, 0, 0};
-static const ipxr_rule RULE = {0, IPXR_RULE_TYPE, 0, IPXR_NAMES_ALL, 1, 0, 0, 0, {0}};
+static const ipxr_rule RULE = {0, IPXR_RULE_TYPE, 0, IPXR_NAMES_ALL, 0, 0, 0, 0, {0}};
 static const uint8_t PACKET[30] = {255, 255, 0, 30, 1, 0, 0, 0, 0, 0, 255, 255, 255, 255, 255, 255,
                                    4, 83, 0, 0, 0, 0, 0, 0, 0, 0, 0, 2, 4, 83};
 
