@@ -1,7 +1,7 @@
 """The router's own network, which no cable carries: with it a router of one network answers, so that computers learn their network's number."""
 import struct
 
-from changed import Changed
+from changed import Changed, port_in
 from frames import Station, Udp
 from lab import EVERYONE, NOBODY, RIP, Client, Gateway, address, comes_next, free_ports, packet, reaches, tunnels
 from status import asked
@@ -47,8 +47,9 @@ def a_pc_learns_its_number():
         heard = pc.hear(lambda it: it[28:30] == struct.pack(">H", RIP) and it[16:18] != struct.pack(">H", RIP))
         assert heard[18:28] == struct.pack(">I", CABLE) + gate.nodes[CABLE] and heard[6:10] == struct.pack(">I", CABLE), heard
         pc.network = int.from_bytes(heard[6:10], "big")
-        player = Client(gate.ports[CABLE])
-        assert reaches(pc, player) and reaches(player, pc)
+        player = Client(port_in(gate.lines[0]), gateway=gate.nodes[CABLE])
+        pc.say(player.at(), b"from the PC", node=player.node)
+        assert player.hear()[30:] == b"from the PC" and reaches(player, pc)
 
 
 def nobody_is_there():
@@ -70,11 +71,12 @@ def read_again():
     with Changed(text) as gate:
         one, other = Client(gate.ports[NETWORK]), Client(gate.ports[NETWORK])
         for below, words in ((INTERNAL, "router"), (INTERNAL, "nothing changed"), ("internal A2\n", "router"), ("", "router")):
-            assert words in gate.reload(text + below), words
+            told = gate.reload(text + below)
+            assert words in told, told
             said = answer_to(one)
             assert said == ((NETWORK, struct.pack(">HIHH", 2, int(below.split()[1], 16), 1, 2)) if below else None), said
-            assert reaches(one, other) and reaches(other, one), "clients stay"
-        assert "clients: 2\n" in gate.report()
+            assert reaches(one, other) and reaches(other, one)
+        assert gate.counted(NETWORK, "clients") == 2
 
 
 def main():

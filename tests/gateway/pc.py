@@ -19,19 +19,19 @@ SIZES = (0, 1, 17, 546, 1394)
 MOST = 300  # seconds until a PC is taken for lost
 
 
-def boot_sector(folder):
+def boot_sector(folder, *words):
     """The file with the program that the PC starts, in a folder."""
     boot = os.path.join(folder, "boot")
-    subprocess.run(["nasm", "-f", "bin", "-o", boot, SOURCE], check=True)
+    subprocess.run(["nasm", "-f", "bin", *words, "-o", boot, SOURCE], check=True)
     return boot
 
 
 class Pc:
     """A PC that runs until it is left."""
 
-    def __init__(self, folder, netdev):
+    def __init__(self, folder, netdev, *built):
         program = next(it for it in PROGRAMS if shutil.which(it))
-        drive = f"if=floppy,format=raw,file={boot_sector(folder)}"
+        drive = f"if=floppy,format=raw,file={boot_sector(folder, *built)}"
         words = ["-nodefaults", "-display", "none", "-vga", "none", "-accel", "tcg", "-m", "16", "-drive", drive]
         words += ["-netdev", netdev.replace(",", ",id=n,", 1)]
         words += ["-device", f"ne2k_isa,netdev=n,iobase=0x300,irq=9,mac={MAC}"]
@@ -123,6 +123,22 @@ def on_one_network():
         assert f"{NODE.hex().upper()} at qemu-udp" in it.report()
 
 
+def learns():
+    """On one network over several links a PC in QEMU asks for its network, and learns the number from the router, which has a network of its own."""
+    gate, card = free_ports(2)
+    text = f"network 30 1 1424\nlink dosbox 127.0.0.1:0\nlink qemu-udp {gate} {card} raw\ninternal A1\n"
+    netdev = f"dgram,{inet('local', card)},{inet('remote', gate)}"
+    with tempfile.TemporaryDirectory() as folder, Gateway(text) as it, Pc(folder, netdev, "-dLEARNS") as pc:
+        port = int(it.lines[0].rpartition(", node")[0].rpartition(":")[2])
+        client, end = Client(port, gateway=it.nodes[0x30]), time.monotonic() + MOST
+        heard = None
+        while heard is None and time.monotonic() < end:
+            assert pc.run.poll() is None, "the emulator has ended"
+            client.say(address(0, NODE, GAME), b"who are you")
+            heard = client.hear(lambda it: it[30:] == b"who are you" and socket_of(it) == GAME, AGAIN)
+        assert heard[18:28] == address(0x30, NODE, 0)[:10], heard
+
+
 def pinged():
     """A PC in QEMU, whose program sends back what it gets, answers the gateway's pings at any socket."""
     gate, card = free_ports(2)
@@ -142,7 +158,7 @@ def main():
     if missing:
         left_out("a PC in QEMU", f"no {missing[0]}")
         return Counts()
-    counts = tried(datagrams, connections, of_any_kind, on_one_network)
+    counts = tried(datagrams, connections, of_any_kind, on_one_network, learns)
     if has_linux("pings that a PC in QEMU answers", "the status socket is Linux' own"):
         counts.run(pinged)
     return counts

@@ -1,5 +1,6 @@
 ; A boot sector that drives an NE2000 at port 300h, and sends each IPX packet for its node back to where it came from, by Novell's raw
-; frames. It knows neither a network nor a router: it answers whoever sent the frame.
+; frames. It knows neither a network nor a router: it answers whoever sent the frame. With LEARNS it asks routers for their routes at its
+; start, takes the network that the answer is for as its own, and says it from then on.
         bits    16
         cpu     286
         org     7C00h
@@ -26,7 +27,10 @@ SENT    equ     40h             ; pages of the card's memory: what is sent, and 
 FIRST   equ     46h
 LAST    equ     56h             ; (16 pages)
 
-FRAME   equ     8000h           ; in the PC's memory
+own     equ     7E00h           ; in the PC's memory: its node,
+head    equ     7E06h           ; what the card says of a frame,
+network equ     7E0Ah           ; the network that was learned,
+FRAME   equ     8000h           ; and a frame
 PACKET  equ     FRAME + 14
 
 %macro put 2
@@ -76,6 +80,20 @@ start:  cli
         put     CR, 22h         ; it runs
         put     TXCR, 0
         put     RXCR, 04h        ; frames for it, and broadcasts
+
+%ifdef LEARNS
+        mov     si, own         ; the request's frame and packet come from this node
+        mov     di, request + 6
+        call    node
+        mov     di, request + 14 + 22
+        call    node
+        mov     si, request
+        mov     di, FRAME
+        mov     cx, LENGTH
+        rep     movsb
+        mov     cx, LENGTH
+        call    answer.send
+%endif
 
 next:   put     CR, 62h
         mov     dx, CURR
@@ -163,7 +181,22 @@ answer: cmp     word [PACKET], 0FFFFh
         mov     cx, 3
         rep     movsw
         pop     cx
-        mov     bx, SENT << 8
+%ifdef LEARNS
+        cmp     word [PACKET + 16], 5304h       ; from a router's socket: it was said to this network, and isn't answered
+        jne     .say
+        mov     si, PACKET + 18
+        mov     di, network
+        movsw
+        movsw
+        ret
+.say:   push    cx
+        mov     si, network
+        mov     di, PACKET + 18
+        movsw
+        movsw
+        pop     cx
+%endif
+.send:  mov     bx, SENT << 8   ; (CX bytes)
         call    where
         put     CR, 12h
         mov     si, FRAME
@@ -184,7 +217,28 @@ answer: cmp     word [PACKET], 0FFFFh
         jnz     .sent
 .end:   ret
 
-own:    times 6 db 0
-head:   times 4 db 0
+%ifdef LEARNS
+; Copies a node.
+node:   push    si
+        mov     cx, 3
+        rep     movsw
+        pop     si
+        ret
+
+request:
+        times 6 db 0FFh
+        times 6 db 0
+        db      0, 40           ; the length, in a raw frame
+        db      0FFh, 0FFh, 0, 40, 0, 1
+        times 4 db 0            ; to all of this network, at RIP's socket
+        times 6 db 0FFh
+        db      04h, 53h
+        times 4 db 0            ; from it
+        times 6 db 0
+        db      40h, 03h
+        db      0, 1            ; a request for all routes
+        times 8 db 0FFh
+LENGTH  equ     $ - request
+%endif
         times 510 - ($ - $$) db 0
         dw      0AA55h
