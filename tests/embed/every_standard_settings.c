@@ -18,8 +18,8 @@ int main(void)
     size_t start = 0;
     int is_right = reads(RIGHT, &said) == 0 && said.kind == IPXR_SETTING_NETWORK && said.read == 6 && said.network.number == 0x10;
     is_right = is_right && said.link.carrier == IPXR_OVER_TUNNEL && said.link.local.port == 2130 && said.link.local.four[0] == 127;
-    is_right = is_right && reads(WRONG, &said) == IPXR_EXPECTED_OF_ADDRESS && said.read == 2 && said.numbers[0] == 10;
     is_right = is_right && reads(OWN, &said) == 0 && said.kind == IPXR_SETTING_INTERNAL && said.network.number == 0x1F && said.network.node[5] == 7;
+    is_right = is_right && reads(WRONG, &said) == IPXR_EXPECTED_OF_ADDRESS && said.read == 2 && said.numbers[0] == 10;
     is_right = is_right && ipxr_settings_word((const uint8_t *)WRONG, strlen(WRONG), said.read, &start) == 2 && start == 11;
     is_right = is_right && ipxr_settings_range((const uint8_t *)RANGE, strlen(RANGE), &range) == 1 && range.bits == 24;
     return is_right && ipxr_settings_socket((const uint8_t *)"4003", 4) == 0x4003 ? 0 : 1;
