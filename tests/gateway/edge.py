@@ -1,14 +1,26 @@
-"""What a packet passes between its network and the router: numbers that stations don't know are filled in, and what routers carried is held."""
+"""What a packet passes between its network and the router: numbers that stations don't know are filled in, and what routers carried is held.
+
+A capture of a real cable that nobody numbered is played too, where IPX_CAPTURE names the file: ipx.pcap of tcpdump's tests, which Debian's
+source package of tcpdump has.
+"""
+import os
 import struct
 
-from frames import Station, Udp
-from lab import EVERYONE, GAME, RIP, SAP, Client, Gateway, address, comes_next, free_ports, packet, reaches, rip_response, sap_response, tunnels, until
-from trying import begin, tried
+from cards import has_taps
+from frames import FRONTS, Packets, Station, Udp
+from lab import (EVERYONE, GAME, RIP, SAP, Client, Gateway, address, comes_next, free_ports, packet, reaches, rip_response, sap_response, tunnels,
+                 until)
+from spaces import ip
+from systems import SYSTEM, Windows
+from trying import Counts, begin, left_out, tried, tried_inside
 
 STATION = bytes.fromhex("020000000AA1")
 SERVER, OFFERED = 0x4010, 0x451  # a server's type, and the socket of its service
 QUERY = struct.pack(">HH", 1, 0xFFFF)  # for all services
 NETWORK, CABLE, LINE = 0x10, 0x20, 0x30
+CAPTURE = "IPX_CAPTURE"  # names the capture of a real cable
+HEAD, RECORD = 24, 16  # bytes in front of a capture, and of each record
+BEHIND = 14 + len(FRONTS["llc"])  # where the packet stands in its frames
 
 
 def on_a_cable(wire, more=""):
@@ -117,9 +129,62 @@ def as_it_came():
         assert comes_next(one, beside)
 
 
+# ---- A real cable ----
+
+
+def frames_of(name):
+    """The frames of a capture."""
+    with open(name, "rb") as it:
+        bytes_, at = it.read(), HEAD
+    while at < len(bytes_):
+        (length,) = struct.unpack_from("<I", bytes_, at + 8)
+        yield bytes_[at + RECORD:at + RECORD + length]
+        at += RECORD + length
+
+
+def answers_all(far, wire, node):
+    """Whether what a client says to a station of the cable comes there."""
+    far.say(address(CABLE, node, OFFERED), b"answer")
+    return Station(wire, "llc", CABLE, node, b"").hear(lambda it: it[30:] == b"answer") is not None
+
+
+def a_real_cable():
+    """A capture of a cable that nobody numbered, played by a TAP: a client on another network finds its services, and reaches them; and it
+    answers who called all by type 20."""
+    frames = [it for it in frames_of(os.environ[CAPTURE]) if it[14:BEHIND] == FRONTS["llc"]]
+    with Gateway(tunnels(1) + f"network {CABLE:X} 1 1490 tap edge0 auto\n") as gate:
+        ip("link", "set", "edge0", "up")
+        gate.until(f"network {CABLE:08X} up")
+        far, wire = Client(gate.ports[NETWORK]), Packets("edge0", "llc")
+        for bytes_ in frames:
+            wire.send(bytes_)
+        until(lambda: "services: 3\n" in gate.report(), "three services")
+        called = [it for it in iter(lambda: far.hear(lambda it: it[5] == 20, 1), None)]
+        found = services_of(far, gate)
+        assert len(found) == 3 and all(at[:4] == struct.pack(">I", CABLE) for at, _ in found.values()), found
+        assert all(answers_all(far, wire, at[4:10]) for at, _ in found.values()), "a service isn't reached"
+        callers = {it[18:28] for it in called}
+        assert callers and not any(it.startswith(bytes(4)) for it in callers), callers
+        own = [it[4:] for it in callers if it.startswith(struct.pack(">I", CABLE))]
+        assert own and all(answers_all(far, wire, node) for node in own), "a caller isn't reached"
+
+
+def inside():
+    """In the network of its own."""
+    ip("link", "set", "lo", "up")
+    if has_taps():
+        return tried(a_real_cable)
+    left_out("a capture of a real cable", "no TAP can be made")
+    return Counts()
+
+
 def main():
-    return tried(is_answered, is_found, routes_of_a_neighbour, nobody_passes_for_a_neighbour, as_it_came)
+    counts = tried(is_answered, is_found, routes_of_a_neighbour, nobody_passes_for_a_neighbour, as_it_came)
+    if SYSTEM is Windows or not os.path.isfile(os.environ.get(CAPTURE, "")):
+        left_out("a capture of a real cable", f"{CAPTURE} names none")
+        return counts
+    return counts + tried_inside(__file__, "a capture of a real cable")
 
 
 if __name__ == "__main__":
-    begin(main)
+    begin(main, inside)
