@@ -119,6 +119,7 @@ typedef struct ipxr_network_setting {
     ipxr_flag has_node;
     uint8_t node[6];
     ipxr_sockets sockets;
+    size_t adopt_line;       /* the number of the line that says that what comes from the cable is taken as it is, or 0 */
 } ipxr_network_setting;
 
 /* What a link's own line says, and those below it. */
@@ -196,6 +197,7 @@ typedef struct ipxr_configured {
     ipxr_setting_ranges allowed; /* who may be a client, or none where all may */
     ipxr_setting_ranges trusted; /* who may be one though he answers no ping */
     ipxr_flag nodes_by_address;  /* clients' nodes may be their addresses */
+    ipxr_flag adopts;            /* what comes from the cable goes through ipxr_edge_enter */
 } ipxr_configured;
 
 /* ---- Calls ---- */

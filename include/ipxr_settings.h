@@ -37,6 +37,7 @@ extern "C" {
 #define IPXR_SETTING_KILOBITS 9  /* line: of `numbers` the kilobits */
 #define IPXR_SETTING_NODES 10    /* nodes: clients' nodes may be their addresses */
 #define IPXR_SETTING_INTERNAL 11 /* internal: the router's own network: of `network` the number, and the node */
+#define IPXR_SETTING_ADOPT 12    /* adopt: what comes from the cable is taken as it is */
 
 /* ---- What carries a link. These numbers have no words. ---- */
 
@@ -85,6 +86,7 @@ extern "C" {
 #define IPXR_EXPECTED_FIRST 30           /* one that is 0 behind its `bits` */
 #define IPXR_EXPECTED_FEWER_WORDS 31     /* at most 32 words */
 #define IPXR_EXPECTED_BY_ADDRESS 52      /* by-address (32 to 51 are in ipxr_configuration.h) */
+#define IPXR_EXPECTED_NO 53              /* no */
 
 /* ---- Bytes that are enough for any words. These numbers have no words. ---- */
 

@@ -8,7 +8,7 @@
 
 /* What is told of each fault in which nothing else is. */
 static const char *const TOLD[] = {
-    [IPXR_EXPECTED_LINE] = "expected network, link, extend, clients, allow, trust, rate, strangers, line, nodes or internal",
+    [IPXR_EXPECTED_LINE] = "expected network, link, extend, clients, allow, trust, rate, strangers, line, nodes, internal or adopt",
     [IPXR_EXPECTED_NETWORK] = "expected the number of a network in hexadecimal digits, 1 to FFFFFFFD",
     [IPXR_EXPECTED_COST] = "expected the cost in ticks, 1 to 65535",
     [IPXR_EXPECTED_ROUTES] = "expected the most routes, 0 to 65535",
@@ -27,6 +27,7 @@ static const char *const TOLD[] = {
     [IPXR_EXPECTED_RANGE] = "expected a numeric address and the bits that count, such as 192.168.1.0/24, or an address alone",
     [IPXR_EXPECTED_FEWER_WORDS] = "expected at most 32 words",
     [IPXR_EXPECTED_BY_ADDRESS] = "expected by-address",
+    [IPXR_EXPECTED_NO] = "expected no",
     [IPXR_EXPECTED_BELOW_NETWORK] = "expected below the line of a network",
     [IPXR_EXPECTED_BELOW_LINK] = "expected below the line of a link",
     [IPXR_EXPECTED_BELOW_TUNNEL] = "expected below the line of a network of dosbox",

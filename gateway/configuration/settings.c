@@ -72,6 +72,7 @@ static void take_link(network_setting *it, const ipxr_configured *said)
     take_carrier(it, &said->carrier);
     it->socket_count = said->sockets.count;
     memcpy(it->sockets, said->sockets.list, sizeof said->sockets.list);
+    it->adopts = said->adopts;
     it->clients = said->clients;
     it->per_address = said->of_address;
     it->rate = said->rate;

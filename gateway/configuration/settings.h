@@ -54,6 +54,7 @@ typedef struct network_setting {
     uint8_t node[6];
     uint16_t sockets[MOST_SOCKETS]; /* whose broadcasts are extended */
     size_t socket_count;
+    bool adopts;               /* whether what comes from the cable is numbered, and held where a router carried it there */
     uint16_t clients;          /* most clients of DOSBox' */
     uint16_t per_address;      /* and most of one address */
     uint32_t rate;             /* packets a second that a client receives, or a link with frames of clients; 0 for any number */

@@ -1701,6 +1701,8 @@ static void a_line(void)
     WROTE(0, said.network.has_head);
     WROTE(1, said.network.has_node);
     WROTE_BYTES("020000000007", said.network.node);
+    ANSWERS(IPXR_EXPECTED_NO, ipxr_settings_line(READS("adopt yes"), 0, 0, 99, &said));
+    WROTE(IPXR_SETTING_ADOPT, said.kind);
     ANSWERS(IPXR_EXPECTED_NODE_WORD, ipxr_settings_line(READS("internal 2F nodes"), 0, 0, 99, &said));
     WROTE(2, said.read);
     WROTE(0, said.network.has_node);
@@ -1759,6 +1761,8 @@ static void all_is_kept(void)
     WROTE_BYTES("020000000007", network->node);
     WROTE(0x4003, all.networks.list[0].sockets.list[0]);
     WROTE(3, all.networks.list[0].sockets.count);
+    WROTE(22, all.networks.list[1].adopt_line);
+    WROTE(0, all.networks.list[2].adopt_line);
     WROTE(11, link->line);
     WROTE(0, link->network);
     WROTE(12, link->clients.line);
@@ -1795,6 +1799,7 @@ static void all_is_told(void)
     WROTE(1, link.allowed.count);
     WROTE(2, link.trusted.count);
     WROTE(1, link.nodes_by_address);
+    WROTE(1, link.adopts);
     WROTE(64, link.routes);
     WROTE(32, link.services);
     ANSWERS(1, ipxr_configuration_link(&all, 1, &link));
@@ -1806,6 +1811,7 @@ static void all_is_told(void)
     WROTE(0, link.is_of_several);
     WROTE(1, link.has_node);
     WROTE(0, link.nodes_by_address);
+    WROTE(0, link.adopts);
     WROTE_BYTES("020000000007", link.node);
     WROTE(IPXR_OVER_UDP, link.carrier.number);
     WROTE(IPXR_FRAME_LLC, link.carrier.frames);
@@ -1893,6 +1899,7 @@ static void a_configuration(void)
     WROTE(1, wrong.is_below_tunnel);
     ANSWERS(0, SAYS(20, "nodes by-address"));
     ANSWERS(0, SAYS(21, "network B 4 1300 40 41 qemu-udp 1.2.3.4:52 6.7.8.9:53 llc node 02:00:00:00:00:07"));
+    ANSWERS(0, SAYS(22, "adopt no"));
     ANSWERS(0, SAYS(31, "network C 5 1200 42 43"));
     ANSWERS(31, ipxr_configuration_unlinked(&all));
     ANSWERS(0, SAYS(32, "link tap Aa raw"));

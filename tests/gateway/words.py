@@ -164,7 +164,7 @@ def what_is_right():
     status, _, complaint = asked("--check", "/dev/stdin", stdin=many + b"network FF 1 1424 dosbox 0\n")
     assert status == 2 and complaint == "/dev/stdin:33: 'network': expected at most 32 networks\n"
     for text in (b"\t network  FFFFFFFD 65535 1424 0 65535 dosbox :0 # a comment\r\n\n#\nextend FFFF 1",
-                 b"network 20 1 1424 dosbox 0\nstrangers none\nnodes by-address",
+                 b"network 20 1 1424 dosbox 0\nstrangers none\nnodes by-address\nadopt no",
                  b"network 20 1 1500 qemu-udp 0.0.0.0:5001 192.0.2.7:5001 raw",
                  b"network 20 1 1500 qemu-udp [::]:5001 [2001:db8::7]:5001 raw"):
         assert asked("--check", "/dev/stdin", stdin=text)[:2] == (0, "/dev/stdin: 1 network, nothing wrong\n"), text
@@ -200,7 +200,7 @@ def names_and_marks():
         for text, status, told in (
             (tunnels(2).replace("\n", "\r\n"), 0, ": 2 networks, nothing wrong\n"),
             (tunnels(1) + "\x1a\nnetwork", 2,
-             ":2: '\\x1A': expected network, link, extend, clients, allow, trust, rate, strangers, line, nodes or internal\n"),
+             ":2: '\\x1A': expected network, link, extend, clients, allow, trust, rate, strangers, line, nodes, internal or adopt\n"),
         ):
             name = "Müller Ωμέγα.conf"
             with open(os.path.join(folder, name), "w", encoding="utf-8", newline="") as it:

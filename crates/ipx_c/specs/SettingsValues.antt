@@ -155,6 +155,7 @@ line_number (line.Strangers begun) = 8
 line_number (line.Kilobits begun) = 9
 line_number (line.Nodes by_address) = 10
 line_number (line.Internal begun) = 11
+line_number (line.Adopt is_off) = 12
 
 abbrev pub three : ℕ → ℕ → ℕ → List ℕ
 three a b c = a ∷ b ∷ c ∷ []
@@ -215,6 +216,7 @@ expected_number (Some expected.Range) = 29
 expected_number (Some (expected.FirstOf bits)) = 30
 expected_number (Some expected.FewerWords) = 31
 expected_number (Some expected.ByAddress) = 52
+expected_number (Some expected.No) = 53
 
 -- the bits of a range whose address isn't its first
 abbrev pub bits_of : Option Expected → ℕ

@@ -257,6 +257,7 @@ pub(crate) fn line_number(line: Line) -> u8
         Line::Kilobits(_) => 9,
         Line::Nodes(_) => 10,
         Line::Internal(_) => 11,
+        Line::Adopt(_) => 12,
     }
 }
 
@@ -298,7 +299,7 @@ pub(crate) fn network_of_line(line: Line) -> NetworkSaid
     }
 }
 
-/// The number of what was expected; 0 where nothing is wrong. The last one came behind those of lines together.
+/// The number of what was expected; 0 where nothing is wrong. The last ones came behind those of lines together.
 pub(crate) fn expected_number(fault: Option<Expected>) -> u8
     ensures { result ≡ expected_number fault }
 {
@@ -336,6 +337,7 @@ pub(crate) fn expected_number(fault: Option<Expected>) -> u8
         Some(Expected::FirstOf(_)) => 30,
         Some(Expected::FewerWords) => 31,
         Some(Expected::ByAddress) => 52,
+        Some(Expected::No) => 53,
     }
 }
 

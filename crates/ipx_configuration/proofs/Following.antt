@@ -222,6 +222,7 @@ carrier_kept n text (line.Strangers b) read own links link = kept (once link.str
 carrier_kept n text (line.Kilobits b) read own links link = kept (kilobits_fault link b own links) link (with_kilobits link (number_said n b)) refl
 carrier_kept n text (line.Nodes b) read own links link = kept (once link.nodes_line own) link (with_nodes link n) refl
 carrier_kept n text (line.Internal b) read own links link = refl
+carrier_kept n text (line.Adopt b) read own links link = refl
 
 number_kept : (n : ℕ) (text : List ℕ) (l : Line) (read : ℕ) (own : Option Expected) (links : List LinkSetting) (link : LinkSetting)
     → (line_by n text l read own links link).0.network ≡ link.network
@@ -237,11 +238,12 @@ number_kept n text (line.Strangers b) read own links link = network_kept (once l
 number_kept n text (line.Kilobits b) read own links link = network_kept (kilobits_fault link b own links) link (with_kilobits link (number_said n b)) refl
 number_kept n text (line.Nodes b) read own links link = network_kept (once link.nodes_line own) link (with_nodes link n) refl
 number_kept n text (line.Internal b) read own links link = refl
+number_kept n text (line.Adopt b) read own links link = refl
 
-extends_follow : (c : Configuration) (text : List ℕ) (read : ℕ) (own : Option Expected) (o : Option NetworkSetting)
-    → Follows (extended_by c text read own o).0.networks.count c.links (extended_by c text read own o).0.links
-extends_follow c text read own None = same refl
-extends_follow c text read own (Some network) = same refl
+extends_follow : (c : Configuration) (n : ℕ) (text : List ℕ) (r : Reading) (o : Option NetworkSetting)
+    → Follows (extended_by c n text r o).0.networks.count c.links (extended_by c n text r o).0.links
+extends_follow c n text r None = same refl
+extends_follow c n text r (Some network) = same refl
 
 link_extends_follow : (c : Configuration) (n : ℕ) (text : List ℕ) (r : Reading) (o : Option LinkSetting) → last_link c.links ≡ o
     → Follows (link_extended_by c n text r o).0.networks.count c.links (link_extended_by c n text r o).0.links
@@ -250,20 +252,21 @@ link_extends_follow c n text r (Some link) e =
     let l = link_taken n text r (links_in c.links) link in
     again link l.0 e (carrier_kept n text r.line r.read r.fault (links_in c.links) link) (number_kept n text r.line r.read r.fault (links_in c.links) link) refl
 
-below_network_follows : (text : List ℕ) (r : Reading) (l : Line) (c : Configuration)
-    → Follows (below_network_by text r l c).0.networks.count c.links (below_network_by text r l c).0.links
-below_network_follows text r line.Nothing c = same refl
-below_network_follows text r (line.Network b) c = same refl
-below_network_follows text r (line.Link b) c = same refl
-below_network_follows text r (line.Extend b) c = extends_follow c text r.read r.fault (last_network c.networks)
-below_network_follows text r (line.Clients b) c = same refl
-below_network_follows text r (line.Allow b) c = same refl
-below_network_follows text r (line.Trust b) c = same refl
-below_network_follows text r (line.Rate b) c = same refl
-below_network_follows text r (line.Strangers b) c = same refl
-below_network_follows text r (line.Kilobits b) c = same refl
-below_network_follows text r (line.Nodes b) c = same refl
-below_network_follows text r (line.Internal b) c = same refl
+below_network_follows : (n : ℕ) (text : List ℕ) (r : Reading) (l : Line) (c : Configuration)
+    → Follows (below_network_by n text r l c).0.networks.count c.links (below_network_by n text r l c).0.links
+below_network_follows n text r line.Nothing c = same refl
+below_network_follows n text r (line.Network b) c = same refl
+below_network_follows n text r (line.Link b) c = same refl
+below_network_follows n text r (line.Extend b) c = extends_follow c n text r (last_network c.networks)
+below_network_follows n text r (line.Clients b) c = same refl
+below_network_follows n text r (line.Allow b) c = same refl
+below_network_follows n text r (line.Trust b) c = same refl
+below_network_follows n text r (line.Rate b) c = same refl
+below_network_follows n text r (line.Strangers b) c = same refl
+below_network_follows n text r (line.Kilobits b) c = same refl
+below_network_follows n text r (line.Nodes b) c = same refl
+below_network_follows n text r (line.Internal b) c = same refl
+below_network_follows n text r (line.Adopt b) c = extends_follow c n text r (last_network c.networks)
 
 either : (l : LinkList) (b : Bool) (x y : Configuration × Option Fault) → Follows x.0.networks.count l x.0.links → Follows y.0.networks.count l y.0.links
     → Follows (if b then x else y).0.networks.count l (if b then x else y).0.links
@@ -284,7 +287,7 @@ module _ (n : ℕ) (text : List ℕ) (r : Reading) (c : Configuration) where
   below_link_follows line.Nothing = tunnel_follows (tunnel_fault c)
   below_link_follows (line.Network b) = tunnel_follows (tunnel_fault c)
   below_link_follows (line.Link b) = tunnel_follows (tunnel_fault c)
-  below_link_follows (line.Extend b) = extends_follow c text r.read r.fault (last_network c.networks)
+  below_link_follows (line.Extend b) = extends_follow c n text r (last_network c.networks)
   below_link_follows (line.Clients b) = tunnel_follows (tunnel_fault c)
   below_link_follows (line.Allow b) = tunnel_follows (tunnel_fault c)
   below_link_follows (line.Trust b) = tunnel_follows (tunnel_fault c)
@@ -293,11 +296,12 @@ module _ (n : ℕ) (text : List ℕ) (r : Reading) (c : Configuration) where
   below_link_follows (line.Kilobits b) = tunnel_follows (tunnel_fault c)
   below_link_follows (line.Nodes b) = tunnel_follows (tunnel_fault c)
   below_link_follows (line.Internal b) = tunnel_follows (tunnel_fault c)
+  below_link_follows (line.Adopt b) = extends_follow c n text r (last_network c.networks)
 
   below_follows : Follows (taken_below n text r c).0.networks.count c.links (taken_below n text r c).0.links
   below_follows =
       either c.links (c.above == nothing) _ _ (same refl)
-      (either c.links (c.above == a_network) _ _ (below_network_follows text r r.line c)
+      (either c.links (c.above == a_network) _ _ (below_network_follows n text r r.line c)
       (either c.links (c.above == a_link) _ _ (below_link_follows r.line) (same refl)))
 
   taken_follows : (capacity : Capacity) (l : Line) → Follows (taken_by capacity n text r l c).0.networks.count c.links (taken_by capacity n text r l c).0.links
@@ -313,6 +317,7 @@ module _ (n : ℕ) (text : List ℕ) (r : Reading) (c : Configuration) where
   taken_follows capacity (line.Kilobits b) = below_follows
   taken_follows capacity (line.Nodes b) = below_follows
   taken_follows capacity (line.Internal b) = internal_follows capacity n b r.fault c
+  taken_follows capacity (line.Adopt b) = below_follows
 
 pub follows : (capacity : Capacity) (n : ℕ) (text : List ℕ) (c : Configuration)
     → Follows (after capacity n text c).networks.count c.links (after capacity n text c).links

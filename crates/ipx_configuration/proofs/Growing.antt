@@ -70,10 +70,10 @@ internal_grows capacity n b own c = elim (cases_Bool (is_some (internal_fault ca
   | inr right ↦ rw right (stays c.networks)
 ]
 
-extended_grows : (c : Configuration) (text : List ℕ) (read : ℕ) (own : Option Expected) (o : Option NetworkSetting)
-    → Grows c.networks (extended_by c text read own o).0.networks
-extended_grows c text read own None = stays c.networks
-extended_grows c text read own (Some network) = another c.networks (network_taken network text read own).0
+extended_grows : (c : Configuration) (n : ℕ) (text : List ℕ) (r : Reading) (o : Option NetworkSetting)
+    → Grows c.networks (extended_by c n text r o).0.networks
+extended_grows c n text r None = stays c.networks
+extended_grows c n text r (Some network) = another c.networks (network_taken n text r network).0
 
 link_extended_grows : (c : Configuration) (n : ℕ) (text : List ℕ) (r : Reading) (o : Option LinkSetting)
     → Grows c.networks (link_extended_by c n text r o).0.networks
@@ -86,11 +86,11 @@ either n true x y one other = one
 either n false x y one other = other
 
 module _ (n : ℕ) (text : List ℕ) (r : Reading) (c : Configuration) where
-  below_network_grows : (l : Line) → Grows c.networks (below_network_by text r l c).0.networks
+  below_network_grows : (l : Line) → Grows c.networks (below_network_by n text r l c).0.networks
   below_network_grows line.Nothing = stays c.networks
   below_network_grows (line.Network b) = stays c.networks
   below_network_grows (line.Link b) = stays c.networks
-  below_network_grows (line.Extend b) = extended_grows c text r.read r.fault (last_network c.networks)
+  below_network_grows (line.Extend b) = extended_grows c n text r (last_network c.networks)
   below_network_grows (line.Clients b) = stays c.networks
   below_network_grows (line.Allow b) = stays c.networks
   below_network_grows (line.Trust b) = stays c.networks
@@ -99,6 +99,7 @@ module _ (n : ℕ) (text : List ℕ) (r : Reading) (c : Configuration) where
   below_network_grows (line.Kilobits b) = stays c.networks
   below_network_grows (line.Nodes b) = stays c.networks
   below_network_grows (line.Internal b) = stays c.networks
+  below_network_grows (line.Adopt b) = extended_grows c n text r (last_network c.networks)
 
   last_grows : Grows c.networks (link_extended_by c n text r (last_link c.links)).0.networks
   last_grows = link_extended_grows c n text r (last_link c.links)
@@ -110,7 +111,7 @@ module _ (n : ℕ) (text : List ℕ) (r : Reading) (c : Configuration) where
   below_link_grows line.Nothing = tunnel_grows
   below_link_grows (line.Network b) = tunnel_grows
   below_link_grows (line.Link b) = tunnel_grows
-  below_link_grows (line.Extend b) = extended_grows c text r.read r.fault (last_network c.networks)
+  below_link_grows (line.Extend b) = extended_grows c n text r (last_network c.networks)
   below_link_grows (line.Clients b) = tunnel_grows
   below_link_grows (line.Allow b) = tunnel_grows
   below_link_grows (line.Trust b) = tunnel_grows
@@ -119,6 +120,7 @@ module _ (n : ℕ) (text : List ℕ) (r : Reading) (c : Configuration) where
   below_link_grows (line.Kilobits b) = tunnel_grows
   below_link_grows (line.Nodes b) = tunnel_grows
   below_link_grows (line.Internal b) = tunnel_grows
+  below_link_grows (line.Adopt b) = extended_grows c n text r (last_network c.networks)
 
   below_grows : Grows c.networks (taken_below n text r c).0.networks
   below_grows =
@@ -139,6 +141,7 @@ module _ (n : ℕ) (text : List ℕ) (r : Reading) (c : Configuration) where
   taken_grows capacity (line.Kilobits b) = below_grows
   taken_grows capacity (line.Nodes b) = below_grows
   taken_grows capacity (line.Internal b) = internal_grows capacity n b r.fault c
+  taken_grows capacity (line.Adopt b) = below_grows
 
 pub grows : (capacity : Capacity) (n : ℕ) (text : List ℕ) (c : Configuration) → Grows c.networks (after capacity n text c).networks
 grows capacity n text c = let r = read_in capacity text c in taken_grows n text r c capacity r.line

@@ -105,3 +105,4 @@ unchanged capacity n text r c f (line.Strangers b) is wrong = absurd (true≢fal
 unchanged capacity n text r c f (line.Kilobits b) is wrong = absurd (true≢false (sym is))
 unchanged capacity n text r c f (line.Nodes b) is wrong = absurd (true≢false (sym is))
 unchanged capacity n text r c f (line.Internal b) is wrong = absurd (true≢false (sym is))
+unchanged capacity n text r c f (line.Adopt b) is wrong = absurd (true≢false (sym is))

@@ -37,6 +37,7 @@ of_internal (line.Rate b) is = absurd (true≢false (sym is))
 of_internal (line.Strangers b) is = absurd (true≢false (sym is))
 of_internal (line.Kilobits b) is = absurd (true≢false (sym is))
 of_internal (line.Nodes b) is = absurd (true≢false (sym is))
+of_internal (line.Adopt b) is = absurd (true≢false (sym is))
 
 module _ (capacity : Capacity) (n : ℕ) (text : List ℕ) (r : Reading) (c : Configuration) where
   pub again : (l : Line) → is_of_internal l ≡ true → 0 < c.internal.line → (taken_by capacity n text r l c).1 ≡ Some (fault.Once c.internal.line)
@@ -72,7 +73,7 @@ module _ (n : ℕ) (text : List ℕ) (r : Reading) (c : Configuration) where
   one_of true x y one other = one
   one_of false x y one other = other
 
-  extended_same : (o : Option NetworkSetting) → Same (extended_by c text r.read r.fault o)
+  extended_same : (o : Option NetworkSetting) → Same (extended_by c n text r o)
   extended_same None = refl
   extended_same (Some network) = refl
 
@@ -83,7 +84,7 @@ module _ (n : ℕ) (text : List ℕ) (r : Reading) (c : Configuration) where
   tunnel_same : Same (if is_below_tunnel c then link_extended_by c n text r (last_link c.links) else (c, Some (tunnel_fault c)))
   tunnel_same = either (is_below_tunnel c) (link_extended_by c n text r (last_link c.links)) (c, Some (tunnel_fault c)) (link_same (last_link c.links)) refl
 
-  below_network_same : (l : Line) → Same (below_network_by text r l c)
+  below_network_same : (l : Line) → Same (below_network_by n text r l c)
   below_network_same line.Nothing = refl
   below_network_same (line.Network b) = refl
   below_network_same (line.Link b) = refl
@@ -96,6 +97,7 @@ module _ (n : ℕ) (text : List ℕ) (r : Reading) (c : Configuration) where
   below_network_same (line.Kilobits b) = refl
   below_network_same (line.Nodes b) = refl
   below_network_same (line.Internal b) = refl
+  below_network_same (line.Adopt b) = extended_same (last_network c.networks)
 
   below_link_same : (l : Line) → Same (below_link_by n text r l c)
   below_link_same line.Nothing = tunnel_same
@@ -110,6 +112,7 @@ module _ (n : ℕ) (text : List ℕ) (r : Reading) (c : Configuration) where
   below_link_same (line.Kilobits b) = tunnel_same
   below_link_same (line.Nodes b) = tunnel_same
   below_link_same (line.Internal b) = tunnel_same
+  below_link_same (line.Adopt b) = extended_same (last_network c.networks)
 
   below_same : Same (taken_below n text r c)
   below_same =
@@ -134,6 +137,7 @@ module _ (n : ℕ) (text : List ℕ) (r : Reading) (c : Configuration) where
   others capacity (line.Strangers b) is = below_same
   others capacity (line.Kilobits b) is = below_same
   others capacity (line.Nodes b) is = below_same
+  others capacity (line.Adopt b) is = below_same
 
 -- ---- its number
 

@@ -118,6 +118,7 @@ network_by line first head node is_of_several = record {
   has_node = is_some node;
   node = unwrap_or node (replicate 6 0);
   sockets = no_sockets;
+  adopt_line = 0;
 }
 
 abbrev pub network_of : ℕ → ℕ → NetworkBegun → Bool → NetworkSetting
@@ -212,6 +213,7 @@ with_a_link n = record {
   has_node = n.has_node;
   node = n.node;
   sockets = n.sockets;
+  adopt_line = n.adopt_line;
 }
 
 abbrev pub now_linked : NetworkList → Option NetworkSetting → NetworkList
@@ -232,14 +234,14 @@ link_line capacity line begun own c =
 
 -- ---- lines below
 
-abbrev pub extended_by : Configuration → List ℕ → ℕ → Option Expected → Option NetworkSetting → Configuration × Option Fault
-extended_by c text read own None = (c, None)
-extended_by c text read own (Some network) =
-    (configuration_at (with_last_network c.networks (network_taken network text read own).0) c.links c.internal c.above, (network_taken network text read own).1)
+abbrev pub extended_by : Configuration → ℕ → List ℕ → Reading → Option NetworkSetting → Configuration × Option Fault
+extended_by c line text r None = (c, None)
+extended_by c line text r (Some network) =
+    (configuration_at (with_last_network c.networks (network_taken line text r network).0) c.links c.internal c.above, (network_taken line text r network).1)
 
--- behind a line `extend`, which the last network takes
-abbrev pub extended : List ℕ → ℕ → Option Expected → Configuration → Configuration × Option Fault
-extended text read own c = extended_by c text read own (last_network c.networks)
+-- behind a line that the last network takes
+abbrev pub extended : ℕ → List ℕ → Reading → Configuration → Configuration × Option Fault
+extended line text r c = extended_by c line text r (last_network c.networks)
 
 abbrev pub link_extended_by : Configuration → ℕ → List ℕ → Reading → Option LinkSetting → Configuration × Option Fault
 link_extended_by c line text r None = (c, None)
@@ -259,16 +261,18 @@ tunnel_fault_by (Some network) = if network.is_of_several then fault.BelowTunnel
 abbrev pub tunnel_fault : Configuration → Fault
 tunnel_fault c = tunnel_fault_by (last_network c.networks)
 
-abbrev pub below_network_by : List ℕ → Reading → Line → Configuration → Configuration × Option Fault
-below_network_by text r (line.Extend has_some) c = extended text r.read r.fault c
-below_network_by text r (line.Rate begun) c = (c, Some fault.BelowLink)
-below_network_by text r other c = (c, Some fault.BelowTunnelLink)
+abbrev pub below_network_by : ℕ → List ℕ → Reading → Line → Configuration → Configuration × Option Fault
+below_network_by n text r (line.Extend has_some) c = extended n text r c
+below_network_by n text r (line.Adopt is_off) c = extended n text r c
+below_network_by n text r (line.Rate begun) c = (c, Some fault.BelowLink)
+below_network_by n text r other c = (c, Some fault.BelowTunnelLink)
 
-abbrev pub below_network : List ℕ → Reading → Configuration → Configuration × Option Fault
-below_network text r c = below_network_by text r r.line c
+abbrev pub below_network : ℕ → List ℕ → Reading → Configuration → Configuration × Option Fault
+below_network n text r c = below_network_by n text r r.line c
 
 abbrev pub below_link_by : ℕ → List ℕ → Reading → Line → Configuration → Configuration × Option Fault
-below_link_by n text r (line.Extend has_some) c = extended text r.read r.fault c
+below_link_by n text r (line.Extend has_some) c = extended n text r c
+below_link_by n text r (line.Adopt is_off) c = extended n text r c
 below_link_by n text r (line.Rate begun) c = link_extended n text r c
 below_link_by n text r other c = if is_below_tunnel c then link_extended n text r c else (c, Some (tunnel_fault c))
 
@@ -279,7 +283,7 @@ below_link n text r c = below_link_by n text r r.line c
 abbrev pub taken_below : ℕ → List ℕ → Reading → Configuration → Configuration × Option Fault
 taken_below n text r c =
     if c.above == nothing then (c, Some fault.BelowNetwork)
-    else if c.above == a_network then below_network text r c
+    else if c.above == a_network then below_network n text r c
     else if c.above == a_link then below_link n text r c
     else (c, None)
 

@@ -1,14 +1,19 @@
--- The sockets that a line `extend` names.
+-- What a line below a network says of it.
 use Rattle.std.specs.Prelude.{ℕ, ◌+◌, Bool, if◌then◌else◌, not, nat_lt, List, [], ◌∷◌, Option, Some, None}
 use Rattle.ipx_settings.specs.Lines.{socket_of}
 use Rattle.ipx_settings.specs.declared.expected.Expected.{Expected}
+use Rattle.ipx_settings.specs.declared.line.Line.{Line}
+use Rattle.ipx_settings.specs.declared.line.Line.TheVariants as line
+use Rattle.ipx_settings.specs.declared.reading.Reading.{Reading}
 use Rattle.ipx_configuration.specs.Clashes.{first_of, when, line_fault}
-use Rattle.ipx_configuration.specs.Lines.{words_from}
+use Rattle.ipx_configuration.specs.Lines.{once, if_right, words_from}
 use Rattle.ipx_configuration.specs.Said.{has_socket, with_socket, most_sockets}
 use Rattle.ipx_configuration.specs.declared.fault.Fault.{Fault}
 use Rattle.ipx_configuration.specs.declared.fault.Fault.TheVariants as fault
 use Rattle.ipx_configuration.specs.declared.said.NetworkSetting.{NetworkSetting}
 use Rattle.ipx_configuration.specs.declared.said.Sockets.{Sockets}
+
+-- ---- the sockets that a line `extend` names
 
 -- one more, which isn't there yet, and for which there is room
 abbrev pub socket_fault : Sockets → ℕ → ℕ → Option Fault
@@ -43,11 +48,45 @@ with_sockets n sockets = record {
   has_node = n.has_node;
   node = n.node;
   sockets = sockets;
+  adopt_line = n.adopt_line;
 }
 
 abbrev pub taken_by : NetworkSetting → Sockets × Option Fault → Option Expected → NetworkSetting × Option Fault
 taken_by n taken own = (with_sockets n taken.0, first_of (taken.1 ∷ line_fault own ∷ []))
 
--- a network behind a line `extend`, and what is wrong with that
-abbrev pub network_taken : NetworkSetting → List ℕ → ℕ → Option Expected → NetworkSetting × Option Fault
-network_taken n text read own = taken_by n (sockets_from n.sockets 1 (words_from text 1 read)) own
+abbrev pub sockets_taken : NetworkSetting → List ℕ → ℕ → Option Expected → NetworkSetting × Option Fault
+sockets_taken n text read own = taken_by n (sockets_from n.sockets 1 (words_from text 1 read)) own
+
+-- ---- what comes from the cable is taken as it is
+
+abbrev pub with_adopt : NetworkSetting → ℕ → NetworkSetting
+with_adopt n line = record {
+  line = n.line;
+  first = n.first;
+  has_link = n.has_link;
+  number = n.number;
+  cost = n.cost;
+  longest = n.longest;
+  has_shares = n.has_shares;
+  routes = n.routes;
+  services = n.services;
+  is_of_several = n.is_of_several;
+  has_node = n.has_node;
+  node = n.node;
+  sockets = n.sockets;
+  adopt_line = line;
+}
+
+abbrev pub adopt_taken : ℕ → NetworkSetting → Option Expected → NetworkSetting × Option Fault
+adopt_taken line n own = if_right (once n.adopt_line own) n (with_adopt n line)
+
+-- ---- lines
+
+abbrev pub network_by : ℕ → List ℕ → Line → ℕ → Option Expected → NetworkSetting → NetworkSetting × Option Fault
+network_by number text (line.Extend has_some) read own n = sockets_taken n text read own
+network_by number text (line.Adopt is_off) read own n = adopt_taken number n own
+network_by number text other read own n = (n, None)
+
+-- what a network is behind a line that says more of it, and what is wrong with that line
+abbrev pub network_taken : ℕ → List ℕ → Reading → NetworkSetting → NetworkSetting × Option Fault
+network_taken number text r n = network_by number text r.line r.read r.fault n

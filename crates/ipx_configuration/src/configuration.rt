@@ -212,6 +212,7 @@ fn network_of(line: usize, first: usize, begun: NetworkBegun, is_of_several: boo
         has_node: begun.node().is_some(),
         node: begun.node().unwrap_or([0; 6]),
         sockets: Sockets::none(),
+        adopt_line: 0,
     }
 }
 
@@ -483,14 +484,14 @@ impl Configuration {
         fault
     }
 
-    /// Takes what a line `extend` says of the last network.
-    fn extend(&mut self, text: &[u8], read: usize, own: Option<Expected>) -> Option<Fault>
-        ensures fault { result ≡ (extended text.now read own self.old).1 }
-        ensures after { self.new ≡ (extended text.now read own self.old).0 }
+    /// Takes what a line says of the last network.
+    fn take_of_network(&mut self, line: usize, text: &[u8], reading: Reading) -> Option<Fault>
+        ensures fault { result ≡ (extended line text.now reading self.old).1 }
+        ensures after { self.new ≡ (extended line text.now reading self.old).0 }
     {
         match self.networks.last() {
             Some(network) => {
-                let (taken, fault) = network_taken(network, text, read, own);
+                let (taken, fault) = network_taken(line, text, reading, network);
                 self.networks.put_last(taken);
                 fault
             }
@@ -523,12 +524,13 @@ impl Configuration {
         }
     }
 
-    fn take_below_network(&mut self, text: &[u8], reading: Reading) -> Option<Fault>
-        ensures fault { result ≡ (below_network text.now reading self.old).1 }
-        ensures after { self.new ≡ (below_network text.now reading self.old).0 }
+    fn take_below_network(&mut self, line: usize, text: &[u8], reading: Reading) -> Option<Fault>
+        ensures fault { result ≡ (below_network line text.now reading self.old).1 }
+        ensures after { self.new ≡ (below_network line text.now reading self.old).0 }
     {
         match reading.line {
-            Line::Extend(_) => self.extend(text, reading.read, reading.fault),
+            Line::Extend(_) => self.take_of_network(line, text, reading),
+            Line::Adopt(_) => self.take_of_network(line, text, reading),
             Line::Rate(_) => Some(Fault::BelowLink),
             _ => Some(Fault::BelowTunnelLink),
         }
@@ -539,7 +541,8 @@ impl Configuration {
         ensures after { self.new ≡ (below_link line text.now reading self.old).0 }
     {
         match reading.line {
-            Line::Extend(_) => self.extend(text, reading.read, reading.fault),
+            Line::Extend(_) => self.take_of_network(line, text, reading),
+            Line::Adopt(_) => self.take_of_network(line, text, reading),
             Line::Rate(_) => self.take_of_link(line, text, reading),
             _ => {
                 if self.is_below_tunnel() {
@@ -558,7 +561,7 @@ impl Configuration {
     {
         match self.above {
             NOTHING => Some(Fault::BelowNetwork),
-            NETWORK => self.take_below_network(text, reading),
+            NETWORK => self.take_below_network(line, text, reading),
             LINK => self.take_below_link(line, text, reading),
             _ => None,
         }

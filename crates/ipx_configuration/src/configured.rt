@@ -67,6 +67,8 @@ pub struct LinkConfigured {
     pub trusted: Ranges,
     /// The nodes of clients may be their addresses.
     pub nodes_by_address: bool,
+    /// What comes from the cable gets the network's number where it says none, and what routers carried there is held.
+    pub adopts: bool,
 }
 
 fn is_tunnel_of(port: usize, link: LinkSetting) -> bool
@@ -171,6 +173,7 @@ fn configured_at(
         allowed: link.allowed,
         trusted: link.trusted,
         nodes_by_address: link.nodes_line > 0,
+        adopts: network.adopt_line == 0,
     }
 }
 

@@ -19,7 +19,7 @@ pub(crate) const USUAL_SHARE: u32 = 50;
 pub(crate) const USUAL_HOUSEHOLD: u32 = 16;
 
 /// What was expected where a line says again what another says already, or is wrong by itself.
-fn once(line: usize, own: Option<Expected>) -> Option<Fault>
+pub(crate) fn once(line: usize, own: Option<Expected>) -> Option<Fault>
     ensures { result ≡ once line own }
 {
     if line > 0 {

@@ -86,7 +86,7 @@ pub struct InternalSaid {
     pub node: [u8; 6],
 }
 
-/// A network, as its line says it, and the lines `extend` below.
+/// A network, as its line says it, and those below that say more of it.
 ///
 /// See the example of [`Configuration`](crate::Configuration).
 #[repr(C)]
@@ -114,6 +114,8 @@ pub struct NetworkSetting {
     pub has_node: bool,
     pub node: [u8; 6],
     pub sockets: Sockets,
+    /// The number of the line that says that the router takes what comes from the cable as it is, or 0.
+    pub adopt_line: usize,
 }
 
 /// A link, as its line says it, and the lines below.

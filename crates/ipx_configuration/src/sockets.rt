@@ -1,12 +1,13 @@
-//! The sockets that a line `extend` names.
+//! What a line below a network says of it.
 ghost use Rattle.std.specs.Prelude.{◌≡◌};
-ghost use Rattle.ipx_configuration.specs.Extends.{socket_fault, sockets_from, network_taken};
+ghost use Rattle.ipx_configuration.specs.Extends.{socket_fault, sockets_from, sockets_taken, adopt_taken, network_taken};
 ghost use Rattle.ipx_configuration.specs.Lines.{words_from};
 
 use crate::clash::line_fault;
 use crate::fault::Fault;
+use crate::lines::once;
 use crate::said::{MOST_SOCKETS, NetworkSetting, Sockets};
-use ipx_settings::{Expected, socket, word};
+use ipx_settings::{Expected, Line, Reading, socket, word};
 
 /// What was expected in place of one more socket, which the word with that number is.
 fn socket_fault(sockets: &Sockets, number: usize, found: u16) -> Option<Fault>
@@ -47,13 +48,13 @@ fn add_sockets(sockets: Sockets, text: &[u8], read: usize) -> (Sockets, Option<F
 }
 
 /// A network behind a line `extend`, and what is wrong with that.
-pub(crate) fn network_taken(
+fn sockets_taken(
     network: NetworkSetting,
     text: &[u8],
     read: usize,
     own: Option<Expected>,
 ) -> (NetworkSetting, Option<Fault>)
-    ensures { result ≡ network_taken network text.now read own }
+    ensures { result ≡ sockets_taken network text.now read own }
 {
     let (sockets, fault) = add_sockets(network.sockets, text, read);
     let mut taken = network;
@@ -62,4 +63,36 @@ pub(crate) fn network_taken(
         return (taken, fault);
     }
     (taken, line_fault(own))
+}
+
+fn adopt_taken(
+    line: usize,
+    network: NetworkSetting,
+    own: Option<Expected>,
+) -> (NetworkSetting, Option<Fault>)
+    ensures { result ≡ adopt_taken line network own }
+{
+    let fault = once(network.adopt_line, own);
+    let mut taken = network;
+    if fault.is_none() {
+        taken.adopt_line = line;
+    }
+    (taken, fault)
+}
+
+/// What a network is behind a line that says more of it, and what is wrong with that line.
+pub(crate) fn network_taken(
+    line: usize,
+    text: &[u8],
+    reading: Reading,
+    network: NetworkSetting,
+) -> (NetworkSetting, Option<Fault>)
+    ensures { result ≡ network_taken line text.now reading network }
+{
+    let own = reading.fault;
+    match reading.line {
+        Line::Extend(_) => sockets_taken(network, text, reading.read, own),
+        Line::Adopt(_) => adopt_taken(line, network, own),
+        _ => (network, None),
+    }
 }

@@ -125,6 +125,8 @@ can_end c (line.Internal (internal.Number number)) some = ends_now c (line.Inter
 can_end c (line.Internal (internal.Node number)) some =
     (codes "020000000001" ∷ [], (line.Internal (internal.Whole number (2 ∷ 0 ∷ 0 ∷ 0 ∷ 0 ∷ 1 ∷ [])), (refl, refl)))
 can_end c (line.Internal (internal.Whole number node)) some = ends_now c (line.Internal (internal.Whole number node)) refl
+can_end c (line.Adopt false) some = (codes "no" ∷ [], (line.Adopt true, (refl, refl)))
+can_end c (line.Adopt true) some = ends_now c (line.Adopt true) refl
 
 -- ---- what doesn't end says what was expected
 
@@ -188,3 +190,5 @@ refuses c (line.Internal internal.Nothing) open_still = (expected.Network, refl)
 refuses c (line.Internal (internal.Number number)) open_still = absurd cc
 refuses c (line.Internal (internal.Node number)) open_still = (expected.Node, refl)
 refuses c (line.Internal (internal.Whole number node)) open_still = absurd cc
+refuses c (line.Adopt false) open_still = (expected.No, refl)
+refuses c (line.Adopt true) open_still = absurd cc

@@ -15,7 +15,7 @@ use Rattle.ipx_settings.specs.Right.{IsWord, IsLink}
 use Rattle.ipx_settings.specs.RightLines.{Within, IsShares, IsHead, IsNode, MayHaveNode, IsWhole, IsNetwork, IsClients, IsRate, IsMost, IsInternal, IsRight}
 use Rattle.ipx_settings.specs.Words.{most_words}
 use Rattle.ipx_settings.specs.WritingLinks.{spaced, link_words}
-use Rattle.ipx_settings.specs.WritingLines.{bytes_digits, number_word, shares_words, head_words, maybe_link_words, begun_words, network_words, clients_words, rates_words, strangers_words, kilobits_words, nodes_words, internal_words, line_words}
+use Rattle.ipx_settings.specs.WritingLines.{bytes_digits, number_word, shares_words, head_words, maybe_link_words, begun_words, network_words, clients_words, rates_words, strangers_words, kilobits_words, nodes_words, internal_words, adopt_words, line_words}
 use Rattle.ipx_settings.specs.declared.expected.Expected.{Expected}
 use Rattle.ipx_settings.specs.declared.internal.InternalBegun.{InternalBegun}
 use Rattle.ipx_settings.specs.declared.internal.InternalBegun.TheVariants as internal
@@ -244,6 +244,10 @@ internal_line c (internal.Number number) is = (rw (network_again number is.0 is.
 internal_line c (internal.Node number) is = absurd is
 internal_line c (internal.Whole number node) is = (rw (network_again number is.0.0 is.0.1, node_again node is.1) refl, refl)
 
+adopt_line : (c : Context) (is_off : Bool) → is_off ≡ true → IsLine c (line.Adopt is_off) (codes "adopt" ∷ adopt_words is_off)
+adopt_line c false is = absurd cc
+adopt_line c true is = (refl, refl)
+
 pub line_again : (c : Context) (l : Line) → IsRight c l → IsLine c l (line_words l)
 line_again c line.Nothing is = (refl, refl)
 line_again c (line.Network it) is = network_line c it is
@@ -257,6 +261,7 @@ line_again c (line.Strangers it) is = strangers_line c it is
 line_again c (line.Kilobits it) is = kilobits_line c it is
 line_again c (line.Nodes by_address) is = nodes_line c by_address is
 line_again c (line.Internal it) is = internal_line c it is
+line_again c (line.Adopt is_off) is = adopt_line c is_off is
 
 -- ---- its words
 
@@ -333,6 +338,10 @@ internal_are_words (internal.Number number) is = (number_is_word number, tt)
 internal_are_words (internal.Node number) is = absurd is
 internal_are_words (internal.Whole number node) is = (number_is_word number, (literal (codes "node") (omega arith) refl, (node_is_word node is.1, tt)))
 
+adopt_are_words : (is_off : Bool) → AllByRecursion IsWord (adopt_words is_off)
+adopt_are_words false = tt
+adopt_are_words true = (literal (codes "no") (omega arith) refl, tt)
+
 line_is_words : (c : Context) (l : Line) → IsRight c l → AllByRecursion IsWord (line_words l)
 line_is_words c line.Nothing is = tt
 line_is_words c (line.Network it) is = network_is_words c.has_cards it is
@@ -346,6 +355,7 @@ line_is_words c (line.Strangers it) is = (literal (codes "strangers") (omega ari
 line_is_words c (line.Kilobits it) is = (literal (codes "line") (omega arith) refl, kilobits_are_words it is)
 line_is_words c (line.Nodes by_address) is = (literal (codes "nodes") (omega arith) refl, nodes_are_words by_address)
 line_is_words c (line.Internal it) is = (literal (codes "internal") (omega arith) refl, internal_are_words it is)
+line_is_words c (line.Adopt is_off) is = (literal (codes "adopt") (omega arith) refl, adopt_are_words is_off)
 
 -- ---- how many they are
 
@@ -417,6 +427,8 @@ line_count (line.Internal internal.Nothing) = omega arith
 line_count (line.Internal (internal.Number number)) = omega arith
 line_count (line.Internal (internal.Node number)) = omega arith
 line_count (line.Internal (internal.Whole number node)) = omega arith
+line_count (line.Adopt false) = omega arith
+line_count (line.Adopt true) = omega arith
 
 -- ---- texts
 

@@ -4,7 +4,7 @@ use Rattle.std.specs.Option.{is_some, is_none}
 use Rattle.std.specs.Prelude.{Result, Ok, Err, codes}
 use Rattle.ipx_settings.specs.Addresses.{range_of, is_first}
 use Rattle.ipx_settings.specs.Beginnings.{if_right, said_by}
-use Rattle.ipx_settings.specs.Lines.{most_rate, most_kilobits, rate_or_none, socket_of, line_first, clients_step, share_behind, rate_step, strangers_step, kilobits_step, nodes_step, range_by, with_network, with_internal, line_step, line_ends, read_from, read_to, reading_by, reading_of}
+use Rattle.ipx_settings.specs.Lines.{most_rate, most_kilobits, rate_or_none, socket_of, line_first, clients_step, share_behind, rate_step, strangers_step, kilobits_step, nodes_step, adopt_step, range_by, with_network, with_internal, line_step, line_ends, read_from, read_to, reading_by, reading_of}
 use Rattle.ipx_settings.specs.Lines as lines
 use Rattle.ipx_settings.specs.Internals.{internal_step, internal_ends}
 use Rattle.ipx_settings.specs.Links.{said, is_the, link_step, link_ends}
@@ -234,6 +234,7 @@ LinePart c (line.Strangers it) = MostPart 0 most_rate it
 LinePart c (line.Kilobits it) = MostPart 1 most_kilobits it
 LinePart c (line.Nodes by_address) = Unit {0}
 LinePart c (line.Internal it) = InternalPart it
+LinePart c (line.Adopt is_off) = Unit {0}
 
 first_part : (c : Context) (word : List ℕ) (next : Line) → line_first word ≡ Ok next → LinePart c next
 first_part c word next e =
@@ -248,8 +249,9 @@ first_part c word next e =
     chosen_right P (is_the word (codes "strangers")) _ _ next (λ _ f. ok_right P (line.Strangers None) next tt f) (λ _ e8.
     chosen_right P (is_the word (codes "line")) _ _ next (λ _ f. ok_right P (line.Kilobits None) next tt f) (λ _ e9.
     chosen_right P (is_the word (codes "nodes")) _ _ next (λ _ f. ok_right P (line.Nodes false) next tt f) (λ _ e10.
-    chosen_right P (is_the word (codes "internal")) _ _ next (λ _ f. ok_right P (line.Internal internal.Nothing) next tt f) (λ _ f. absurd (no_error expected.Line next f))
-    e10) e9) e8) e7) e6) e5) e4) e3) e2) e1) e
+    chosen_right P (is_the word (codes "internal")) _ _ next (λ _ f. ok_right P (line.Internal internal.Nothing) next tt f) (λ _ e11.
+    chosen_right P (is_the word (codes "adopt")) _ _ next (λ _ f. ok_right P (line.Adopt false) next tt f) (λ _ f. absurd (no_error expected.Line next f))
+    e11) e10) e9) e8) e7) e6) e5) e4) e3) e2) e1) e
 
 network_line_part : (c : Context) (b : NetworkBegun) (word : List ℕ) (r : Result NetworkBegun Expected) (next : Line) → IsWord word → NetworkPart c.has_cards b → network_step c.has_cards b word ≡ r
     → with_network r ≡ Ok next → LinePart c next
@@ -317,6 +319,12 @@ internal_line_part : (c : Context) (it : InternalBegun) (word : List ℕ) (r : R
 internal_line_part c it word (Ok more) next part read e = ok_right (LinePart c) (line.Internal more) next (internal_part it more word part read) e
 internal_line_part c it word (Err why) next part read e = absurd (no_error why next e)
 
+adopt_part : (c : Context) (is_off : Bool) (word : List ℕ) (next : Line) → adopt_step is_off word ≡ Ok next → LinePart c next
+adopt_part c is_off word next e =
+    let P = LinePart c in
+    chosen_right P is_off _ _ next (λ _ f. absurd (no_error expected.Nothing next f)) (λ _ e1.
+    chosen_right P (is_the word (codes "no")) _ _ next (λ _ f. ok_right P (line.Adopt true) next tt f) (λ _ f. absurd (no_error expected.No next f)) e1) e
+
 line_part : (c : Context) (l next : Line) (word : List ℕ) → IsWord word → LinePart c l → line_step c l word ≡ Ok next → LinePart c next
 line_part c line.Nothing next word one part e = first_part c word next e
 line_part c (line.Network b) next word one part e = network_line_part c b word (network_step c.has_cards b word) next one part refl e
@@ -330,6 +338,7 @@ line_part c (line.Strangers it) next word one part e = strangers_part c it word 
 line_part c (line.Kilobits it) next word one part e = kilobits_part c it word next e
 line_part c (line.Nodes by_address) next word one part e = nodes_part c by_address word next e
 line_part c (line.Internal it) next word one part e = internal_line_part c it word (internal_step it word) next part refl e
+line_part c (line.Adopt is_off) next word one part e = adopt_part c is_off word next e
 
 said_part : (c : Context) (l last : Line) (ws : List (List ℕ)) → AllByRecursion IsWord ws → LinePart c l → said_by c l ws ≡ Some last → LinePart c last
 said_part c l last [] are part e = subst (LinePart c) (one_value l last e) part
@@ -374,6 +383,7 @@ line_said c (line.Strangers it) part ends = most_right 0 most_rate it part ends
 line_said c (line.Kilobits it) part ends = most_right 1 most_kilobits it part ends
 line_said c (line.Nodes by_address) part ends = ends
 line_said c (line.Internal it) part ends = internal_right it part ends
+line_said c (line.Adopt is_off) part ends = ends
 
 words_said : (c : Context) (ws : List (List ℕ)) → AllByRecursion IsWord ws → (reading_by c ws).fault ≡ None → IsSaid c (reading_by c ws).line
 words_said c ws are none = by (nat_lt most_words (length ws)) refl

@@ -1,3 +1,4 @@
 -- Worked examples: each is checked by computing it.
 pub mod Nodes
 pub mod Internal
+pub mod Adopt

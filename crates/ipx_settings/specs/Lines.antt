@@ -53,6 +53,7 @@ line_first word =
     else if is_the word (codes "line") then Ok (line.Kilobits None)
     else if is_the word (codes "nodes") then Ok (line.Nodes false)
     else if is_the word (codes "internal") then Ok (line.Internal internal.Nothing)
+    else if is_the word (codes "adopt") then Ok (line.Adopt false)
     else Err expected.Line
 
 -- the most clients, and the most of one address, which are no more
@@ -92,6 +93,13 @@ nodes_step by_address word =
     else if is_the word (codes "by-address") then Ok (line.Nodes true)
     else Err expected.ByAddress
 
+-- the one word that may follow adopt
+abbrev pub adopt_step : Bool → List ℕ → Result Line Expected
+adopt_step is_off word =
+    if is_off then Err expected.Nothing
+    else if is_the word (codes "no") then Ok (line.Adopt true)
+    else Err expected.No
+
 abbrev pub socket_step : List ℕ → Result Line Expected
 socket_step word = said expected.Socket (λ socket. line.Extend true) (socket_of word)
 
@@ -129,6 +137,7 @@ line_step c (line.Strangers begun) word = strangers_step begun word
 line_step c (line.Kilobits begun) word = kilobits_step begun word
 line_step c (line.Nodes by_address) word = nodes_step by_address word
 line_step c (line.Internal begun) word = with_internal (internal_step begun word)
+line_step c (line.Adopt is_off) word = adopt_step is_off word
 
 abbrev pub clients_end : ClientsBegun → Bool
 clients_end clients.Nothing = false
@@ -155,6 +164,7 @@ line_ends (line.Strangers begun) = is_some begun
 line_ends (line.Kilobits begun) = is_some begun
 line_ends (line.Nodes by_address) = by_address
 line_ends (line.Internal begun) = internal_ends begun
+line_ends (line.Adopt is_off) = is_off
 
 abbrev pub fault_of : {A : Type 0} → Result A Expected → Option Expected
 fault_of (Ok a) = None

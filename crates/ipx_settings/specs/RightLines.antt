@@ -96,6 +96,7 @@ IsRight c (line.Strangers it) = IsMost 0 most_rate it
 IsRight c (line.Kilobits it) = IsMost 1 most_kilobits it
 IsRight c (line.Nodes by_address) = by_address ≡ true
 IsRight c (line.Internal it) = IsInternal it
+IsRight c (line.Adopt is_off) = is_off ≡ true
 
 -- a range whose address is its first
 abbrev pub IsRange : HostRange → Type 0
@@ -119,3 +120,4 @@ IsSaid c (line.Strangers it) = IsMost 0 most_rate it
 IsSaid c (line.Kilobits it) = IsMost 1 most_kilobits it
 IsSaid c (line.Nodes by_address) = by_address ≡ true
 IsSaid c (line.Internal it) = IsInternal it
+IsSaid c (line.Adopt is_off) = is_off ≡ true

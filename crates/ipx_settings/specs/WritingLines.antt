@@ -92,6 +92,10 @@ internal_words (internal.Number number) = number_word number ∷ []
 internal_words (internal.Whole number node) = number_word number ∷ codes "node" ∷ bytes_digits node ∷ []
 internal_words other = []
 
+abbrev pub adopt_words : Bool → List (List ℕ)
+adopt_words false = []
+adopt_words true = codes "no" ∷ []
+
 -- all words of a line but for lists, which are written by themselves
 abbrev pub line_words : Line → List (List ℕ)
 line_words line.Nothing = []
@@ -106,6 +110,7 @@ line_words (line.Strangers it) = codes "strangers" ∷ strangers_words it
 line_words (line.Kilobits it) = codes "line" ∷ kilobits_words it
 line_words (line.Nodes by_address) = codes "nodes" ∷ nodes_words by_address
 line_words (line.Internal it) = codes "internal" ∷ internal_words it
+line_words (line.Adopt is_off) = codes "adopt" ∷ adopt_words is_off
 
 -- a socket by four digits
 abbrev pub socket_word : ℕ → List ℕ

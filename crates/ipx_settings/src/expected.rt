@@ -69,4 +69,6 @@ pub enum Expected {
     FewerWords,
     /// `by-address`.
     ByAddress,
+    /// `no`.
+    No,
 }

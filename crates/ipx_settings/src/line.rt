@@ -1,6 +1,6 @@
 //! A line, word by word.
 ghost use Rattle.std.specs.Prelude.{◌≡◌};
-ghost use Rattle.ipx_settings.specs.Lines.{rate_or_none, socket_of, share_behind, line_first, clients_step, rate_step, strangers_step, kilobits_step, nodes_step, socket_step, range_step, line_step, line_ends, ended};
+ghost use Rattle.ipx_settings.specs.Lines.{rate_or_none, socket_of, share_behind, line_first, clients_step, rate_step, strangers_step, kilobits_step, nodes_step, adopt_step, socket_step, range_step, line_step, line_ends, ended};
 
 use crate::addresses::{HostRange, read_range};
 use crate::expected::Expected;
@@ -79,6 +79,8 @@ pub enum Line {
     Nodes(bool),
     /// The router's own network.
     Internal(InternalBegun),
+    /// The router takes what comes from the cable as it is; false where the word `no` is missing still.
+    Adopt(bool),
 }
 
 /// A number a second, or 0 for `none`.
@@ -125,6 +127,8 @@ fn first(word: &[u8]) -> Result<Line, Expected>
         Ok(Line::Nodes(false))
     } else if is_word(word, b"internal") {
         Ok(Line::Internal(InternalBegun::Nothing))
+    } else if is_word(word, b"adopt") {
+        Ok(Line::Adopt(false))
     } else {
         Err(Expected::Line)
     }
@@ -220,6 +224,19 @@ fn nodes_step(by_address: bool, word: &[u8]) -> Result<Line, Expected>
     }
 }
 
+/// The one word that may follow `adopt`.
+fn adopt_step(is_off: bool, word: &[u8]) -> Result<Line, Expected>
+    ensures { result ≡ adopt_step is_off word.now }
+{
+    if is_off {
+        Err(Expected::Nothing)
+    } else if is_word(word, b"no") {
+        Ok(Line::Adopt(true))
+    } else {
+        Err(Expected::No)
+    }
+}
+
 fn socket_step(word: &[u8]) -> Result<Line, Expected>
     ensures { result ≡ socket_step word.now }
 {
@@ -272,6 +289,7 @@ impl Line {
                 Ok(next) => Ok(Line::Internal(next)),
                 Err(expected) => Err(expected),
             },
+            Line::Adopt(is_off) => adopt_step(is_off, word),
         }
     }
 
@@ -292,6 +310,7 @@ impl Line {
             Line::Kilobits(begun) => begun.is_some(),
             Line::Nodes(by_address) => by_address,
             Line::Internal(begun) => begun.ends(),
+            Line::Adopt(is_off) => is_off,
         }
     }
 

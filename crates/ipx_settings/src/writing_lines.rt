@@ -2,7 +2,7 @@
 ghost use Rattle.std.specs.Prelude.{◌≡◌, ◌+◌, ◌*◌, ◌<◌, ◌≤◌, ◌∷◌, [], ◌++◌, length, take, codes, decimal, Some};
 ghost use Rattle.ipx_settings.specs.Writing.{written_size, written_into};
 ghost use Rattle.ipx_settings.specs.WritingLinks.{spaced, link_words};
-ghost use Rattle.ipx_settings.specs.WritingLines.{bytes_digits, head_words, maybe_link_words, begun_words, network_words, rate_word, clients_words, rates_words, strangers_words, kilobits_words, nodes_words, internal_words, line_words};
+ghost use Rattle.ipx_settings.specs.WritingLines.{bytes_digits, head_words, maybe_link_words, begun_words, network_words, rate_word, clients_words, rates_words, strangers_words, kilobits_words, nodes_words, internal_words, adopt_words, line_words};
 
 use crate::internal::InternalBegun;
 use crate::line::{ClientsBegun, Line, RateBegun};
@@ -248,6 +248,19 @@ fn put_internal(room: &mut [u8], at: usize, internal: InternalBegun) -> usize
     }
 }
 
+fn put_adopt(room: &mut [u8], at: usize, is_off: bool) -> usize
+    requires { at + 8 ≤ length room.old }
+    ensures room { take result room.new ≡ take at room.old ++ spaced (codes "adopt" ∷ adopt_words is_off) }
+    ensures most { result ≤ at + 8 }
+    ensures size { length room.new ≡ length room.old }
+{
+    if is_off {
+        put_text(room, at, b"adopt no")
+    } else {
+        put_text(room, at, b"adopt")
+    }
+}
+
 /// Puts a line but for its list.
 fn put_line(room: &mut [u8], at: usize, line: &Line) -> usize
     requires { at + LONGEST_LINE ≤ length room.old }
@@ -268,6 +281,7 @@ fn put_line(room: &mut [u8], at: usize, line: &Line) -> usize
         Line::Kilobits(kilobits) => put_kilobits(room, at, *kilobits),
         Line::Nodes(by_address) => put_nodes(room, at, *by_address),
         Line::Internal(internal) => put_internal(room, at, *internal),
+        Line::Adopt(is_off) => put_adopt(room, at, *is_off),
     }
 }
 
