@@ -1,5 +1,6 @@
 pub mod Advertised
 pub mod Again
+pub mod Claims
 pub mod Filters
 pub mod Fitting
 pub mod Headers
@@ -8,12 +9,15 @@ pub mod Keeping
 pub mod Kept
 pub mod Leaving
 pub mod Left
+pub mod Nearer
 pub mod Numbers
 pub mod Packets
 pub mod Pieces
 pub mod Rewritten
 pub mod Routing
 pub mod SameWords
+pub mod Spoken
+pub mod Taught
 pub mod Twice
 pub mod Unchanged
 pub mod examples

@@ -95,7 +95,7 @@ fn is_routing(way: Way, port: &Port, header: Header) -> bool
     }
 }
 
-fn is_advertising(way: Way, port: &Port, header: Header) -> bool
+pub(crate) fn is_advertising(way: Way, port: &Port, header: Header) -> bool
     ensures { result ≡ is_advertising way port.now header }
 {
     match way {

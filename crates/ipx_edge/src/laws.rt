@@ -1,22 +1,32 @@
 //! What holds by the definitions alone, of every packet.
-ghost use Rattle.std.specs.Prelude.{◌≡◌, ◌≢◌, ℕ, ◌<◌, ◌⊎◌, Bool, true, false, List, [], ◌∷◌, ◌++◌, length, None, Some, Ok, Err};
+ghost use Rattle.std.specs.Prelude.{◌≡◌, ◌≢◌, ℕ, ◌<◌, ◌≤◌, ◌⊎◌, if◌then◌else◌, Bool, true, false, List, [], ◌∷◌, ◌++◌, length, map, slice_get, None, Some, Ok, Err};
 ghost use Rattle.std.specs.List.{filter, AllByRecursion};
 ghost use Rattle.std.specs.Option.{option_map};
 ghost use Rattle.ipx_wire.specs.Forward.{forwarded};
-ghost use Rattle.ipx_wire.specs.Numbers.{local_network};
+ghost use Rattle.ipx_wire.specs.Numbers.{local_network, rip_socket, sap_socket};
 ghost use Rattle.ipx_wire.specs.Packet.{Parts, packet_of};
 ghost use Rattle.ipx_wire.specs.Piece.{piece};
 ghost use Rattle.ipx_wire.specs.Rip.{RipParts, rip_of};
 ghost use Rattle.ipx_wire.specs.Sap.{sap_of};
+ghost use Rattle.ipx_wire.specs.Write.{rip_packet_parts};
+ghost use Rattle.ipx_wire.specs.WriteServices.{sap_packet_parts, entry_of};
+ghost use Rattle.ipx_wire.specs.declared.network.Network.{Network};
+ghost use Rattle.ipx_wire.specs.declared.node.Node.{Node};
 ghost use Rattle.ipx_wire.specs.declared.packet.PacketFault.{PacketFault};
+ghost use Rattle.ipx_wire.specs.declared.rip.Operation.{Operation};
+ghost use Rattle.ipx_wire.specs.declared.rip.RipEntry.{RipEntry};
 ghost use Rattle.ipx_wire.specs.declared.rip.Operation.TheVariants.{Response as RipResponse};
 ghost use Rattle.ipx_wire.specs.declared.sap.Sap.TheVariants.{Response};
 ghost use Rattle.ipx_wire.specs.declared.sap_entries.SapEntry.{SapEntry};
-ghost use Rattle.ipx_router.specs.Heard.{Heard, heard};
-ghost use Rattle.ipx_router.specs.Port.{Port, IsPort, port_at};
+ghost use Rattle.ipx_wire.specs.declared.service.Service.{Service};
+ghost use Rattle.ipx_router.specs.Heard.{Heard, HeardRip, HeardSap, heard};
+ghost use Rattle.ipx_router.specs.Port.{Port, IsPort, port_at, broadcast, is_up, same_node, is_local, own_address, everyone, own_services, every_server};
 ghost use Rattle.ipx_edge.specs.Numbered.{is_own_service, services_told, numbered};
 ghost use Rattle.ipx_edge.specs.Entered.{is_for_neighbours, is_from_afar, entered};
 ghost use Rattle.ipx_edge.specs.Filtered.{is_routing, is_advertising, filtered};
+ghost use Rattle.ipx_edge.specs.Claimed.{claimed};
+ghost use Rattle.ipx_edge.specs.Needless.{is_needless};
+ghost use Rattle.ipx_edge.specs.Statics.{neighbour_at, static_routes, static_services};
 ghost use Rattle.ipx_edge.specs.Laws.{IsDirect, IsElsewhere, IsReadAgain, NamesNothing, RoutesLeft, ServicesLeft, own_words};
 ghost use Rattle.ipx_edge.specs.Rules.{names_packet, names_route, names_service, permits};
 ghost use Rattle.ipx_edge.specs.declared.rule.Rule.{Rule};
@@ -117,4 +127,37 @@ pub fn sends_no_empty_response()
 /// What has passed a filter passes it again, byte for byte.
 pub fn passes_again()
     ensures { (way : Way) (port : Port) (rules : List Rule) (bytes new : List ℕ) → filtered way port rules bytes ≡ Some new → filtered way port rules new ≡ Some new }
+{}
+
+/// Two routers that number one cable differently both say so: what the one broadcasts there claims its number at the other's port, but only
+/// where the numbers differ. Such a claim is never heard, nor is it of the port's own network, or of 0.
+pub fn claims_other_numbers()
+    ensures routes { (port other : Port) (bytes : List ℕ) (operation : Operation) (entries : List RipEntry) → packet_of bytes ≡ Ok (rip_packet_parts (own_address other) (everyone other) operation entries)
+        → claimed port bytes ≡ (if is_local port other.network then None else Some other.network) }
+    ensures services { (port other : Port) (bytes : List ℕ) (nearest : Bool) (services : List Service) → packet_of bytes ≡ Ok (sap_packet_parts (own_services other) (every_server other) nearest services)
+        → claimed port bytes ≡ (if is_local port other.network then None else Some other.network) }
+    ensures unheard { (ports : List Port) (up : List ℕ) (running : Bool) (number : ℕ) (bytes : List ℕ) (network : Network) → claimed (port_at ports number) bytes ≡ Some network
+        → heard ports up running number bytes ≡ None }
+    ensures other { (port : Port) (bytes : List ℕ) (network : Network) → claimed port bytes ≡ Some network → is_local port network ≡ false }
+{}
+
+/// No answer is left out that names a service nearer than so many hops, and what is left out for a server that is far away is left out for
+/// one that is nearer, too.
+pub fn leaves_nearer_answers()
+    ensures nearer { (port : Port) (hops k : ℕ) (bytes : List ℕ) (p : Parts) (nearest : Bool) (entries : List SapEntry) (entry : SapEntry) → packet_of bytes ≡ Ok p
+        → sap_of p.payload ≡ Ok (Response nearest entries) → slice_get entries k ≡ Some entry → entry.hops < hops → is_needless port hops bytes ≡ false }
+    ensures fewer { (port : Port) (few many : ℕ) (bytes : List ℕ) → few ≤ many → is_needless port many bytes ≡ true → is_needless port few bytes ≡ true }
+{}
+
+/// What is written in a neighbour's name is heard, by the router's own checks, as that neighbour's word: exactly those routes, or services,
+/// on a port that is up, as long as the node is neither the port's own nor that of all nodes.
+pub fn speaks_for_neighbours()
+    ensures routes { (ports : List Port) (up : List ℕ) (number : ℕ) (bytes : List ℕ) (node : Node) (entries : List RipEntry) (r : RipParts)
+        → packet_of bytes ≡ Ok (static_routes (port_at ports number) node entries) → rip_of (static_routes (port_at ports number) node entries).payload ≡ Ok r
+        → same_node node (port_at ports number).node ≡ false → same_node node broadcast ≡ false → is_up up number ≡ true
+        → heard ports up true number bytes ≡ Some (HeardRip (neighbour_at (port_at ports number) node rip_socket) r) }
+    ensures services { (ports : List Port) (up : List ℕ) (number : ℕ) (bytes : List ℕ) (node : Node) (services : List Service) (entries : List SapEntry)
+        → packet_of bytes ≡ Ok (static_services (port_at ports number) node services) → sap_of (static_services (port_at ports number) node services).payload ≡ Ok (Response false entries)
+        → same_node node (port_at ports number).node ≡ false → same_node node broadcast ≡ false → is_up up number ≡ true
+        → heard ports up true number bytes ≡ Some (HeardSap (neighbour_at (port_at ports number) node sap_socket) (Response false entries)) }
 {}

@@ -13,13 +13,13 @@ pub(crate) fn is_near(port: &Port, header: Header) -> bool
     !is_propagated(header) && is_local(port, header.destination.network)
 }
 
-fn is_propagated(header: Header) -> bool
+pub(crate) fn is_propagated(header: Header) -> bool
     ensures { result ≡ is_propagated header }
 {
     header.kind == Header::PROPAGATED && header.destination.node == Node::BROADCAST
 }
 
-fn is_local(port: &Port, network: Network) -> bool
+pub(crate) fn is_local(port: &Port, network: Network) -> bool
     ensures { result ≡ is_local port.now network }
 {
     network == Network::LOCAL || network == port.network()

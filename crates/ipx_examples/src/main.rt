@@ -33,7 +33,7 @@ use ipx_internet::Internet;
 use ipx_router::{Event, Outbox, Outcome, Port, PortFault, Router, Why};
 use ipx_table::Table;
 use ipx_tunnel::{Cookies, Sender};
-use ipx_wire::{Address, Network, Node, Packet, ServiceName, Socket};
+use ipx_wire::{Address, Network, Node, Packet, Service, ServiceName, Socket};
 
 /// Node BB, a router on network 20, advertises network 30.
 const ROUTES: [u8; 40] = [
@@ -163,6 +163,15 @@ fn route(rt: &HostRuntime) -> Result<()> {
     edges::numbered(rt, port(0x50, 1)?)?;
     edges::held(rt, port(0x20, 1)?, &ROUTES)?;
     edges::filtered(rt, port(0x20, 1)?, &ROUTES)?;
+    edges::claimed(rt, port(0x50, 1)?, &ROUTES)?;
+    let far = Service {
+        kind: 4,
+        name: ServiceName::default(),
+        address: at(0xBB),
+        hops: 4,
+    };
+    edges::needless(rt, port(0x50, 1)?, far)?;
+    edges::taught(rt, port(0x50, 1)?, at(0xAA).node)?;
     let ports = ports(0x10, 1)?;
     routers::ports_fault(rt, &ports)?;
     routers::router(rt, &ports)?;
