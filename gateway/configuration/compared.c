@@ -45,9 +45,10 @@ static bool has_same_clients(const network_setting *a, const network_setting *b)
            a->nodes_by_address == b->nodes_by_address && same_ranges(&a->allowed, &b->allowed) && same_ranges(&a->trusted, &b->trusted);
 }
 
+/* Whether the same goes between the network and others: broadcasts that are copied, and what passes the edge. */
 static bool has_same_sockets(const network_setting *a, const network_setting *b)
 {
-    return a->socket_count == b->socket_count && memcmp(a->sockets, b->sockets, a->socket_count * sizeof *a->sockets) == 0;
+    return a->adopts == b->adopts && a->socket_count == b->socket_count && memcmp(a->sockets, b->sockets, a->socket_count * sizeof *a->sockets) == 0;
 }
 
 /* ---- Numbers ---- */

@@ -61,7 +61,8 @@ static void sum_up(const changed *what, char words[SUMMARY_ROOM])
     }
     const char *router = what->is_new_router ? "; the router starts afresh" : "";
     snprintf(words, SUMMARY_ROOM, "%.90s was read again: networks and links: %zu added, %zu removed, %zu with another link, "
-             "%zu with other clients, %zu with other sockets%s", name, what->added, what->removed, what->reopened, what->clients, what->sockets, router);
+             "%zu with other clients, %zu with other sockets or edge%s", name, what->added, what->removed, what->reopened, what->clients,
+             what->sockets, router);
 }
 
 /* Reads and changes. Returns whether that was done, and tells what; else what is wrong, in text that the caller frees, or NULL where there

@@ -25,8 +25,8 @@ static bool may_lack_number(const uint8_t *packet)
 reason edge_lets_in(gateway *it, arrived *what)
 {
     const ipxr_port at = port_at(what->on);
-    if (what->length > LONGEST)
-        return REASONS; /* (the router says that it is too long) */
+    if (!what->on->set->adopts || what->length > LONGEST)
+        return REASONS; /* (of one that is too long the router says so) */
     if (ipxr_edge_is_held(&at, what->packet, what->length) == 1)
         return FROM_AFAR;
     if (may_lack_number(what->packet)) {

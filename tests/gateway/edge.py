@@ -129,6 +129,19 @@ def as_it_came():
         assert comes_next(one, beside)
 
 
+def none_is_adopted():
+    """Where a network doesn't adopt, the router hears what comes as it comes: 0 stays 0, and what routers carried is heard."""
+    wire = Udp()
+    with Gateway(on_a_cable(wire) + "adopt no\n") as gate:
+        station, far = unnumbered(gate, wire), Client(gate.ports[NETWORK])
+        station.say(far.at(), b"one")
+        assert far.hear() == packet(far.at(), address(0, STATION, GAME), b"one", control=1)
+        told = struct.pack(">HIHH", 2, 0x53, 1, 2)
+        wire.send(framed(packet(address(CABLE, EVERYONE, RIP), address(CABLE, STATION, RIP), told, kind=1, control=1)))
+        until(lambda: "\n  00000053 hops 1 " in gate.report(), "a route")
+        assert gate.counted(CABLE, "from afar") == 0
+
+
 # ---- A real cable ----
 
 
@@ -179,7 +192,7 @@ def inside():
 
 
 def main():
-    counts = tried(is_answered, is_found, routes_of_a_neighbour, nobody_passes_for_a_neighbour, as_it_came)
+    counts = tried(is_answered, is_found, routes_of_a_neighbour, nobody_passes_for_a_neighbour, as_it_came, none_is_adopted)
     if SYSTEM is Windows or not os.path.isfile(os.environ.get(CAPTURE, "")):
         left_out("a capture of a real cable", f"{CAPTURE} names none")
         return counts
