@@ -3,8 +3,9 @@
  *
  * A station that doesn't know its network's number says 0 for it, and nobody elsewhere can answer it. And a router believes what
  * comes for RIP and SAP, though a host elsewhere may have sent it through other routers. These calls fill the numbers in, and hold what
- * only a neighbour may say. And they filter packets, routes and services by rules. docs/EDGE.md explains all of this. They keep nothing:
- * the packet is changed where it lies.
+ * only a neighbour may say. They also filter packets, routes and services by rules, tell of neighbours that number the cable otherwise, and
+ * write routes in the name of a neighbour that says none. docs/EDGE.md explains all of this. They keep nothing: the packet is changed where
+ * it lies.
  *
  *     size_t passes;
  *     if (ipxr_edge_enter(&ports[port], bytes, length) == 1 &&        -- of each packet that comes from a cable
@@ -66,8 +67,8 @@ typedef struct ipxr_rule {
 
 /* ---- Calls ---- */
 
-/* Each call takes the port that ipxr_make was given, and the bytes of a packet, or any others. Below 0 is the fault of a port
- * (IPXR_BAD_LONGEST and so on): then the bytes stay as they were. */
+/* Each call takes the port that ipxr_make was given, and most take the bytes of a packet, or any others. Below 0 is the fault of a port
+ * (IPXR_BAD_LONGEST and so on), or another one that the call names: then whatever you lent stays as it was. */
 
 /* Whether a packet comes in from a cable. Returns 1, and its numbers are filled in; or 0, where it is held, and stays as it was. */
 IPXR_CALL int32_t ipxr_edge_enter(const ipxr_port *port, uint8_t *bytes, size_t length);
@@ -79,12 +80,30 @@ IPXR_CALL int32_t ipxr_edge_is_held(const ipxr_port *port, const uint8_t *bytes,
 IPXR_CALL int32_t ipxr_edge_number(const ipxr_port *port, uint8_t *bytes, size_t length);
 
 /* Filters a packet that comes in from the port's cable or goes out to it, by `count` rules: the first that names something decides, and what
- * none names is permitted. Returns 1 if anything passes: the first bytes, as many as `*passes` then says. A response of routes or services
- * may have lost some; all else passes whole. Returns 0 where nothing passes: `*passes` is 0, and the bytes stay as they were. `length` says
- * of how many bytes it is called, also where fewer pass. The first fault of IPXR_BAD_WAY, a port's, IPXR_MANY_RULES and IPXR_BAD_RULE: bytes
- * and `*passes` stay as they were. */
+ * none names is permitted. Returns 1 if anything passes: the first `*passes` bytes. A response of routes or services may have lost some;
+ * all else passes whole. Returns 0 if nothing passes: `*passes` is 0 then, and the bytes stay as they were. The first fault of IPXR_BAD_WAY,
+ * a port's, IPXR_MANY_RULES and IPXR_BAD_RULE: bytes and `*passes` stay as they were. */
 IPXR_CALL int32_t ipxr_edge_filter(uint8_t way, const ipxr_port *port, const ipxr_rule *rules, size_t count, uint8_t *bytes, size_t length,
                                    size_t *passes);
+
+/* Whether a neighbour claims another number for the cable than the port's, by a packet that came from there. Returns 1, and `*network` is
+ * that number; or 0, and it is 0. */
+IPXR_CALL int32_t ipxr_edge_claim(const ipxr_port *port, const uint8_t *bytes, size_t length, uint32_t *network);
+
+/* Whether a packet that goes out on the port is the router's answer to a query for the nearest service, and names none that is nearer than
+ * `hops`: 1 or 0. Leave it out if a server of that type was heard on this port that is `hops` away. */
+IPXR_CALL int32_t ipxr_edge_is_needless(const ipxr_port *port, uint16_t hops, const uint8_t *bytes, size_t length);
+
+/* Writes a response of `count` routes as if the node had sent it to all routers on the port's network, 32 bytes and 8 for each: hand it to
+ * the router each minute as a packet that came there. Returns how many bytes were written. The first fault of a port's, IPXR_NO_ENTRIES,
+ * IPXR_MANY_ENTRIES and IPXR_SHORT_BUFFER. */
+IPXR_CALL int32_t ipxr_edge_write_routes(const ipxr_port *port, const uint8_t node[6], const ipxr_route_entry *routes, size_t count,
+                                         uint8_t *buffer, size_t room);
+
+/* The same of services, to all servers and routers there, 32 bytes and 64 for each. The first fault of a port's, IPXR_NO_ENTRIES,
+ * IPXR_MANY_ENTRIES, IPXR_BAD_NAME and IPXR_SHORT_BUFFER. */
+IPXR_CALL int32_t ipxr_edge_write_services(const ipxr_port *port, const uint8_t node[6], const ipxr_service_entry *services, size_t count,
+                                           uint8_t *buffer, size_t room);
 
 #ifdef __cplusplus
 }

@@ -1935,6 +1935,47 @@ static void edges(void)
     WROTE_BYTES("FFFF 001E 01 00 00000000 FFFFFFFFFFFF 0453 11121314 310000000000 0453", buffer);
 }
 
+/* A neighbour's number for the cable, where it is another one; and an answer that names nothing nearer. */
+static void others_on_the_cable(void)
+{
+    const ipxr_port port = {.network = 0x11121314, .node = {0x21}, .cost = 1, .longest = 576};
+    const ipxr_port none = {.network = 0x11121314, .node = {0x21}, .longest = 576};
+    const ipxr_address own = {.network = 0x11121314, .node = {0x21}, .socket = IPXR_SAP_SOCKET};
+    uint32_t network = 77;
+    ANSWERS(48, ipxr_write_rip(&NEIGHBOUR, &ALL_RIP, IPXR_RIP_RESPONSE, ENTRIES, 2, buffer, sizeof buffer));
+    ANSWERS(IPXR_BAD_COST, ipxr_edge_claim(&none, buffer, 48, &network));
+    WROTE(77, network);
+    ANSWERS(1, ipxr_edge_claim(&port, buffer, 48, &network));
+    WROTE(0x31323334, network);
+    ANSWERS(0, ipxr_edge_claim(&port, buffer, 47, &network));
+    WROTE(0, network);
+    ANSWERS(160, ipxr_write_sap(&own, &FROM, 1, OFFERS, 2, buffer, sizeof buffer));
+    ANSWERS(IPXR_BAD_COST, ipxr_edge_is_needless(&none, 0x0F10, buffer, 160));
+    ANSWERS(1, ipxr_edge_is_needless(&port, 0x0F10, buffer, 160));
+    ANSWERS(0, ipxr_edge_is_needless(&port, 0x0F11, buffer, 160));
+}
+
+/* Routes and services in a neighbour's name. */
+static void said_for_others(void)
+{
+    const ipxr_port port = {.network = 0x11121314, .node = {0x21}, .cost = 1, .longest = 576};
+    const ipxr_port none = {.network = 0x11121314, .node = {0x21}, .longest = 576};
+    const uint8_t node[6] = {0x61, 0x62, 0x63, 0x64, 0x65, 0x66};
+    const ipxr_service_entry nameless = {.network = 0x01020304, .type = 4};
+    ANSWERS(IPXR_BAD_COST, ipxr_edge_write_routes(&none, node, ENTRIES, 0, buffer, 48));
+    ANSWERS(IPXR_NO_ENTRIES, ipxr_edge_write_routes(&port, node, ENTRIES, 0, buffer, 48));
+    ANSWERS(IPXR_SHORT_BUFFER, ipxr_edge_write_routes(&port, node, ENTRIES, 2, buffer, 47));
+    ANSWERS(48, ipxr_edge_write_routes(&port, node, ENTRIES, 2, buffer, 49));
+    WROTE_BYTES("FFFF 0030 00 01 11121314 FFFFFFFFFFFF 0453 11121314 616263646566 0453 0002 D1D2D3D4 D5D6 D7D8 E1E2E3E4 E5E6 E7E8", buffer);
+    ANSWERS(IPXR_BAD_COST, ipxr_edge_write_services(&none, node, OFFERS, 0, buffer, 96));
+    ANSWERS(IPXR_NO_ENTRIES, ipxr_edge_write_services(&port, node, OFFERS, 0, buffer, 96));
+    ANSWERS(IPXR_BAD_NAME, ipxr_edge_write_services(&port, node, &nameless, 1, buffer, 95));
+    ANSWERS(IPXR_SHORT_BUFFER, ipxr_edge_write_services(&port, node, OFFERS, 1, buffer, 95));
+    ANSWERS(96, ipxr_edge_write_services(&port, node, OFFERS, 1, buffer, 97));
+    WROTE_BYTES("FFFF 0060 00 04 11121314 FFFFFFFFFFFF 0452 11121314 616263646566 0452 0002 0D0E 46494C4553 " BEHIND_A_NAME
+                "01020304 05060708090A 0B0C 0F10", buffer);
+}
+
 /* As many rules as a filter has, and one more: the first are rules, and zeros are none. */
 static const ipxr_rule RULES_OF_ROUTES[IPXR_MOST_RULES + 1] = {
     {.permits = 0, .what = IPXR_RULE_ROUTES, .way = IPXR_WAY_IN, .from = 0xD0000002, .to = 0xD1D2D3D4},
@@ -2039,5 +2080,7 @@ int main(void)
     filtered_routes();
     filtered_services();
     filtered_packets();
+    others_on_the_cable();
+    said_for_others();
     return 0;
 }

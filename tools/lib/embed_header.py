@@ -63,6 +63,7 @@ ALTERED = (
     (EDGE, "ipxr_edge_enter(const ipxr_port *port, uint8_t *bytes, size_t length)", "ipxr_edge_enter(uint8_t *bytes, size_t length)"),
     (EDGE, "uint16_t socket;  /*", "uint32_t socket;  /*"),
     (EDGE, "_RULES 64", "_RULES 63"),
+    (EDGE, "uint16_t hops, const uint8_t *bytes", "uint32_t hops, const uint8_t *bytes"),
     (FATES, "uint16_t number; /*", "uint8_t number; /*"),
     (FATES, "uint64_t lost[26];", "uint64_t lost[25];"),
     (FATES, "ipxr_counts *counts, uint8_t why", "ipxr_counts *counts, uint16_t why"),
@@ -80,7 +81,7 @@ SHOWN = ("an empty handle, a text and a router of one port", "an empty handle of
          "an empty handle of a segment, and a segment", "a plan", "a line of a configuration",
          "a receiver of zeros, a receiver and a meter", "limits, and what they let pass",
          "kinds of frames, two links that are one cable, a range, a pace, a node that moves, and who is asked again",
-         "a configuration of two networks", "the way of a packet, and counts", "a packet that is numbered, and a rule")
+         "a configuration of two networks", "the way of a packet, and counts", "a packet that is numbered, a rule, and a route")
 
 BEGIN = """\
 #include <stdio.h>

@@ -1,9 +1,12 @@
 -- What passes between a cable and the router, as C hears it: at a port that has these values, if they are a port's.
 use Rattle.std.specs.Prelude.{◌≡◌, ℕ, ℤ, pos, ◌<◌, ◌≤◌, ◌⊎◌, List, length, take, Option, None, Some}
+use Rattle.ipx_wire.specs.declared.network.Network.{Network}
 use Rattle.ipx_router.specs.Port.{IsPort}
 use Rattle.ipx_router.specs.declared.port.PortFault.{PortFault}
+use Rattle.ipx_edge.specs.Claimed.{claimed}
 use Rattle.ipx_edge.specs.Entered.{is_held, entered}
 use Rattle.ipx_edge.specs.Filtered.{filtered}
+use Rattle.ipx_edge.specs.Needless.{is_needless}
 use Rattle.ipx_edge.specs.Numbered.{numbered}
 use Rattle.ipx_edge.specs.declared.rule.Rule.{Rule}
 use Rattle.ipx_edge.specs.declared.rule.Way.{Way}
@@ -75,3 +78,17 @@ abbrev pub Filters : ℕ → PortValues → List RuleValues → List ℕ → Lis
 Filters way v values old new before passes answer =
     ((count : Option ℕ) × IsLeft way v values old new count × Tells count passes answer)
     ⊎ ((why : Fault) × IsUnfiltered way v values why × (answer ≡ fault_code why) × (new ≡ old) × (passes ≡ before))
+
+-- ---- others on the cable
+
+-- the number that is claimed for the cable, or 0
+abbrev pub Says : Option Network → ℕ → ℤ → Type 0
+Says (Some network) number answer = (answer ≡ pos 1) × (number ≡ network.0)
+Says None number answer = (answer ≡ pos 0) × (number ≡ 0)
+
+abbrev pub Claims : PortValues → List ℕ → ℕ → ℕ → ℤ → Type 0
+Claims v bytes before number answer =
+    (IsPort (port_of v) × Says (claimed (port_of v) bytes) number answer) ⊎ (IsRefused v bytes bytes answer × (number ≡ before))
+
+abbrev pub IsNeedless : PortValues → ℕ → List ℕ → ℤ → Type 0
+IsNeedless v hops bytes answer = (IsPort (port_of v) × (answer ≡ pos (flag (is_needless (port_of v) hops bytes)))) ⊎ IsRefused v bytes bytes answer

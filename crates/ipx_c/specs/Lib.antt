@@ -41,6 +41,7 @@ pub mod ConfigurationValues
 -- what passes between a cable and the router; and rules of a filter
 pub mod Edges
 pub mod RuleValues
+pub mod Statics
 -- a gateway's limits: numbers
 pub mod LimitValues
 pub mod CableValues

@@ -1,13 +1,13 @@
 //! What passes between a cable and the router, as C asks for it. The packet is changed where it lies, and nothing needs a handle.
 ghost use Rattle.std.specs.Prelude.{◌≡◌, IfOk, IfErr};
-ghost use Rattle.ipx_c.specs.Edges.{Enters, IsHeld, Numbers, IsLeft, IsUnfiltered, Filters};
+ghost use Rattle.ipx_c.specs.Edges.{Enters, IsHeld, Numbers, IsLeft, IsUnfiltered, Filters, Claims, IsNeedless};
 
 use crate::code::{DONE, fault_code};
 use crate::fault::Fault;
 use crate::making::port_of;
 use crate::rule_values::{MOST_RULES, RuleValues, rules_of, way_of};
 use crate::values::PortValues;
-use ipx_edge::{enter, filter, is_held, number};
+use ipx_edge::{claim, enter, filter, is_held, is_needless, number};
 
 /// What C hears of a question.
 const NO: i32 = 0;
@@ -91,4 +91,41 @@ fn left(
     }
     let rules = rules_of(rules).ok_or(Fault::Rule)?;
     Ok(filter(way, &port, &rules, bytes))
+}
+
+/// Whether a neighbour claims another number for the cable: `network` says which, or 0.
+#[unsafe(no_mangle)]
+pub extern "C" fn ipxr_edge_claim(port: &PortValues, bytes: &[u8], network: &mut u32) -> i32
+    ensures { Claims port.now bytes.now network.old network.new result }
+{
+    match port_of(port) {
+        Ok(port) => match claim(&port, bytes) {
+            Some(claimed) => {
+                *network = claimed.0;
+                YES
+            }
+            None => {
+                *network = 0;
+                NO
+            }
+        },
+        Err(fault) => fault_code(Fault::Port(fault)),
+    }
+}
+
+/// Whether what goes out answers a query for the nearest service with none that is nearer than this many hops.
+#[unsafe(no_mangle)]
+pub extern "C" fn ipxr_edge_is_needless(port: &PortValues, hops: u16, bytes: &[u8]) -> i32
+    ensures { IsNeedless port.now hops bytes.now result }
+{
+    match port_of(port) {
+        Ok(port) => {
+            if is_needless(&port, hops, bytes) {
+                YES
+            } else {
+                NO
+            }
+        }
+        Err(fault) => fault_code(Fault::Port(fault)),
+    }
 }

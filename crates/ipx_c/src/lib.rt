@@ -69,6 +69,7 @@ pub mod settings;
 mod settings_values;
 pub mod settings_writing;
 mod sizes;
+pub mod statics;
 mod tunnel_events;
 mod tunnel_machine;
 mod tunnel_making;

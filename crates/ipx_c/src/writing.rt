@@ -19,10 +19,10 @@ use ipx_wire::{
 };
 
 /// How many routes one packet has at most.
-const MOST_ENTRIES: usize = RipEntry::MOST;
+pub(crate) const MOST_ENTRIES: usize = RipEntry::MOST;
 
 /// How many services.
-const MOST_SERVICES: usize = SapEntry::MOST;
+pub(crate) const MOST_SERVICES: usize = SapEntry::MOST;
 
 /// How many bytes of data: header and data are counted by a number of two bytes.
 const MOST_DATA: usize = 65_535 - Header::SIZE;
@@ -184,7 +184,7 @@ fn put_parts(header: &Header, payload: &[u8], buffer: &mut [u8])
 }
 
 /// Refuses to write no entry, or more than a packet may have.
-fn check_count(count: usize, most: usize) -> Result<(), Fault>
+pub(crate) fn check_count(count: usize, most: usize) -> Result<(), Fault>
     ensures { result ≡ (if count == 0 then Err NoEntries else if nat_lt most count then Err ManyEntries else Ok tt) }
 {
     if count == 0 {
@@ -197,7 +197,7 @@ fn check_count(count: usize, most: usize) -> Result<(), Fault>
 }
 
 /// Refuses to write a packet of that size into a buffer that has no room for it.
-fn check_room(buffer: &[u8], size: usize) -> Result<(), Fault>
+pub(crate) fn check_room(buffer: &[u8], size: usize) -> Result<(), Fault>
     ensures { result ≡ (if nat_le size (length buffer.now) then Ok tt else Err ShortBuffer) }
 {
     if size > buffer.len() {
@@ -232,7 +232,7 @@ fn address_with(network: u32, node: [u8; 6], socket: u16) -> Address
     }
 }
 
-fn entries_of(values: &[RouteEntry]) -> ArrayVec<RipEntry, MOST_ENTRIES>
+pub(crate) fn entries_of(values: &[RouteEntry]) -> ArrayVec<RipEntry, MOST_ENTRIES>
     requires { length values.now ≤ most_entries }
     ensures { result.items ≡ map entry_of values.now }
 {
@@ -254,7 +254,7 @@ fn entry_of(values: &RouteEntry) -> RipEntry
 }
 
 /// The services, where each has a name.
-fn services_of(values: &[ServiceEntry]) -> Option<ArrayVec<Service, MOST_SERVICES>>
+pub(crate) fn services_of(values: &[ServiceEntry]) -> Option<ArrayVec<Service, MOST_SERVICES>>
     requires { length values.now ≤ most_services }
     ensures { option_map (λ services. services.items) result ≡ services_of values.now }
 {
