@@ -5,6 +5,7 @@
 #include <string.h>
 
 #include "ipx.h"
+#include "links/edge.h"
 #include "links/ether.h"
 #include "links/extend.h"
 #include "links/links.h"
@@ -115,8 +116,8 @@ static void send_all(gateway *it, const origin *by, const uint8_t *heard)
     for (size_t k = 0; k < count; k++) {
         ipxr_packet_sent sent;
         uint8_t *packet = gateway_room(it);
-        bool is_there = ipxr_get(&it->router, k, &sent, packet, LONGEST) == 0;
-        if (is_there && sent.port < it->port_count) /* (on the router's own network is nobody else) */
+        bool is_there = ipxr_get(&it->router, k, &sent, packet, LONGEST) == 0 && sent.port < it->port_count; /* (nobody is on its own network) */
+        if (is_there && edge_lets_out(it, first_of(it, &it->ports[sent.port]), packet, sent.length))
             gateway_send(it, &it->ports[sent.port], by != NULL && goes_on(packet, heard) ? by : NULL, sent.node, packet, sent.length);
     }
     ipxr_clear(&it->router);

@@ -57,7 +57,8 @@ typedef struct network {
     uint8_t link;          /* and its number there */
     loop loop;             /* whether it is one cable with another of them */
     ipxr_kinds kinds;      /* of frames, which its stations use, where they may use any; */
-    uint64_t kind_told;    /* and where not, when one that used another was told last, or 0 */
+    uint64_t kind_told;    /* and where not, when one that used another was told last, or 0; */
+    uint64_t claim_told;   /* and when a router that has another number for the cable was, or 0 */
 } network;
 
 /* A port of the router: a network with its links. */

@@ -1,12 +1,21 @@
 #include "links/edge.h"
 
+#include <inttypes.h>
 #include <string.h>
 
 #include "ipx.h"
 #include "ipxr_edge.h"
+#include "monitoring/note.h"
+#include "systems/clock.h"
 
 /* What a router's port costs that is asked of the edge alone. */
 enum { ANY_COST = 1 };
+
+/* Milliseconds from one line about a router with another number for a cable to the next. */
+enum { BETWEEN = 60000 };
+
+/* Where a response says that it answers a query for the nearest service, and that service's type; and how many bytes it has to that. */
+enum { AT_OPERATION = HEADER, NEAREST_RESPONSE = 4, AT_SERVICE = HEADER + 2, TO_SERVICE = AT_SERVICE + 2 };
 
 static ipxr_port port_at(const network *on)
 {
@@ -22,9 +31,24 @@ static bool may_lack_number(const uint8_t *packet)
     return get32(packet + AT_FROM_NETWORK) == 0 || get16(packet + AT_TO_SOCKET) == IPXR_SAP_SOCKET;
 }
 
+/* Tells of a router that has another number for the cable, once a minute. (a DOSBox has the number that the gateway gave it) */
+static void look_for_claims(network *on, const ipxr_port *at, const uint8_t *packet, size_t length)
+{
+    char node[WORDS];
+    uint32_t number;
+    uint64_t now = clock_now();
+    bool is_told = on->claim_told != 0 && now - on->claim_told < BETWEEN;
+    if (on->set->type == LINK_DOSBOX || is_told || ipxr_edge_claim(at, packet, length, &number) != 1)
+        return;
+    on->claim_told = now;
+    event("network %08" PRIX32 " is network %08" PRIX32 " for router %s there: each cable has one number", on->set->network, number,
+          node_words(packet + AT_FROM_NODE, node));
+}
+
 reason edge_lets_in(gateway *it, arrived *what)
 {
     const ipxr_port at = port_at(what->on);
+    look_for_claims(what->on, &at, what->packet, what->length);
     if (!what->on->set->adopts || what->length > LONGEST)
         return REASONS; /* (of one that is too long the router says so) */
     if (ipxr_edge_is_held(&at, what->packet, what->length) == 1)
@@ -35,4 +59,30 @@ reason edge_lets_in(gateway *it, arrived *what)
         what->packet = it->entered;
     }
     return REASONS;
+}
+
+/* Whether it is an answer to a query for the nearest service. */
+static bool names_nearest(const uint8_t *packet, size_t length)
+{
+    return length >= TO_SERVICE && get16(packet + AT_FROM_SOCKET) == IPXR_SAP_SOCKET && get16(packet + AT_OPERATION) == NEAREST_RESPONSE;
+}
+
+/* The fewest hops of a server of a type that was heard on a port; IPXR_NO_LIMIT where none was. */
+static uint16_t fewest_hops(const gateway *it, uint8_t number, uint16_t type)
+{
+    uint16_t fewest = IPXR_NO_LIMIT;
+    ipxr_service_record service;
+    for (size_t k = 0; ipxr_service(&it->router, k, &service) == 0; k++)
+        if (service.port == number && service.type == type && service.hops < fewest)
+            fewest = service.hops;
+    return fewest;
+}
+
+bool edge_lets_out(gateway *it, const network *on, const uint8_t *packet, size_t length)
+{
+    const ipxr_port at = port_at(on);
+    if (!on->set->adopts || !names_nearest(packet, length))
+        return true;
+    uint16_t fewest = fewest_hops(it, (uint8_t)on->set->port, get16(packet + AT_SERVICE));
+    return fewest == IPXR_NO_LIMIT || ipxr_edge_is_needless(&at, fewest, packet, length) != 1;
 }

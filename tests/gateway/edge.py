@@ -8,8 +8,8 @@ import struct
 
 from cards import has_taps
 from frames import FRONTS, Packets, Station, Udp
-from lab import (EVERYONE, GAME, RIP, SAP, Client, Gateway, address, comes_next, free_ports, packet, reaches, rip_response, sap_response, tunnels,
-                 until)
+from lab import (EVERYONE, GAME, RIP, SAP, Client, Clock, Gateway, address, comes_next, free_ports, packet, reaches, rip_response, sap_response,
+                 tunnels, until)
 from spaces import ip
 from systems import SYSTEM, Windows
 from trying import Counts, begin, left_out, tried, tried_inside
@@ -129,6 +129,48 @@ def as_it_came():
         assert comes_next(one, beside)
 
 
+def nearest_for(asker, gateway):
+    """The name and hops of the server that the router names as the nearest; None where it names none before the asker hears himself."""
+    asker.say(address(0, gateway, SAP), struct.pack(">HH", 3, SERVER), kind=0)
+    asker.say(address(0, gateway, SAP), struct.pack(">HH", 1, SERVER), kind=0)
+    heard = asker.hear(lambda it: it[28:30] == struct.pack(">H", SAP) and it[16:18] == struct.pack(">H", GAME))
+    if heard[30:32] != struct.pack(">H", 4):
+        return None
+    return heard[34:82].rstrip(b"\0").decode(), int.from_bytes(heard[94:96], "big")
+
+
+def nearest_server():
+    """Who asks for the nearest server is told none by the router where one on his own cable is as near; elsewhere that one is named."""
+    wire = Udp()
+    with Gateway(on_a_cable(wire)) as gate:
+        station, far = unnumbered(gate, wire), Client(gate.ports[NETWORK])
+        station.network = CABLE
+        far.send(sap_response(NETWORK, far.node, [(SERVER, "FAR", 0x99, STATION, OFFERED, 3)]))
+        until(lambda: "services: 1\n" in gate.report(), "one service")
+        assert nearest_for(station, gate.nodes[CABLE]) == ("FAR", 4)
+        wire.send(framed(sap_response(CABLE, STATION, [(SERVER, "LOCAL", CABLE, STATION, OFFERED, 1)])))
+        until(lambda: "services: 2\n" in gate.report(), "two services")
+        assert nearest_for(station, gate.nodes[CABLE]) is None
+        assert nearest_for(far, gate.nodes[NETWORK]) == ("LOCAL", 2)
+        wire.send(framed(sap_response(CABLE, STATION, [(SERVER, "LOCAL", CABLE, STATION, OFFERED, 16)])))
+        until(lambda: "services: 1\n" in gate.report(), "one service again")
+        assert nearest_for(station, gate.nodes[CABLE]) == ("FAR", 4)
+
+
+def another_number():
+    """A router that has another number for the cable is told, once a minute."""
+    wire, clock = Udp(), Clock()
+    words = f"network {CABLE:08X} is network 00000099 for router {STATION.hex().upper()} there: each cable has one number"
+    with Gateway(on_a_cable(wire), SYSTEM.fast, environment=clock.environment()) as gate:
+        wire.to = gate.ports[CABLE]
+        for k, passed in enumerate((0, 59, 1), 1):
+            clock.let_pass(passed)
+            for _ in range(3):
+                wire.send(framed(rip_response(0x99, STATION, [(0x51, 1, 2)])))
+            gate.until_counted(CABLE, "in", 3 * k)
+        assert sum(words in it for it in gate.lines) == 2, gate.lines
+
+
 def none_is_adopted():
     """Where a network doesn't adopt, the router hears what comes as it comes: 0 stays 0, and what routers carried is heard."""
     wire = Udp()
@@ -192,7 +234,8 @@ def inside():
 
 
 def main():
-    counts = tried(is_answered, is_found, routes_of_a_neighbour, nobody_passes_for_a_neighbour, as_it_came, none_is_adopted)
+    counts = tried(is_answered, is_found, routes_of_a_neighbour, nobody_passes_for_a_neighbour, as_it_came, nearest_server, another_number,
+                   none_is_adopted)
     if SYSTEM is Windows or not os.path.isfile(os.environ.get(CAPTURE, "")):
         left_out("a capture of a real cable", f"{CAPTURE} names none")
         return counts
