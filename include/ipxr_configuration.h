@@ -38,6 +38,7 @@ extern "C" {
 #define IPXR_ALL_LINKS 64    /* the most links of all networks together */
 #define IPXR_ALL_SOCKETS 16  /* the most sockets that a network extends */
 #define IPXR_ALL_RANGES 16   /* the most ranges of a list */
+#define IPXR_ALL_RULES 64    /* the most rules of a network, as many as a filter has */
 
 /* ---- What was expected where lines are wrong together, beside the numbers of ipxr_settings.h. These numbers have no words. ---- */
 
@@ -61,6 +62,7 @@ extern "C" {
 #define IPXR_EXPECTED_OTHER_SOCKET 49            /* a socket that isn't there already */
 #define IPXR_EXPECTED_FEWER_SOCKETS 50           /* at most IPXR_ALL_SOCKETS sockets */
 #define IPXR_EXPECTED_FEWER_RANGES 51            /* at most IPXR_ALL_RANGES ranges */
+#define IPXR_EXPECTED_FEWER_RULES 60             /* at most IPXR_ALL_RULES rules */
 
 /* ---- What is kept of a configuration. It is the library's to write; ipxr_configuration_link says what comes of it. ---- */
 
@@ -84,6 +86,12 @@ typedef struct ipxr_setting_ranges {
     ipxr_setting_range list[16];
     size_t count;
 } ipxr_setting_ranges;
+
+/* Rules, in the order of their lines. */
+typedef struct ipxr_rules {
+    ipxr_rule list[64];
+    size_t count;
+} ipxr_rules;
 
 /* What lines below a link say. `line` is the number of the line, or 0 where none says it. */
 typedef struct ipxr_clients_said {
@@ -120,6 +128,7 @@ typedef struct ipxr_network_setting {
     uint8_t node[6];
     ipxr_sockets sockets;
     size_t adopt_line;       /* the number of the line that says that what comes from the cable is taken as it is, or 0 */
+    ipxr_rules rules;
 } ipxr_network_setting;
 
 /* What a link's own line says, and those below it. */
@@ -198,6 +207,7 @@ typedef struct ipxr_configured {
     ipxr_setting_ranges trusted; /* who may be one though he answers no ping */
     ipxr_flag nodes_by_address;  /* clients' nodes may be their addresses */
     ipxr_flag adopts;            /* what comes from the cable goes through ipxr_edge_enter */
+    ipxr_rules rules;            /* of the network's filter */
 } ipxr_configured;
 
 /* ---- Calls ---- */

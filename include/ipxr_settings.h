@@ -18,6 +18,7 @@
 #define IPXR_SETTINGS_H
 
 #include "ipxr.h"
+#include "ipxr_edge.h"
 
 #ifdef __cplusplus
 extern "C" {
@@ -38,6 +39,8 @@ extern "C" {
 #define IPXR_SETTING_NODES 10    /* nodes: clients' nodes may be their addresses */
 #define IPXR_SETTING_INTERNAL 11 /* internal: the router's own network: of `network` the number, and the node */
 #define IPXR_SETTING_ADOPT 12    /* adopt: what comes from the cable is taken as it is */
+#define IPXR_SETTING_PERMIT 13   /* permit: `rule` */
+#define IPXR_SETTING_DENY 14     /* deny: the same */
 
 /* ---- What carries a link. These numbers have no words. ---- */
 
@@ -87,6 +90,12 @@ extern "C" {
 #define IPXR_EXPECTED_FEWER_WORDS 31     /* at most 32 words */
 #define IPXR_EXPECTED_BY_ADDRESS 52      /* by-address (32 to 51 are in ipxr_configuration.h) */
 #define IPXR_EXPECTED_NO 53              /* no */
+#define IPXR_EXPECTED_RULE 54            /* one of the words that say what a rule names */
+#define IPXR_EXPECTED_PACKET_TYPE 55     /* a type of packets, 0 to 255 */
+#define IPXR_EXPECTED_NETWORKS 56        /* a network, or the first and the last of several, 1 to FFFFFFFE */
+#define IPXR_EXPECTED_WAY 57             /* in or out */
+#define IPXR_EXPECTED_SERVICE_TYPE 58    /* a type of services, 0 to FFFF, or * */
+#define IPXR_EXPECTED_SERVICE_NAMES 59   /* a name of at most 47 bytes, the beginning of one and *, or * */
 
 /* ---- Bytes that are enough for any words. These numbers have no words. ---- */
 
@@ -135,6 +144,7 @@ typedef struct ipxr_setting {
     ipxr_setting_network network;
     ipxr_setting_link link;       /* of a network's line, or of a link's */
     uint32_t numbers[3];       /* what other lines say */
+    ipxr_rule rule;            /* what a rule says, where all its words were read, and else all bytes 0 */
 } ipxr_setting;
 
 /* Addresses of IPv4 that begin with the same bits. */

@@ -8,7 +8,7 @@
 
 /* What is told of each fault in which nothing else is. */
 static const char *const TOLD[] = {
-    [IPXR_EXPECTED_LINE] = "expected network, link, extend, clients, allow, trust, rate, strangers, line, nodes, internal or adopt",
+    [IPXR_EXPECTED_LINE] = "expected network, link, extend, clients, allow, trust, rate, strangers, line, nodes, internal, adopt, permit or deny",
     [IPXR_EXPECTED_NETWORK] = "expected the number of a network in hexadecimal digits, 1 to FFFFFFFD",
     [IPXR_EXPECTED_COST] = "expected the cost in ticks, 1 to 65535",
     [IPXR_EXPECTED_ROUTES] = "expected the most routes, 0 to 65535",
@@ -28,6 +28,12 @@ static const char *const TOLD[] = {
     [IPXR_EXPECTED_FEWER_WORDS] = "expected at most 32 words",
     [IPXR_EXPECTED_BY_ADDRESS] = "expected by-address",
     [IPXR_EXPECTED_NO] = "expected no",
+    [IPXR_EXPECTED_RULE] = "expected type, socket, nearest, route or service",
+    [IPXR_EXPECTED_PACKET_TYPE] = "expected a type of packets, 0 to 255",
+    [IPXR_EXPECTED_NETWORKS] = "expected the number of a network, or the first and the last of several, such as 1000-1FFF",
+    [IPXR_EXPECTED_WAY] = "expected in or out",
+    [IPXR_EXPECTED_SERVICE_TYPE] = "expected a type of services in hexadecimal digits, 0 to FFFF, or * for every one",
+    [IPXR_EXPECTED_SERVICE_NAMES] = "expected the name of a service, how names begin and *, or * for all of them",
     [IPXR_EXPECTED_BELOW_NETWORK] = "expected below the line of a network",
     [IPXR_EXPECTED_BELOW_LINK] = "expected below the line of a link",
     [IPXR_EXPECTED_BELOW_TUNNEL] = "expected below the line of a network of dosbox",
@@ -107,6 +113,8 @@ static bool tell_too_much(reader *r, const char *word)
         return !reader_fault(r, word, "expected at most %d sockets", IPXR_ALL_SOCKETS);
     case IPXR_EXPECTED_FEWER_RANGES:
         return !reader_fault(r, word, "expected at most %d of them", IPXR_ALL_RANGES);
+    case IPXR_EXPECTED_FEWER_RULES:
+        return !reader_fault(r, word, "expected at most %d rules of a network", IPXR_ALL_RULES);
     default:
         return false;
     }

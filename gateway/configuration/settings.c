@@ -15,7 +15,7 @@ static const char KINDS[][KIND_ROOM] = {"", "ethernet2", "raw", "llc", "snap", "
 
 /* (one more kind of the library needs its word, and each of its lists has room here) */
 typedef char has_word_for_each_kind[sizeof KINDS / sizeof *KINDS == ANY_KIND + 1 ? 1 : -1];
-typedef char has_room_for_all[IPXR_ALL_LINKS <= MOST_LINKS && IPXR_ALL_SOCKETS <= MOST_SOCKETS && IPXR_ALL_RANGES <= MOST_RANGES ? 1 : -1];
+typedef char has_room_for_all[IPXR_ALL_LINKS <= MOST_LINKS && IPXR_ALL_SOCKETS <= MOST_SOCKETS && IPXR_ALL_RANGES <= MOST_RANGES && IPXR_ALL_RULES <= MOST_RULES ? 1 : -1];
 
 const char *kind_word(uint8_t kind)
 {
@@ -73,6 +73,8 @@ static void take_link(network_setting *it, const ipxr_configured *said)
     it->socket_count = said->sockets.count;
     memcpy(it->sockets, said->sockets.list, sizeof said->sockets.list);
     it->adopts = said->adopts;
+    it->rule_count = said->rules.count;
+    memcpy(it->rules, said->rules.list, said->rules.count * sizeof *it->rules);
     it->clients = said->clients;
     it->per_address = said->of_address;
     it->rate = said->rate;

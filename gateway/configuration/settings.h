@@ -9,6 +9,7 @@
 
 #include "configuration/range.h"
 #include "ipxr.h"
+#include "ipxr_edge.h"
 #include "ipxr_segment.h"
 #include "ipxr_settings.h"
 #include "ipxr_settings.h"
@@ -20,6 +21,7 @@ enum {
     MOST_RATE = 1000000, /* that a line may say */
     MOST_KILOBITS = 10000000, /* alike: ten gigabits */
     MOST_SOCKETS = 16, /* that a network's `extend` may name */
+    MOST_RULES = 64,   /* that lines below a network may say */
     SHORTEST_LONGEST = 576, /* bytes that the longest packet of a network has at least */
     NAME_ROOM = 16,    /* bytes of the name of a TAP or an interface, with the 0 behind */
     MOST_LINKS = IPXR_MOST_PORTS + IPXR_MOST_LINKS, /* of all networks together */
@@ -55,6 +57,8 @@ typedef struct network_setting {
     uint16_t sockets[MOST_SOCKETS]; /* whose broadcasts are extended */
     size_t socket_count;
     bool adopts;               /* whether what comes from the cable is numbered, and held where a router carried it there */
+    ipxr_rule rules[MOST_RULES]; /* of the network's filter: the first that names something decides */
+    size_t rule_count;
     uint16_t clients;          /* most clients of DOSBox' */
     uint16_t per_address;      /* and most of one address */
     uint32_t rate;             /* packets a second that a client receives, or a link with frames of clients; 0 for any number */

@@ -24,6 +24,6 @@ int main(void)
     is_right = is_right && ipxr_configuration_internal(&all, &own) == 0 && reads("internal 30", 6, &wrong) == 0;
     is_right = is_right && ipxr_configuration_internal(&all, &own) == 1 && own.line == 6 && own.number == 0x30 && own.node[5] == 1;
     is_right = is_right && ipxr_configuration_link(&all, 0, &link) == 1 && link.number == 0x10 && link.sockets.list[0] == 0x4003;
-    is_right = is_right && ipxr_configuration_link(&all, 1, &link) == 1 && link.number == 0x20 && link.port == 1 && link.adopts == 1;
+    is_right = is_right && ipxr_configuration_link(&all, 1, &link) == 1 && link.number == 0x20 && link.port == 1 && link.adopts == 1 && link.rules.count == 0;
     return is_right && ipxr_configuration_link(&all, 2, &link) == 0 ? 0 : 1;
 }

@@ -3,3 +3,4 @@ pub mod Delivered
 pub mod FilterRules
 pub mod RoomKept
 pub mod WrittenPackets
+pub mod ConfiguredRules

@@ -49,6 +49,7 @@ fault_number (Some (fault.OtherKilobits kilobits line)) = 48
 fault_number (Some (fault.OtherSocket word)) = 49
 fault_number (Some (fault.ManySockets word)) = 50
 fault_number (Some (fault.ManyRanges word)) = 51
+fault_number (Some fault.ManyRules) = 60
 
 -- the word that is wrong; of a line that is wrong by itself, the first that couldn't be read
 abbrev pub fault_word : Option Fault → ℕ → ℕ

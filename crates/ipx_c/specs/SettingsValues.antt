@@ -28,6 +28,8 @@ use Rattle.ipx_settings.specs.declared.network.NetworkBegun.{NetworkBegun}
 use Rattle.ipx_settings.specs.declared.network.NetworkBegun.TheVariants as network
 use Rattle.ipx_settings.specs.declared.network.Shares.{Shares}
 use Rattle.ipx_settings.specs.declared.reading.Reading.{Reading}
+use Rattle.ipx_configuration.specs.Rules.{no_rule, rule_in}
+use Rattle.ipx_configuration.specs.declared.rules.RuleSaid.{RuleSaid}
 use Rattle.ipx_c.specs.declared.settings_values.HostValues.{HostValues}
 use Rattle.ipx_c.specs.declared.settings_values.LineSaid.{LineSaid}
 use Rattle.ipx_c.specs.declared.settings_values.LinkSaid.{LinkSaid}
@@ -156,6 +158,8 @@ line_number (line.Kilobits begun) = 9
 line_number (line.Nodes by_address) = 10
 line_number (line.Internal begun) = 11
 line_number (line.Adopt is_off) = 12
+line_number (line.Rule true begun) = 13
+line_number (line.Rule false begun) = 14
 
 abbrev pub three : ℕ → ℕ → ℕ → List ℕ
 three a b c = a ∷ b ∷ c ∷ []
@@ -180,6 +184,10 @@ abbrev pub network_of_line : Line → NetworkSaid
 network_of_line (line.Network begun) = network_values begun
 network_of_line (line.Internal begun) = internal_values begun
 network_of_line other = network_values network.Nothing
+
+abbrev pub rule_of_line : Line → RuleSaid
+rule_of_line (line.Rule permits begun) = rule_in permits begun
+rule_of_line other = no_rule
 
 -- what was expected; 0 where nothing is wrong (32 to 51 are those of lines together)
 abbrev pub expected_number : Option Expected → ℕ
@@ -217,6 +225,12 @@ expected_number (Some (expected.FirstOf bits)) = 30
 expected_number (Some expected.FewerWords) = 31
 expected_number (Some expected.ByAddress) = 52
 expected_number (Some expected.No) = 53
+expected_number (Some expected.Rule) = 54
+expected_number (Some expected.PacketType) = 55
+expected_number (Some expected.Networks) = 56
+expected_number (Some expected.Way) = 57
+expected_number (Some expected.ServiceType) = 58
+expected_number (Some expected.ServiceNames) = 59
 
 -- the bits of a range whose address isn't its first
 abbrev pub bits_of : Option Expected → ℕ
@@ -231,4 +245,5 @@ line_said r = record {
   network = network_of_line r.line;
   link = link_of_line r.line;
   numbers = numbers_of r.line;
+  rule = rule_of_line r.line;
 }

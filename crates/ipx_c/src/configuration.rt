@@ -10,6 +10,7 @@ ghost use Rattle.ipx_c.specs.Writes.{is_yes};
 
 use crate::settings_values::{
     LineSaid, bits_of, expected_number, line_number, link_of_line, network_of_line, numbers_of,
+    rule_of_line,
 };
 use crate::sizes::{MOST_CLIENTS, MOST_LINKS, MOST_PORTS, MOST_ROUTES, MOST_SERVICES};
 use ipx_configuration::{Capacity, Configuration, Fault, InternalSaid, LinkConfigured};
@@ -71,6 +72,7 @@ fn fault_number(fault: Option<Fault>) -> u8
         Some(Fault::OtherSocket(_)) => 49,
         Some(Fault::ManySockets(_)) => 50,
         Some(Fault::ManyRanges(_)) => 51,
+        Some(Fault::ManyRules) => 60,
     }
 }
 
@@ -125,6 +127,7 @@ fn line_said(reading: Reading) -> LineSaid
         network: network_of_line(reading.line),
         link: link_of_line(reading.line),
         numbers: numbers_of(reading.line),
+        rule: rule_of_line(reading.line),
     }
 }
 

@@ -1,10 +1,11 @@
 //! The structs of a configuration's line that cross to C, as its header has them, and its numbers.
 ghost use Rattle.std.specs.Prelude.{◌≡◌};
-ghost use Rattle.ipx_c.specs.SettingsValues.{no_host, host_values, no_link, place_name, place_values, frames_number, end_values, link_values, network_values, internal_values, line_number, numbers_of, link_of_line, network_of_line, expected_number, bits_of};
+ghost use Rattle.ipx_c.specs.SettingsValues.{no_host, host_values, no_link, place_name, place_values, frames_number, end_values, link_values, network_values, internal_values, line_number, numbers_of, link_of_line, network_of_line, rule_of_line, expected_number, bits_of};
 
+use ipx_configuration::RuleSaid;
 use ipx_settings::{
     Address, ClientsBegun, End, Expected, Frames, Head, Host, InternalBegun, Line, Link, LinkBegun,
-    NetworkBegun, Place, RateBegun,
+    NetworkBegun, Place, RateBegun, RuleBegun,
 };
 
 /// An address with its port.
@@ -66,6 +67,8 @@ pub struct LineSaid {
     pub link: LinkSaid,
     /// The numbers that other lines say.
     pub numbers: [u32; 3],
+    /// The rule of a line that says one.
+    pub rule: RuleSaid,
 }
 
 fn no_host() -> HostValues
@@ -258,6 +261,8 @@ pub(crate) fn line_number(line: Line) -> u8
         Line::Nodes(_) => 10,
         Line::Internal(_) => 11,
         Line::Adopt(_) => 12,
+        Line::Rule(true, _) => 13,
+        Line::Rule(false, _) => 14,
     }
 }
 
@@ -296,6 +301,16 @@ pub(crate) fn network_of_line(line: Line) -> NetworkSaid
         Line::Network(begun) => network_values(begun),
         Line::Internal(begun) => internal_values(begun),
         _ => network_values(NetworkBegun::Nothing),
+    }
+}
+
+/// The rule of a line; all 0 where it says none.
+pub(crate) fn rule_of_line(line: Line) -> RuleSaid
+    ensures { result ≡ rule_of_line line }
+{
+    match line {
+        Line::Rule(permits, begun) => RuleSaid::of(permits, begun),
+        _ => RuleSaid::of(false, RuleBegun::Nothing),
     }
 }
 
@@ -338,6 +353,12 @@ pub(crate) fn expected_number(fault: Option<Expected>) -> u8
         Some(Expected::FewerWords) => 31,
         Some(Expected::ByAddress) => 52,
         Some(Expected::No) => 53,
+        Some(Expected::Rule) => 54,
+        Some(Expected::PacketType) => 55,
+        Some(Expected::Networks) => 56,
+        Some(Expected::Way) => 57,
+        Some(Expected::ServiceType) => 58,
+        Some(Expected::ServiceNames) => 59,
     }
 }
 

@@ -223,6 +223,7 @@ carrier_kept n text (line.Kilobits b) read own links link = kept (kilobits_fault
 carrier_kept n text (line.Nodes b) read own links link = kept (once link.nodes_line own) link (with_nodes link n) refl
 carrier_kept n text (line.Internal b) read own links link = refl
 carrier_kept n text (line.Adopt b) read own links link = refl
+carrier_kept n text (line.Rule permits b) read own links link = refl
 
 number_kept : (n : ℕ) (text : List ℕ) (l : Line) (read : ℕ) (own : Option Expected) (links : List LinkSetting) (link : LinkSetting)
     → (line_by n text l read own links link).0.network ≡ link.network
@@ -239,6 +240,7 @@ number_kept n text (line.Kilobits b) read own links link = network_kept (kilobit
 number_kept n text (line.Nodes b) read own links link = network_kept (once link.nodes_line own) link (with_nodes link n) refl
 number_kept n text (line.Internal b) read own links link = refl
 number_kept n text (line.Adopt b) read own links link = refl
+number_kept n text (line.Rule permits b) read own links link = refl
 
 extends_follow : (c : Configuration) (n : ℕ) (text : List ℕ) (r : Reading) (o : Option NetworkSetting)
     → Follows (extended_by c n text r o).0.networks.count c.links (extended_by c n text r o).0.links
@@ -267,6 +269,7 @@ below_network_follows n text r (line.Kilobits b) c = same refl
 below_network_follows n text r (line.Nodes b) c = same refl
 below_network_follows n text r (line.Internal b) c = same refl
 below_network_follows n text r (line.Adopt b) c = extends_follow c n text r (last_network c.networks)
+below_network_follows n text r (line.Rule permits b) c = extends_follow c n text r (last_network c.networks)
 
 either : (l : LinkList) (b : Bool) (x y : Configuration × Option Fault) → Follows x.0.networks.count l x.0.links → Follows y.0.networks.count l y.0.links
     → Follows (if b then x else y).0.networks.count l (if b then x else y).0.links
@@ -297,6 +300,7 @@ module _ (n : ℕ) (text : List ℕ) (r : Reading) (c : Configuration) where
   below_link_follows (line.Nodes b) = tunnel_follows (tunnel_fault c)
   below_link_follows (line.Internal b) = tunnel_follows (tunnel_fault c)
   below_link_follows (line.Adopt b) = extends_follow c n text r (last_network c.networks)
+  below_link_follows (line.Rule permits b) = extends_follow c n text r (last_network c.networks)
 
   below_follows : Follows (taken_below n text r c).0.networks.count c.links (taken_below n text r c).0.links
   below_follows =
@@ -318,6 +322,7 @@ module _ (n : ℕ) (text : List ℕ) (r : Reading) (c : Configuration) where
   taken_follows capacity (line.Nodes b) = below_follows
   taken_follows capacity (line.Internal b) = internal_follows capacity n b r.fault c
   taken_follows capacity (line.Adopt b) = below_follows
+  taken_follows capacity (line.Rule permits b) = below_follows
 
 pub follows : (capacity : Capacity) (n : ℕ) (text : List ℕ) (c : Configuration)
     → Follows (after capacity n text c).networks.count c.links (after capacity n text c).links

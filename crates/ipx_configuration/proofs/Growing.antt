@@ -100,6 +100,7 @@ module _ (n : ℕ) (text : List ℕ) (r : Reading) (c : Configuration) where
   below_network_grows (line.Nodes b) = stays c.networks
   below_network_grows (line.Internal b) = stays c.networks
   below_network_grows (line.Adopt b) = extended_grows c n text r (last_network c.networks)
+  below_network_grows (line.Rule permits b) = extended_grows c n text r (last_network c.networks)
 
   last_grows : Grows c.networks (link_extended_by c n text r (last_link c.links)).0.networks
   last_grows = link_extended_grows c n text r (last_link c.links)
@@ -121,6 +122,7 @@ module _ (n : ℕ) (text : List ℕ) (r : Reading) (c : Configuration) where
   below_link_grows (line.Nodes b) = tunnel_grows
   below_link_grows (line.Internal b) = tunnel_grows
   below_link_grows (line.Adopt b) = extended_grows c n text r (last_network c.networks)
+  below_link_grows (line.Rule permits b) = extended_grows c n text r (last_network c.networks)
 
   below_grows : Grows c.networks (taken_below n text r c).0.networks
   below_grows =
@@ -142,6 +144,7 @@ module _ (n : ℕ) (text : List ℕ) (r : Reading) (c : Configuration) where
   taken_grows capacity (line.Nodes b) = below_grows
   taken_grows capacity (line.Internal b) = internal_grows capacity n b r.fault c
   taken_grows capacity (line.Adopt b) = below_grows
+  taken_grows capacity (line.Rule permits b) = below_grows
 
 pub grows : (capacity : Capacity) (n : ℕ) (text : List ℕ) (c : Configuration) → Grows c.networks (after capacity n text c).networks
 grows capacity n text c = let r = read_in capacity text c in taken_grows n text r c capacity r.line

@@ -8,4 +8,5 @@ pub mod Meaning
 pub mod Sharing
 pub mod Naming
 pub mod Owning
+pub mod Ruling
 pub mod examples

@@ -106,3 +106,4 @@ unchanged capacity n text r c f (line.Kilobits b) is wrong = absurd (true≢fals
 unchanged capacity n text r c f (line.Nodes b) is wrong = absurd (true≢false (sym is))
 unchanged capacity n text r c f (line.Internal b) is wrong = absurd (true≢false (sym is))
 unchanged capacity n text r c f (line.Adopt b) is wrong = absurd (true≢false (sym is))
+unchanged capacity n text r c f (line.Rule permits b) is wrong = absurd (true≢false (sym is))

@@ -25,6 +25,7 @@ module _ (n : ℕ) (text : List ℕ) (read : ℕ) (own : Option Expected) (links
   first (line.Kilobits b) is right none = absurd (true≢false (sym is))
   first (line.Internal b) is right none = absurd (true≢false (sym is))
   first (line.Adopt b) is right none = absurd (true≢false (sym is))
+  first (line.Rule permits b) is right none = absurd (true≢false (sym is))
 
   pub again : (l : Line) → is_of_nodes l ≡ true → 0 < link.nodes_line → link_by n text l read own links link ≡ (link, Some (fault.Once link.nodes_line))
   again (line.Nodes b) is some = rw (lt-ltb 0 link.nodes_line some) refl
@@ -40,6 +41,7 @@ module _ (n : ℕ) (text : List ℕ) (read : ℕ) (own : Option Expected) (links
   again (line.Kilobits b) is some = absurd (true≢false (sym is))
   again (line.Internal b) is some = absurd (true≢false (sym is))
   again (line.Adopt b) is some = absurd (true≢false (sym is))
+  again (line.Rule permits b) is some = absurd (true≢false (sym is))
 
   kept : (f : Option Fault) (next : LinkSetting) → next.nodes_line ≡ link.nodes_line → (if_right f link next).0.nodes_line ≡ link.nodes_line
   kept None next e = e
@@ -59,3 +61,4 @@ module _ (n : ℕ) (text : List ℕ) (read : ℕ) (own : Option Expected) (links
   others (line.Kilobits b) is = kept (kilobits_fault link b own links) (with_kilobits link (number_said n b)) refl
   others (line.Internal b) is = refl
   others (line.Adopt b) is = refl
+  others (line.Rule permits b) is = refl

@@ -38,6 +38,7 @@ of_internal (line.Strangers b) is = absurd (true≢false (sym is))
 of_internal (line.Kilobits b) is = absurd (true≢false (sym is))
 of_internal (line.Nodes b) is = absurd (true≢false (sym is))
 of_internal (line.Adopt b) is = absurd (true≢false (sym is))
+of_internal (line.Rule permits b) is = absurd (true≢false (sym is))
 
 module _ (capacity : Capacity) (n : ℕ) (text : List ℕ) (r : Reading) (c : Configuration) where
   pub again : (l : Line) → is_of_internal l ≡ true → 0 < c.internal.line → (taken_by capacity n text r l c).1 ≡ Some (fault.Once c.internal.line)
@@ -98,6 +99,7 @@ module _ (n : ℕ) (text : List ℕ) (r : Reading) (c : Configuration) where
   below_network_same (line.Nodes b) = refl
   below_network_same (line.Internal b) = refl
   below_network_same (line.Adopt b) = extended_same (last_network c.networks)
+  below_network_same (line.Rule permits b) = extended_same (last_network c.networks)
 
   below_link_same : (l : Line) → Same (below_link_by n text r l c)
   below_link_same line.Nothing = tunnel_same
@@ -113,6 +115,7 @@ module _ (n : ℕ) (text : List ℕ) (r : Reading) (c : Configuration) where
   below_link_same (line.Nodes b) = tunnel_same
   below_link_same (line.Internal b) = tunnel_same
   below_link_same (line.Adopt b) = extended_same (last_network c.networks)
+  below_link_same (line.Rule permits b) = extended_same (last_network c.networks)
 
   below_same : Same (taken_below n text r c)
   below_same =
@@ -138,6 +141,7 @@ module _ (n : ℕ) (text : List ℕ) (r : Reading) (c : Configuration) where
   others capacity (line.Kilobits b) is = below_same
   others capacity (line.Nodes b) is = below_same
   others capacity (line.Adopt b) is = below_same
+  others capacity (line.Rule permits b) is = below_same
 
 -- ---- its number
 

@@ -2,3 +2,4 @@
 pub mod Nodes
 pub mod Internal
 pub mod Adopt
+pub mod Rules

@@ -24,6 +24,7 @@ use Rattle.ipx_configuration.specs.Extends.{network_taken}
 use Rattle.ipx_configuration.specs.Internals.{is_said, is_full, internal_clash, internal_said}
 use Rattle.ipx_configuration.specs.Lines.{link_taken}
 use Rattle.ipx_configuration.specs.Memory.{most_links, networks_in, links_in, last_network, last_link, with_network, with_link, with_last_network, with_last_link}
+use Rattle.ipx_configuration.specs.Rules.{no_rules}
 use Rattle.ipx_configuration.specs.Said.{no_sockets, new_link}
 use Rattle.ipx_configuration.specs.declared.carrier.Carrier.{Carrier}
 use Rattle.ipx_configuration.specs.declared.configuration.Capacity.{Capacity}
@@ -119,6 +120,7 @@ network_by line first head node is_of_several = record {
   node = unwrap_or node (replicate 6 0);
   sockets = no_sockets;
   adopt_line = 0;
+  rules = no_rules;
 }
 
 abbrev pub network_of : ℕ → ℕ → NetworkBegun → Bool → NetworkSetting
@@ -214,6 +216,7 @@ with_a_link n = record {
   node = n.node;
   sockets = n.sockets;
   adopt_line = n.adopt_line;
+  rules = n.rules;
 }
 
 abbrev pub now_linked : NetworkList → Option NetworkSetting → NetworkList
@@ -264,6 +267,7 @@ tunnel_fault c = tunnel_fault_by (last_network c.networks)
 abbrev pub below_network_by : ℕ → List ℕ → Reading → Line → Configuration → Configuration × Option Fault
 below_network_by n text r (line.Extend has_some) c = extended n text r c
 below_network_by n text r (line.Adopt is_off) c = extended n text r c
+below_network_by n text r (line.Rule permits begun) c = extended n text r c
 below_network_by n text r (line.Rate begun) c = (c, Some fault.BelowLink)
 below_network_by n text r other c = (c, Some fault.BelowTunnelLink)
 
@@ -273,6 +277,7 @@ below_network n text r c = below_network_by n text r r.line c
 abbrev pub below_link_by : ℕ → List ℕ → Reading → Line → Configuration → Configuration × Option Fault
 below_link_by n text r (line.Extend has_some) c = extended n text r c
 below_link_by n text r (line.Adopt is_off) c = extended n text r c
+below_link_by n text r (line.Rule permits begun) c = extended n text r c
 below_link_by n text r (line.Rate begun) c = link_extended n text r c
 below_link_by n text r other c = if is_below_tunnel c then link_extended n text r c else (c, Some (tunnel_fault c))
 

@@ -81,6 +81,7 @@ configured_at link network shares shared = record {
   trusted = link.trusted;
   nodes_by_address = nat_lt 0 link.nodes_line;
   adopts = network.adopt_line == 0;
+  rules = network.rules;
 }
 
 abbrev pub configured_by : Capacity → LinkSetting → List LinkSetting → NetworkSetting → LinkConfigured

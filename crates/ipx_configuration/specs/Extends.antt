@@ -1,5 +1,5 @@
 -- What a line below a network says of it.
-use Rattle.std.specs.Prelude.{ℕ, ◌+◌, Bool, if◌then◌else◌, not, nat_lt, List, [], ◌∷◌, Option, Some, None}
+use Rattle.std.specs.Prelude.{ℕ, ◌+◌, not, nat_lt, List, [], ◌∷◌, Option, Some, None}
 use Rattle.ipx_settings.specs.Lines.{socket_of}
 use Rattle.ipx_settings.specs.declared.expected.Expected.{Expected}
 use Rattle.ipx_settings.specs.declared.line.Line.{Line}
@@ -7,6 +7,7 @@ use Rattle.ipx_settings.specs.declared.line.Line.TheVariants as line
 use Rattle.ipx_settings.specs.declared.reading.Reading.{Reading}
 use Rattle.ipx_configuration.specs.Clashes.{first_of, when, line_fault}
 use Rattle.ipx_configuration.specs.Lines.{once, if_right, words_from}
+use Rattle.ipx_configuration.specs.Rules.{rule_taken}
 use Rattle.ipx_configuration.specs.Said.{has_socket, with_socket, most_sockets}
 use Rattle.ipx_configuration.specs.declared.fault.Fault.{Fault}
 use Rattle.ipx_configuration.specs.declared.fault.Fault.TheVariants as fault
@@ -49,6 +50,7 @@ with_sockets n sockets = record {
   node = n.node;
   sockets = sockets;
   adopt_line = n.adopt_line;
+  rules = n.rules;
 }
 
 abbrev pub taken_by : NetworkSetting → Sockets × Option Fault → Option Expected → NetworkSetting × Option Fault
@@ -75,6 +77,7 @@ with_adopt n line = record {
   node = n.node;
   sockets = n.sockets;
   adopt_line = line;
+  rules = n.rules;
 }
 
 abbrev pub adopt_taken : ℕ → NetworkSetting → Option Expected → NetworkSetting × Option Fault
@@ -85,6 +88,7 @@ adopt_taken line n own = if_right (once n.adopt_line own) n (with_adopt n line)
 abbrev pub network_by : ℕ → List ℕ → Line → ℕ → Option Expected → NetworkSetting → NetworkSetting × Option Fault
 network_by number text (line.Extend has_some) read own n = sockets_taken n text read own
 network_by number text (line.Adopt is_off) read own n = adopt_taken number n own
+network_by number text (line.Rule permits begun) read own n = rule_taken n permits begun own
 network_by number text other read own n = (n, None)
 
 -- what a network is behind a line that says more of it, and what is wrong with that line

@@ -5,6 +5,7 @@ pub mod Said
 pub mod Clashes
 -- what lines say of them
 pub mod Lines
+pub mod Rules
 pub mod Extends
 -- all networks and links
 pub mod Memory

@@ -1,7 +1,7 @@
 //! A configuration, line by line.
 ghost use Rattle.std.specs.Prelude.{◌≡◌};
 ghost use Rattle.std.specs.List.{position};
-ghost use Rattle.ipx_configuration.specs.Internals.{is_full, internal_clash, internal_said, told_internal};
+ghost use Rattle.ipx_configuration.specs.Internals.{is_full, told_internal};
 ghost use Rattle.ipx_configuration.specs.Said.{new_link};
 ghost use Rattle.ipx_configuration.specs.Wholes.{IsBlank};
 ghost use Rattle.ipx_configuration.specs.Configurations.{unlinked, is_below_tunnel, head_or_none, names_link, network_of, has_number, number_fault, more_links, network_fault, add_network, after_network, internal_fault, after_internal, network_above, link_line_fault, add_link, link_line, extended, link_extended, tunnel_fault, below_network, below_link, taken_below, taken, told, after};
@@ -9,11 +9,12 @@ ghost use Rattle.ipx_configuration.specs.Configurations.{unlinked, is_below_tunn
 use crate::carrier::{Carrier, TUNNEL};
 use crate::clash::{carrier_in, line_fault, link_fault};
 use crate::fault::Fault;
+use crate::internal::{internal_clash, internal_said};
 use crate::lines::link_taken;
 use crate::memory::{LinkList, MOST_LINKS, MOST_NETWORKS, NetworkList};
+use crate::rules::Rules;
 use crate::said::{
     ClientsSaid, InternalSaid, LinkSetting, NetworkSetting, NumberSaid, Ranges, RateSaid, Sockets,
-    USUAL_NODE,
 };
 use crate::sockets::network_taken;
 use ipx_settings::{
@@ -151,29 +152,6 @@ fn number_fault(number: Option<u32>, networks: &[NetworkSetting]) -> Option<Faul
     }
 }
 
-/// What was expected where the router's own network has the number.
-fn internal_clash(number: Option<u32>, internal: InternalSaid) -> Option<Fault>
-    ensures { result ≡ internal_clash number internal }
-{
-    match number {
-        Some(number) if internal.line > 0 && internal.number == number => {
-            Some(Fault::OtherNetwork(internal.line))
-        }
-        _ => None,
-    }
-}
-
-/// The router's own network, as its line says it.
-fn internal_said(line: usize, begun: InternalBegun) -> InternalSaid
-    ensures { result ≡ internal_said line begun }
-{
-    InternalSaid {
-        line,
-        number: begun.number().unwrap_or(0),
-        node: begun.node().unwrap_or(USUAL_NODE),
-    }
-}
-
 /// What is wrong with one more link.
 fn more_links(
     begun: LinkBegun,
@@ -213,6 +191,7 @@ fn network_of(line: usize, first: usize, begun: NetworkBegun, is_of_several: boo
         node: begun.node().unwrap_or([0; 6]),
         sockets: Sockets::none(),
         adopt_line: 0,
+        rules: Rules::none(),
     }
 }
 
@@ -531,6 +510,7 @@ impl Configuration {
         match reading.line {
             Line::Extend(_) => self.take_of_network(line, text, reading),
             Line::Adopt(_) => self.take_of_network(line, text, reading),
+            Line::Rule(_, _) => self.take_of_network(line, text, reading),
             Line::Rate(_) => Some(Fault::BelowLink),
             _ => Some(Fault::BelowTunnelLink),
         }
@@ -543,6 +523,7 @@ impl Configuration {
         match reading.line {
             Line::Extend(_) => self.take_of_network(line, text, reading),
             Line::Adopt(_) => self.take_of_network(line, text, reading),
+            Line::Rule(_, _) => self.take_of_network(line, text, reading),
             Line::Rate(_) => self.take_of_link(line, text, reading),
             _ => {
                 if self.is_below_tunnel() {

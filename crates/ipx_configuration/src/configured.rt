@@ -6,6 +6,7 @@ ghost use Rattle.ipx_configuration.specs.Configured.{is_tunnel_of, has_tunnel, s
 use crate::carrier::{Carrier, TUNNEL};
 use crate::configuration::{Capacity, Configuration};
 use crate::lines::{USUAL_HOUSEHOLD, USUAL_SHARE, rate_of};
+use crate::rules::Rules;
 use crate::said::{
     ClientsSaid, LinkSetting, NetworkSetting, NumberSaid, Ranges, RateSaid, Sockets,
 };
@@ -69,6 +70,7 @@ pub struct LinkConfigured {
     pub nodes_by_address: bool,
     /// What comes from the cable gets the network's number where it says none, and what routers carried there is held.
     pub adopts: bool,
+    pub rules: Rules,
 }
 
 fn is_tunnel_of(port: usize, link: LinkSetting) -> bool
@@ -174,6 +176,7 @@ fn configured_at(
         trusted: link.trusted,
         nodes_by_address: link.nodes_line > 0,
         adopts: network.adopt_line == 0,
+        rules: network.rules,
     }
 }
 

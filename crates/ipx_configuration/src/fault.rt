@@ -45,4 +45,6 @@ pub enum Fault {
     ManySockets(usize),
     /// There is no room for the word's range.
     ManyRanges(usize),
+    /// A network has no room for one more rule.
+    ManyRules,
 }

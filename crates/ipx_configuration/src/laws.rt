@@ -1,21 +1,27 @@
 //! What follows from the definitions alone, for all lines.
-ghost use Rattle.std.specs.Prelude.{◌≡◌, ℕ, ◌<◌, ◌≤◌, ◌==◌, true, false, List, Option, None, Some, slice_get};
+ghost use Rattle.std.specs.Prelude.{◌≡◌, ℕ, ◌<◌, ◌≤◌, ◌==◌, true, false, Bool, List, [], ◌∷◌, ◌++◌, length, Option, None, Some, slice_get};
 ghost use Rattle.std.specs.Option.{is_some};
 ghost use Rattle.ipx_settings.specs.Networks.{number_in};
 ghost use Rattle.ipx_settings.specs.declared.expected.Expected.{Expected};
 ghost use Rattle.ipx_settings.specs.declared.network.NetworkBegun.{NetworkBegun};
+ghost use Rattle.ipx_settings.specs.declared.line.Line.TheVariants.{Rule};
 ghost use Rattle.ipx_settings.specs.declared.reading.Reading.{Reading};
+ghost use Rattle.ipx_settings.specs.declared.rule.RuleBegun.TheVariants.{Whole};
+ghost use Rattle.ipx_settings.specs.declared.rule.What.{What};
 ghost use Rattle.ipx_configuration.specs.Carriers.{tunnel, any_frames, same_carrier, take_the_same};
 ghost use Rattle.ipx_configuration.specs.Clashes.{clash};
 ghost use Rattle.ipx_configuration.specs.Configurations.{read_in, told, after, network_fault};
 ghost use Rattle.ipx_configuration.specs.Configured.{configured, rate_or_usual};
+ghost use Rattle.ipx_configuration.specs.Extends.{network_taken};
+ghost use Rattle.ipx_configuration.specs.Rules.{most_rules, rules_in, rule_said};
 ghost use Rattle.ipx_configuration.specs.Lines.{rate_of, with_nodes, link_taken};
 ghost use Rattle.ipx_configuration.specs.Memory.{most_networks, links_in};
-ghost use Rattle.ipx_configuration.specs.Wholes.{after_lines, IsBlank, AreApart, AreOrdered, is_of_network_or_link, is_of_internal, is_of_nodes};
+ghost use Rattle.ipx_configuration.specs.Wholes.{after_lines, IsBlank, AreApart, AreOrdered, is_of_network_or_link, is_of_internal, is_of_rule, is_of_nodes};
 ghost use Rattle.ipx_configuration.specs.declared.carrier.Carrier.{Carrier};
 ghost use Rattle.ipx_configuration.specs.declared.fault.Fault.{Fault};
-ghost use Rattle.ipx_configuration.specs.declared.fault.Fault.TheVariants.{Once};
+ghost use Rattle.ipx_configuration.specs.declared.fault.Fault.TheVariants.{Once, ManyRules};
 ghost use Rattle.ipx_configuration.specs.declared.said.LinkSetting.{LinkSetting};
+ghost use Rattle.ipx_configuration.specs.declared.said.NetworkSetting.{NetworkSetting};
 ghost use Rattle.ipx_configuration.specs.declared.configuration.Capacity.{Capacity};
 ghost use Rattle.ipx_configuration.specs.declared.configuration.Configuration.{Configuration};
 
@@ -60,6 +66,16 @@ pub fn internal_is_said_once()
         → (after capacity n text c).internal ≡ c.internal }
     ensures number { (capacity : Capacity) (b : NetworkBegun) (own : Option Expected) (c : Configuration) → 0 < c.internal.line → number_in b ≡ Some c.internal.number
         → is_some (network_fault capacity b own c) ≡ true }
+{}
+
+/// A right rule stands behind all others of its network; if there are 64, one more is told and changes nothing. No other line changes rules.
+pub fn rules_stand_in_order()
+    ensures last { (n : ℕ) (text : List ℕ) (r : Reading) (network : NetworkSetting) (permits : Bool) (what : What) → r.line ≡ Rule permits (Whole what) → r.fault ≡ None
+        → network.rules.count < most_rules → length network.rules.list ≡ most_rules → rules_in (network_taken n text r network).0.rules ≡ rules_in network.rules ++ rule_said permits what ∷ [] }
+    ensures full { (n : ℕ) (text : List ℕ) (r : Reading) (network : NetworkSetting) → is_of_rule r.line ≡ true → most_rules ≤ network.rules.count
+        → network_taken n text r network ≡ (network, Some ManyRules) }
+    ensures others { (n : ℕ) (text : List ℕ) (r : Reading) (network : NetworkSetting) → is_of_rule r.line ≡ false
+        → (network_taken n text r network).0.rules ≡ network.rules }
 {}
 
 /// Two links on one carrier, which is no tunnel's, receive at one rate.

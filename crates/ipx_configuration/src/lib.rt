@@ -17,9 +17,11 @@ mod configuration;
 mod configured;
 mod endpoint;
 mod fault;
+mod internal;
 pub mod laws;
 mod lines;
 mod memory;
+mod rules;
 mod said;
 mod sockets;
 
@@ -29,6 +31,7 @@ pub use crate::configured::LinkConfigured;
 pub use crate::endpoint::Endpoint;
 pub use crate::fault::Fault;
 pub use crate::memory::{LinkList, NetworkList};
+pub use crate::rules::{RuleSaid, Rules};
 pub use crate::said::{
     ClientsSaid, InternalSaid, LinkSetting, NetworkSetting, NumberSaid, Ranges, RateSaid, Sockets,
 };

@@ -4,6 +4,7 @@ ghost use Rattle.ipx_configuration.specs.Said.{has_socket, with_socket, with_ran
 ghost use Rattle.std.specs.List.{list_any};
 
 use crate::carrier::Carrier;
+use crate::rules::Rules;
 use ipx_settings::HostRange;
 
 /// The most sockets that a network extends.
@@ -116,6 +117,7 @@ pub struct NetworkSetting {
     pub sockets: Sockets,
     /// The number of the line that says that the router takes what comes from the cable as it is, or 0.
     pub adopt_line: usize,
+    pub rules: Rules,
 }
 
 /// A link, as its line says it, and the lines below.

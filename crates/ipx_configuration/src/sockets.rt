@@ -6,6 +6,7 @@ ghost use Rattle.ipx_configuration.specs.Lines.{words_from};
 use crate::clash::line_fault;
 use crate::fault::Fault;
 use crate::lines::once;
+use crate::rules::rule_taken;
 use crate::said::{MOST_SOCKETS, NetworkSetting, Sockets};
 use ipx_settings::{Expected, Line, Reading, socket, word};
 
@@ -93,6 +94,7 @@ pub(crate) fn network_taken(
     match reading.line {
         Line::Extend(_) => sockets_taken(network, text, reading.read, own),
         Line::Adopt(_) => adopt_taken(line, network, own),
+        Line::Rule(permits, begun) => rule_taken(network, permits, begun, own),
         _ => (network, None),
     }
 }

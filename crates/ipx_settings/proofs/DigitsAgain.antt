@@ -1,4 +1,4 @@
-use Rattle.std.proofs.Common.{◌≡◌, ℕ, ◌+◌, ◌*◌, ◌/◌, ◌%◌, ◌^◌, ◌<◌, ◌≤◌, true, false, List, [], ◌∷◌, ◌++◌, length, get_or, refl, sym, ap, subst, ◌∙◌, arith, inl, inr, Some, le-leb, ne_eqb}
+use Rattle.std.proofs.Common.{◌≡◌, ◌≢◌, ℕ, ◌+◌, ◌*◌, ◌/◌, ◌%◌, ◌^◌, ◌<◌, ◌≤◌, true, false, List, [], ◌∷◌, ◌++◌, length, get_or, refl, sym, ap, subst, ◌∙◌, arith, inl, inr, Some, le-leb, ne_eqb}
 use Rattle.std.proofs.lemmas.Bool.{cases_Bool, cases_eq}
 use Rattle.std.proofs.lemmas.Bool.Decides.{nat_tests}
 use Rattle.std.proofs.lemmas.Fmt.{decimal_is_IsNumeral}
@@ -15,9 +15,10 @@ use Rattle.ipx_settings.specs.Nodes.{node_bytes_of, node_of}
 use Rattle.ipx_settings.specs.Numbers.{hexadecimal_of}
 use Rattle.ipx_settings.specs.Right.{AreNumbers, IsInWord, IsWord}
 use Rattle.ipx_settings.specs.RightLines.{IsNode}
+use Rattle.ipx_settings.specs.Rules.{last_route}
 use Rattle.ipx_settings.specs.WritingLines.{byte_digits, bytes_digits, number_word, socket_word, rate_word}
 use Rattle.ipx_settings.proofs.NumbersAgain.{number_is, number_again}
-use Rattle.ipx_settings.proofs.Without.{each-digits}
+use Rattle.ipx_settings.proofs.Without.{Without, each-digits, other_byte}
 
 glyph_again : (d : ℕ) → d < 16 → digit_value (digit_glyph true d) ≡ d
 glyph_again d low = grind (arith, nat_tests)
@@ -93,6 +94,15 @@ network_again n least most =
     rw (le-leb (length (number_word n)) 8 (omega (arith, number_size n)))
     (number_is 16 1 last_network n (number_word n) (omega (arith, number_size n), bytes_all (to_be_bytes w32 n) (four_bytes n)) (number_value n (omega (arith, most))) least most)
 
+pub route_again : (n : ℕ) → 1 ≤ n → n ≤ last_route → hexadecimal_of 8 1 last_route (number_word n) ≡ Some n
+route_again n least most =
+    rw (le-leb (length (number_word n)) 8 (omega (arith, number_size n)))
+    (number_is 16 1 last_route n (number_word n) (omega (arith, number_size n), bytes_all (to_be_bytes w32 n) (four_bytes n)) (number_value n (omega (arith, most))) least most)
+
+-- a byte that is no digit isn't there
+pub number_without : (byte n : ℕ) → digit_value byte ≡ 36 → Without byte (number_word n)
+number_without byte n other = each-digits (λ c. c ≢ byte) 16 (number_word n) (λ c low. other_byte byte c other low) (bytes_all (to_be_bytes w32 n) (four_bytes n))
+
 socket_value : (n : ℕ) → n < 2 ^ 16 → digits_value 16 (socket_word n) ≡ n
 unfolding bytes_digits
 socket_value n low =
@@ -109,6 +119,19 @@ pub socket_again : (n : ℕ) → 1 ≤ n → n < 2 ^ 16 → socket_of (socket_wo
 socket_again n least low =
     rw (le-leb (length (socket_word n)) 4 (omega (arith, socket_size n)))
     (number_is 16 1 65535 n (socket_word n) (omega (arith, socket_size n), bytes_all (to_be_bytes w16 n) (two_bytes n)) (socket_value n low) least (omega (arith, low)))
+
+-- a type of services may be 0
+pub type_again : (n : ℕ) → n < 2 ^ 16 → hexadecimal_of 4 0 65535 (socket_word n) ≡ Some n
+type_again n low =
+    rw (le-leb (length (socket_word n)) 4 (omega (arith, socket_size n)))
+    (number_is 16 0 65535 n (socket_word n) (omega (arith, socket_size n), bytes_all (to_be_bytes w16 n) (two_bytes n)) (socket_value n low) (omega arith) (omega (arith, low)))
+
+pub no_star : (n : ℕ) → bytes_eq (socket_word n) (codes "*") ≡ false
+no_star n =
+    elim (cases_Bool (bytes_eq (socket_word n) (codes "*"))) [
+      | inl same ↦ absurd (omega (arith, socket_size n, ap length ((bytes_eq-Decides (socket_word n) (codes "*")).0 same)))
+      | inr other ↦ other
+    ]
 
 pub socket_is_word : (n : ℕ) → IsWord (socket_word n)
 socket_is_word n = digits_are_word _ _ (two_bytes n)

@@ -1,4 +1,4 @@
-use Rattle.std.proofs.Common.{◌≡◌, ℕ, ◌≤◌, nat_le, true, false, List, [], ◌∷◌, refl, arith, Some, None}
+use Rattle.std.proofs.Common.{◌≡◌, ℕ, ◌≤◌, nat_le, Bool, true, false, List, [], ◌∷◌, refl, arith, Some, None}
 use Rattle.std.specs.Prelude.{codes}
 use Rattle.ipx_settings.specs.Addresses.{own_host, four_at, six_at}
 use Rattle.ipx_settings.specs.Names.{padded, name_room}
@@ -24,6 +24,12 @@ use Rattle.ipx_settings.specs.declared.link.LinkBegun.{LinkBegun}
 use Rattle.ipx_settings.specs.declared.link.LinkBegun.TheVariants as begun
 use Rattle.ipx_settings.specs.declared.network.Head.{Head}
 use Rattle.ipx_settings.specs.declared.network.NetworkBegun.TheVariants as network
+use Rattle.ipx_settings.specs.declared.rule.Names.TheVariants as names
+use Rattle.ipx_settings.specs.declared.rule.RuleBegun.{RuleBegun}
+use Rattle.ipx_settings.specs.declared.rule.RuleBegun.TheVariants as rule
+use Rattle.ipx_settings.specs.declared.rule.Way.TheVariants.{In}
+use Rattle.ipx_settings.specs.declared.rule.What.{What}
+use Rattle.ipx_settings.specs.declared.rule.What.TheVariants as what
 
 -- words that make it a line
 abbrev pub CanEnd : Context → Line → Type 0
@@ -80,6 +86,22 @@ network_can_end c head (begun.UdpFrom a) = from_network_can_end c head a.host a.
 network_can_end c head (begun.End end) = (codes "raw" ∷ [], (line.Network (network.Link head (framed end)), (refl, refl)))
 network_can_end c head (begun.Whole whole) = ends_now c (line.Network (network.Link head (begun.Whole whole))) refl
 
+-- ---- rules
+
+abbrev whole : Bool → What → Line
+whole permits it = line.Rule permits (rule.Whole it)
+
+rule_can_end : (c : Context) (permits : Bool) (it : RuleBegun) → CanEnd c (line.Rule permits it)
+rule_can_end c permits rule.Nothing = (codes "nearest" ∷ [], (whole permits what.Nearest, (refl, refl)))
+rule_can_end c permits rule.Kind = (codes "1" ∷ [], (whole permits (what.Kind 1), (refl, refl)))
+rule_can_end c permits rule.OnSocket = (codes "1" ∷ [], (whole permits (what.OnSocket 1), (refl, refl)))
+rule_can_end c permits rule.Routes = (codes "1" ∷ codes "in" ∷ [], (whole permits (what.Routes In 1 1), (refl, refl)))
+rule_can_end c permits (rule.RoutesTo from to) = (codes "in" ∷ [], (whole permits (what.Routes In from to), (refl, refl)))
+rule_can_end c permits rule.Services = (codes "1" ∷ codes "*" ∷ codes "in" ∷ [], (whole permits (what.Services In 1 names.All), (refl, refl)))
+rule_can_end c permits (rule.ServicesOf kind) = (codes "*" ∷ codes "in" ∷ [], (whole permits (what.Services In kind names.All), (refl, refl)))
+rule_can_end c permits (rule.ServicesNamed kind it) = (codes "in" ∷ [], (whole permits (what.Services In kind it), (refl, refl)))
+rule_can_end c permits (rule.Whole it) = ends_now c (whole permits it) refl
+
 -- ---- lines
 
 abbrev a_head : ℕ → ℕ → Head
@@ -127,6 +149,7 @@ can_end c (line.Internal (internal.Node number)) some =
 can_end c (line.Internal (internal.Whole number node)) some = ends_now c (line.Internal (internal.Whole number node)) refl
 can_end c (line.Adopt false) some = (codes "no" ∷ [], (line.Adopt true, (refl, refl)))
 can_end c (line.Adopt true) some = ends_now c (line.Adopt true) refl
+can_end c (line.Rule permits it) some = rule_can_end c permits it
 
 -- ---- what doesn't end says what was expected
 
@@ -192,3 +215,12 @@ refuses c (line.Internal (internal.Node number)) open_still = (expected.Node, re
 refuses c (line.Internal (internal.Whole number node)) open_still = absurd cc
 refuses c (line.Adopt false) open_still = (expected.No, refl)
 refuses c (line.Adopt true) open_still = absurd cc
+refuses c (line.Rule permits rule.Nothing) open_still = (expected.Rule, refl)
+refuses c (line.Rule permits rule.Kind) open_still = (expected.PacketType, refl)
+refuses c (line.Rule permits rule.OnSocket) open_still = (expected.Socket, refl)
+refuses c (line.Rule permits rule.Routes) open_still = (expected.Networks, refl)
+refuses c (line.Rule permits (rule.RoutesTo from to)) open_still = (expected.Way, refl)
+refuses c (line.Rule permits rule.Services) open_still = (expected.ServiceType, refl)
+refuses c (line.Rule permits (rule.ServicesOf kind)) open_still = (expected.ServiceNames, refl)
+refuses c (line.Rule permits (rule.ServicesNamed kind it)) open_still = (expected.Way, refl)
+refuses c (line.Rule permits (rule.Whole it)) open_still = absurd cc

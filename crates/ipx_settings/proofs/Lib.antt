@@ -15,10 +15,12 @@ pub mod NamesAgain
 pub mod WordsAgain
 pub mod LinksAgain
 pub mod DigitsAgain
+pub mod RulesAgain
 pub mod LinesAgain
 pub mod ListsAgain
 pub mod AddressesRight
 pub mod LinksRight
+pub mod RulesRight
 pub mod LinesRight
 -- laws
 pub mod Begun

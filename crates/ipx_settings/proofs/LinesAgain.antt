@@ -15,7 +15,7 @@ use Rattle.ipx_settings.specs.Right.{IsWord, IsLink}
 use Rattle.ipx_settings.specs.RightLines.{Within, IsShares, IsHead, IsNode, MayHaveNode, IsWhole, IsNetwork, IsClients, IsRate, IsMost, IsInternal, IsRight}
 use Rattle.ipx_settings.specs.Words.{most_words}
 use Rattle.ipx_settings.specs.WritingLinks.{spaced, link_words}
-use Rattle.ipx_settings.specs.WritingLines.{bytes_digits, number_word, shares_words, head_words, maybe_link_words, begun_words, network_words, clients_words, rates_words, strangers_words, kilobits_words, nodes_words, internal_words, adopt_words, line_words}
+use Rattle.ipx_settings.specs.WritingLines.{bytes_digits, number_word, shares_words, head_words, maybe_link_words, begun_words, network_words, clients_words, rates_words, strangers_words, kilobits_words, nodes_words, internal_words, adopt_words, permit_word, line_words}
 use Rattle.ipx_settings.specs.declared.expected.Expected.{Expected}
 use Rattle.ipx_settings.specs.declared.internal.InternalBegun.{InternalBegun}
 use Rattle.ipx_settings.specs.declared.internal.InternalBegun.TheVariants as internal
@@ -42,6 +42,7 @@ use Rattle.ipx_settings.proofs.DigitsAgain.{network_again, number_is_word, decim
 use Rattle.ipx_settings.proofs.FirstWrong.{read, read_all}
 use Rattle.ipx_settings.proofs.LinksAgain.{link_again, link_is_words, literal}
 use Rattle.ipx_settings.proofs.NumbersAgain.{number_again}
+use Rattle.ipx_settings.proofs.RulesAgain.{rule_line, rule_is_words, rule_count}
 use Rattle.ipx_settings.proofs.WordsAgain.{words_again, before_again}
 
 -- ---- links, behind what stands before them
@@ -262,6 +263,7 @@ line_again c (line.Kilobits it) is = kilobits_line c it is
 line_again c (line.Nodes by_address) is = nodes_line c by_address is
 line_again c (line.Internal it) is = internal_line c it is
 line_again c (line.Adopt is_off) is = adopt_line c is_off is
+line_again c (line.Rule permits it) is = rule_line c permits it is
 
 -- ---- its words
 
@@ -356,6 +358,7 @@ line_is_words c (line.Kilobits it) is = (literal (codes "line") (omega arith) re
 line_is_words c (line.Nodes by_address) is = (literal (codes "nodes") (omega arith) refl, nodes_are_words by_address)
 line_is_words c (line.Internal it) is = (literal (codes "internal") (omega arith) refl, internal_are_words it is)
 line_is_words c (line.Adopt is_off) is = (literal (codes "adopt") (omega arith) refl, adopt_are_words is_off)
+line_is_words c (line.Rule permits it) is = rule_is_words permits it is
 
 -- ---- how many they are
 
@@ -429,6 +432,7 @@ line_count (line.Internal (internal.Node number)) = omega arith
 line_count (line.Internal (internal.Whole number node)) = omega arith
 line_count (line.Adopt false) = omega arith
 line_count (line.Adopt true) = omega arith
+line_count (line.Rule permits it) = omega (arith, rule_count (permit_word permits) it)
 
 -- ---- texts
 

@@ -4,7 +4,7 @@ use Rattle.std.specs.Option.{is_some, is_none}
 use Rattle.std.specs.Prelude.{Result, Ok, Err, codes}
 use Rattle.ipx_settings.specs.Addresses.{range_of, is_first}
 use Rattle.ipx_settings.specs.Beginnings.{if_right, said_by}
-use Rattle.ipx_settings.specs.Lines.{most_rate, most_kilobits, rate_or_none, socket_of, line_first, clients_step, share_behind, rate_step, strangers_step, kilobits_step, nodes_step, adopt_step, range_by, with_network, with_internal, line_step, line_ends, read_from, read_to, reading_by, reading_of}
+use Rattle.ipx_settings.specs.Lines.{most_rate, most_kilobits, rate_or_none, socket_of, line_first, clients_step, share_behind, rate_step, strangers_step, kilobits_step, nodes_step, adopt_step, range_by, with_network, with_internal, with_rule, line_step, line_ends, read_from, read_to, reading_by, reading_of}
 use Rattle.ipx_settings.specs.Lines as lines
 use Rattle.ipx_settings.specs.Internals.{internal_step, internal_ends}
 use Rattle.ipx_settings.specs.Links.{said, is_the, link_step, link_ends}
@@ -13,6 +13,7 @@ use Rattle.ipx_settings.specs.Nodes.{byte_at, bytes_by, step_of, is_single, node
 use Rattle.ipx_settings.specs.Numbers.{number_of, hexadecimal_of}
 use Rattle.ipx_settings.specs.Right.{AreNumbers, IsInWord, IsWord, IsLink}
 use Rattle.ipx_settings.specs.RightLines.{Within, IsHead, IsNode, MayHaveNode, IsWhole, IsNetwork, IsClients, IsRate, IsMost, IsInternal, IsSaid}
+use Rattle.ipx_settings.specs.Rules.{rule_step}
 use Rattle.ipx_settings.specs.Words.{is_blank, is_mark, before_mark, words, most_words}
 use Rattle.ipx_settings.specs.declared.addresses.HostRange.{HostRange}
 use Rattle.ipx_settings.specs.declared.expected.Expected.{Expected}
@@ -32,11 +33,14 @@ use Rattle.ipx_settings.specs.declared.link.LinkBegun.TheVariants as begun
 use Rattle.ipx_settings.specs.declared.network.Head.{Head}
 use Rattle.ipx_settings.specs.declared.network.NetworkBegun.{NetworkBegun}
 use Rattle.ipx_settings.specs.declared.network.NetworkBegun.TheVariants as network
+use Rattle.ipx_settings.specs.declared.rule.RuleBegun.{RuleBegun}
+use Rattle.ipx_settings.specs.declared.rule.RuleBegun.TheVariants as rule
 use Rattle.ipx_settings.proofs.AddressesAgain.{one_value}
 use Rattle.ipx_settings.proofs.AddressesRight.{bound, chosen, no_value, decimal_within, hexadecimal_within}
 use Rattle.ipx_settings.proofs.FirstWrong.{right}
 use Rattle.ipx_settings.proofs.LinksRight.{IsPart, no_error, said_right, chosen_right, ok_right, step_right}
 use Rattle.ipx_settings.proofs.Parts.{has_bytes, keeps}
+use Rattle.ipx_settings.proofs.RulesRight.{RulePart, rule_part, rule_right}
 
 -- ---- words of a text
 
@@ -235,6 +239,7 @@ LinePart c (line.Kilobits it) = MostPart 1 most_kilobits it
 LinePart c (line.Nodes by_address) = Unit {0}
 LinePart c (line.Internal it) = InternalPart it
 LinePart c (line.Adopt is_off) = Unit {0}
+LinePart c (line.Rule permits it) = RulePart it
 
 first_part : (c : Context) (word : List ℕ) (next : Line) → line_first word ≡ Ok next → LinePart c next
 first_part c word next e =
@@ -250,8 +255,10 @@ first_part c word next e =
     chosen_right P (is_the word (codes "line")) _ _ next (λ _ f. ok_right P (line.Kilobits None) next tt f) (λ _ e9.
     chosen_right P (is_the word (codes "nodes")) _ _ next (λ _ f. ok_right P (line.Nodes false) next tt f) (λ _ e10.
     chosen_right P (is_the word (codes "internal")) _ _ next (λ _ f. ok_right P (line.Internal internal.Nothing) next tt f) (λ _ e11.
-    chosen_right P (is_the word (codes "adopt")) _ _ next (λ _ f. ok_right P (line.Adopt false) next tt f) (λ _ f. absurd (no_error expected.Line next f))
-    e11) e10) e9) e8) e7) e6) e5) e4) e3) e2) e1) e
+    chosen_right P (is_the word (codes "adopt")) _ _ next (λ _ f. ok_right P (line.Adopt false) next tt f) (λ _ e12.
+    chosen_right P (is_the word (codes "permit")) _ _ next (λ _ f. ok_right P (line.Rule true rule.Nothing) next tt f) (λ _ e13.
+    chosen_right P (is_the word (codes "deny")) _ _ next (λ _ f. ok_right P (line.Rule false rule.Nothing) next tt f) (λ _ f. absurd (no_error expected.Line next f))
+    e13) e12) e11) e10) e9) e8) e7) e6) e5) e4) e3) e2) e1) e
 
 network_line_part : (c : Context) (b : NetworkBegun) (word : List ℕ) (r : Result NetworkBegun Expected) (next : Line) → IsWord word → NetworkPart c.has_cards b → network_step c.has_cards b word ≡ r
     → with_network r ≡ Ok next → LinePart c next
@@ -325,6 +332,11 @@ adopt_part c is_off word next e =
     chosen_right P is_off _ _ next (λ _ f. absurd (no_error expected.Nothing next f)) (λ _ e1.
     chosen_right P (is_the word (codes "no")) _ _ next (λ _ f. ok_right P (line.Adopt true) next tt f) (λ _ f. absurd (no_error expected.No next f)) e1) e
 
+rule_line_part : (c : Context) (permits : Bool) (it : RuleBegun) (word : List ℕ) (r : Result RuleBegun Expected) (next : Line) → IsWord word → RulePart it → rule_step it word ≡ r
+    → with_rule permits r ≡ Ok next → LinePart c next
+rule_line_part c permits it word (Ok more) next one part read e = ok_right (LinePart c) (line.Rule permits more) next (rule_part it more word one part read) e
+rule_line_part c permits it word (Err why) next one part read e = absurd (no_error why next e)
+
 line_part : (c : Context) (l next : Line) (word : List ℕ) → IsWord word → LinePart c l → line_step c l word ≡ Ok next → LinePart c next
 line_part c line.Nothing next word one part e = first_part c word next e
 line_part c (line.Network b) next word one part e = network_line_part c b word (network_step c.has_cards b word) next one part refl e
@@ -339,6 +351,7 @@ line_part c (line.Kilobits it) next word one part e = kilobits_part c it word ne
 line_part c (line.Nodes by_address) next word one part e = nodes_part c by_address word next e
 line_part c (line.Internal it) next word one part e = internal_line_part c it word (internal_step it word) next part refl e
 line_part c (line.Adopt is_off) next word one part e = adopt_part c is_off word next e
+line_part c (line.Rule permits it) next word one part e = rule_line_part c permits it word (rule_step it word) next one part refl e
 
 said_part : (c : Context) (l last : Line) (ws : List (List ℕ)) → AllByRecursion IsWord ws → LinePart c l → said_by c l ws ≡ Some last → LinePart c last
 said_part c l last [] are part e = subst (LinePart c) (one_value l last e) part
@@ -384,6 +397,7 @@ line_said c (line.Kilobits it) part ends = most_right 1 most_kilobits it part en
 line_said c (line.Nodes by_address) part ends = ends
 line_said c (line.Internal it) part ends = internal_right it part ends
 line_said c (line.Adopt is_off) part ends = ends
+line_said c (line.Rule permits it) part ends = rule_right it part ends
 
 words_said : (c : Context) (ws : List (List ℕ)) → AllByRecursion IsWord ws → (reading_by c ws).fault ≡ None → IsSaid c (reading_by c ws).line
 words_said c ws are none = by (nat_lt most_words (length ws)) refl

@@ -9,6 +9,7 @@ pub mod Addresses
 pub mod Links
 pub mod Networks
 pub mod Internals
+pub mod Rules
 pub mod Lines
 -- what is written, and values that are read
 pub mod Writing

@@ -6,6 +6,7 @@ use Rattle.ipx_settings.specs.Internals.{internal_step, internal_ends}
 use Rattle.ipx_settings.specs.Links.{said, is_the, link_step, link_ends}
 use Rattle.ipx_settings.specs.Networks.{network_step, network_ends}
 use Rattle.ipx_settings.specs.Numbers.{number_of, hexadecimal_of}
+use Rattle.ipx_settings.specs.Rules.{rule_step, rule_ends}
 use Rattle.ipx_settings.specs.Words.{words, before_mark, most_words}
 use Rattle.ipx_settings.specs.declared.reading.Reading.{Reading}
 use Rattle.ipx_settings.specs.declared.addresses.HostRange.{HostRange}
@@ -24,6 +25,8 @@ use Rattle.ipx_settings.specs.declared.link.LinkBegun.{LinkBegun}
 use Rattle.ipx_settings.specs.declared.link.LinkBegun.TheVariants as begun
 use Rattle.ipx_settings.specs.declared.network.NetworkBegun.{NetworkBegun}
 use Rattle.ipx_settings.specs.declared.network.NetworkBegun.TheVariants as network
+use Rattle.ipx_settings.specs.declared.rule.RuleBegun.{RuleBegun}
+use Rattle.ipx_settings.specs.declared.rule.RuleBegun.TheVariants as rule_begun
 
 -- the most of a rate, and of the kilobits of a line
 abbrev pub most_rate : ℕ
@@ -54,6 +57,8 @@ line_first word =
     else if is_the word (codes "nodes") then Ok (line.Nodes false)
     else if is_the word (codes "internal") then Ok (line.Internal internal.Nothing)
     else if is_the word (codes "adopt") then Ok (line.Adopt false)
+    else if is_the word (codes "permit") then Ok (line.Rule true rule_begun.Nothing)
+    else if is_the word (codes "deny") then Ok (line.Rule false rule_begun.Nothing)
     else Err expected.Line
 
 -- the most clients, and the most of one address, which are no more
@@ -123,6 +128,10 @@ abbrev pub with_internal : Result InternalBegun Expected → Result Line Expecte
 with_internal (Ok next) = Ok (line.Internal next)
 with_internal (Err e) = Err e
 
+abbrev pub with_rule : Bool → Result RuleBegun Expected → Result Line Expected
+with_rule permits (Ok next) = Ok (line.Rule permits next)
+with_rule permits (Err e) = Err e
+
 -- a word more
 abbrev pub line_step : Context → Line → List ℕ → Result Line Expected
 line_step c line.Nothing word = line_first word
@@ -138,6 +147,7 @@ line_step c (line.Kilobits begun) word = kilobits_step begun word
 line_step c (line.Nodes by_address) word = nodes_step by_address word
 line_step c (line.Internal begun) word = with_internal (internal_step begun word)
 line_step c (line.Adopt is_off) word = adopt_step is_off word
+line_step c (line.Rule permits begun) word = with_rule permits (rule_step begun word)
 
 abbrev pub clients_end : ClientsBegun → Bool
 clients_end clients.Nothing = false
@@ -165,6 +175,7 @@ line_ends (line.Kilobits begun) = is_some begun
 line_ends (line.Nodes by_address) = by_address
 line_ends (line.Internal begun) = internal_ends begun
 line_ends (line.Adopt is_off) = is_off
+line_ends (line.Rule permits begun) = rule_ends begun
 
 abbrev pub fault_of : {A : Type 0} → Result A Expected → Option Expected
 fault_of (Ok a) = None

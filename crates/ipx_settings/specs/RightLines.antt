@@ -5,7 +5,8 @@ use Rattle.ipx_settings.specs.Addresses.{host_bits, is_first}
 use Rattle.ipx_settings.specs.Lines.{most_rate, most_kilobits}
 use Rattle.ipx_settings.specs.Networks.{last_network, least_longest, most_longest, may_have_node}
 use Rattle.ipx_settings.specs.Nodes.{is_single}
-use Rattle.ipx_settings.specs.Right.{AreNumbers, IsLink}
+use Rattle.ipx_settings.specs.Right.{AreNumbers, IsLink, IsWord}
+use Rattle.ipx_settings.specs.Rules.{last_route, service_name_of}
 use Rattle.ipx_settings.specs.Words.{most_words}
 use Rattle.ipx_settings.specs.declared.addresses.HostRange.{HostRange}
 use Rattle.ipx_settings.specs.declared.internal.InternalBegun.{InternalBegun}
@@ -24,6 +25,12 @@ use Rattle.ipx_settings.specs.declared.network.Head.{Head}
 use Rattle.ipx_settings.specs.declared.network.NetworkBegun.{NetworkBegun}
 use Rattle.ipx_settings.specs.declared.network.NetworkBegun.TheVariants as network
 use Rattle.ipx_settings.specs.declared.network.Shares.{Shares}
+use Rattle.ipx_settings.specs.declared.rule.Names.{Names}
+use Rattle.ipx_settings.specs.declared.rule.Names.TheVariants as names
+use Rattle.ipx_settings.specs.declared.rule.RuleBegun.{RuleBegun}
+use Rattle.ipx_settings.specs.declared.rule.RuleBegun.TheVariants as rule
+use Rattle.ipx_settings.specs.declared.rule.What.{What}
+use Rattle.ipx_settings.specs.declared.rule.What.TheVariants as what
 
 -- a number between two, or one of them
 abbrev pub Within : ℕ → ℕ → ℕ → Type 0
@@ -82,6 +89,27 @@ IsInternal (internal.Number number) = Within 1 last_network number
 IsInternal (internal.Whole number node) = Within 1 last_network number × IsNode node
 IsInternal other = ⊥
 
+-- the name of a service, in its room
+abbrev pub IsServiceName : List ℕ → Type 0
+IsServiceName field = (name : List ℕ) × IsWord name × (service_name_of name ≡ Some field)
+
+abbrev pub AreNames : Names → Type 0
+AreNames names.All = Unit {0}
+AreNames (names.Is name) = IsServiceName name
+AreNames (names.Begins name) = IsServiceName name
+
+-- what a rule names
+abbrev pub IsWhat : What → Type 0
+IsWhat (what.Kind n) = Within 0 255 n
+IsWhat (what.OnSocket n) = Within 1 65535 n
+IsWhat what.Nearest = Unit {0}
+IsWhat (what.Routes way from to) = Within 1 last_route from × Within 1 last_route to × (from ≤ to)
+IsWhat (what.Services way kind names) = Within 0 65535 kind × AreNames names
+
+abbrev pub IsRule : RuleBegun → Type 0
+IsRule (rule.Whole it) = IsWhat it
+IsRule other = ⊥
+
 -- what a line without a list can say, read in that context
 abbrev pub IsRight : Context → Line → Type 0
 IsRight c line.Nothing = Unit {0}
@@ -97,6 +125,7 @@ IsRight c (line.Kilobits it) = IsMost 1 most_kilobits it
 IsRight c (line.Nodes by_address) = by_address ≡ true
 IsRight c (line.Internal it) = IsInternal it
 IsRight c (line.Adopt is_off) = is_off ≡ true
+IsRight c (line.Rule permits it) = IsRule it
 
 -- a range whose address is its first
 abbrev pub IsRange : HostRange → Type 0
@@ -121,3 +150,4 @@ IsSaid c (line.Kilobits it) = IsMost 1 most_kilobits it
 IsSaid c (line.Nodes by_address) = by_address ≡ true
 IsSaid c (line.Internal it) = IsInternal it
 IsSaid c (line.Adopt is_off) = is_off ≡ true
+IsSaid c (line.Rule permits it) = IsRule it

@@ -5,7 +5,7 @@ use Rattle.std.specs.Int.{to_be_bytes, w16, w32}
 use Rattle.std.specs.Net.Text.{ipv4_text}
 use Rattle.ipx_settings.specs.Words.{most_words}
 use Rattle.ipx_settings.specs.Writing.{written_size, written_into}
-use Rattle.ipx_settings.specs.WritingLinks.{spaced, link_words}
+use Rattle.ipx_settings.specs.WritingLinks.{spaced, name_in, link_words}
 use Rattle.ipx_settings.specs.declared.addresses.HostRange.{HostRange}
 use Rattle.ipx_settings.specs.declared.internal.InternalBegun.{InternalBegun}
 use Rattle.ipx_settings.specs.declared.internal.InternalBegun.TheVariants as internal
@@ -22,6 +22,14 @@ use Rattle.ipx_settings.specs.declared.network.Head.{Head}
 use Rattle.ipx_settings.specs.declared.network.NetworkBegun.{NetworkBegun}
 use Rattle.ipx_settings.specs.declared.network.NetworkBegun.TheVariants as network
 use Rattle.ipx_settings.specs.declared.network.Shares.{Shares}
+use Rattle.ipx_settings.specs.declared.rule.Names.{Names}
+use Rattle.ipx_settings.specs.declared.rule.Names.TheVariants as names
+use Rattle.ipx_settings.specs.declared.rule.RuleBegun.{RuleBegun}
+use Rattle.ipx_settings.specs.declared.rule.RuleBegun.TheVariants as rule_begun
+use Rattle.ipx_settings.specs.declared.rule.Way.{Way}
+use Rattle.ipx_settings.specs.declared.rule.Way.TheVariants.{In, Out}
+use Rattle.ipx_settings.specs.declared.rule.What.{What}
+use Rattle.ipx_settings.specs.declared.rule.What.TheVariants as what
 
 -- two digits for each byte, of upper case
 abbrev pub byte_digits : ℕ → List ℕ
@@ -96,6 +104,38 @@ abbrev pub adopt_words : Bool → List (List ℕ)
 adopt_words false = []
 adopt_words true = codes "no" ∷ []
 
+-- a socket by four digits, or a type of services
+abbrev pub socket_word : ℕ → List ℕ
+socket_word socket = bytes_digits (to_be_bytes w16 socket)
+
+abbrev pub way_word : Way → List ℕ
+way_word In = codes "in"
+way_word Out = codes "out"
+
+abbrev pub names_word : Names → List ℕ
+names_word names.All = codes "*"
+names_word (names.Is name) = name_in name
+names_word (names.Begins name) = name_in name ++ codes "*"
+
+abbrev pub networks_word : ℕ → ℕ → List ℕ
+networks_word from to = number_word from ++ codes "-" ++ number_word to
+
+-- what a rule names, behind what it does with that
+abbrev pub what_words : List ℕ → What → List (List ℕ)
+what_words first (what.Kind n) = first ∷ codes "type" ∷ decimal n ∷ []
+what_words first (what.OnSocket n) = first ∷ codes "socket" ∷ socket_word n ∷ []
+what_words first what.Nearest = first ∷ codes "nearest" ∷ []
+what_words first (what.Routes way from to) = first ∷ codes "route" ∷ networks_word from to ∷ way_word way ∷ []
+what_words first (what.Services way kind names) = first ∷ codes "service" ∷ socket_word kind ∷ names_word names ∷ way_word way ∷ []
+
+abbrev pub rule_words : List ℕ → RuleBegun → List (List ℕ)
+rule_words first (rule_begun.Whole it) = what_words first it
+rule_words first other = first ∷ []
+
+abbrev pub permit_word : Bool → List ℕ
+permit_word true = codes "permit"
+permit_word false = codes "deny"
+
 -- all words of a line but for lists, which are written by themselves
 abbrev pub line_words : Line → List (List ℕ)
 line_words line.Nothing = []
@@ -111,10 +151,7 @@ line_words (line.Kilobits it) = codes "line" ∷ kilobits_words it
 line_words (line.Nodes by_address) = codes "nodes" ∷ nodes_words by_address
 line_words (line.Internal it) = codes "internal" ∷ internal_words it
 line_words (line.Adopt is_off) = codes "adopt" ∷ adopt_words is_off
-
--- a socket by four digits
-abbrev pub socket_word : ℕ → List ℕ
-socket_word socket = bytes_digits (to_be_bytes w16 socket)
+line_words (line.Rule permits it) = rule_words (permit_word permits) it
 
 abbrev pub range_word : HostRange → List ℕ
 range_word range = ipv4_text range.first ++ codes "/" ++ decimal range.bits

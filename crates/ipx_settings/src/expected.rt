@@ -71,4 +71,16 @@ pub enum Expected {
     ByAddress,
     /// `no`.
     No,
+    /// One of the words that say what a rule names.
+    Rule,
+    /// A type of packets.
+    PacketType,
+    /// A network, or the first and the last of several.
+    Networks,
+    /// `in` or `out`.
+    Way,
+    /// A type of services.
+    ServiceType,
+    /// Names of services.
+    ServiceNames,
 }

@@ -8,6 +8,7 @@ use crate::internal::InternalBegun;
 use crate::link::LinkBegun;
 use crate::network::NetworkBegun;
 use crate::numbers::{hexadecimal, number, short};
+use crate::rule::RuleBegun;
 use crate::words::is_word;
 
 /// The most that a rate may be, and the kilobits of a line: ten gigabits.
@@ -81,6 +82,8 @@ pub enum Line {
     Internal(InternalBegun),
     /// The router takes what comes from the cable as it is; false where the word `no` is missing still.
     Adopt(bool),
+    /// A rule, which permits what it names, or denies it.
+    Rule(bool, RuleBegun),
 }
 
 /// A number a second, or 0 for `none`.
@@ -129,6 +132,10 @@ fn first(word: &[u8]) -> Result<Line, Expected>
         Ok(Line::Internal(InternalBegun::Nothing))
     } else if is_word(word, b"adopt") {
         Ok(Line::Adopt(false))
+    } else if is_word(word, b"permit") {
+        Ok(Line::Rule(true, RuleBegun::Nothing))
+    } else if is_word(word, b"deny") {
+        Ok(Line::Rule(false, RuleBegun::Nothing))
     } else {
         Err(Expected::Line)
     }
@@ -290,6 +297,10 @@ impl Line {
                 Err(expected) => Err(expected),
             },
             Line::Adopt(is_off) => adopt_step(is_off, word),
+            Line::Rule(permits, begun) => match begun.step(word) {
+                Ok(next) => Ok(Line::Rule(permits, next)),
+                Err(expected) => Err(expected),
+            },
         }
     }
 
@@ -311,6 +322,7 @@ impl Line {
             Line::Nodes(by_address) => by_address,
             Line::Internal(begun) => begun.ends(),
             Line::Adopt(is_off) => is_off,
+            Line::Rule(_, begun) => begun.ends(),
         }
     }
 

@@ -36,7 +36,7 @@ fn name_length(bytes: &[u8]) -> usize
 }
 
 /// Puts a name that has zeros behind it.
-fn put_name(room: &mut [u8], at: usize, bytes: &[u8]) -> usize
+pub(crate) fn put_name(room: &mut [u8], at: usize, bytes: &[u8]) -> usize
     requires { at + length bytes.now ≤ length room.old }
     ensures room { take result room.new ≡ take at room.old ++ name_in bytes.now }
     ensures most { result ≤ at + length bytes.now }
