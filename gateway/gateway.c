@@ -117,8 +117,9 @@ static void send_all(gateway *it, const origin *by, const uint8_t *heard)
         ipxr_packet_sent sent;
         uint8_t *packet = gateway_room(it);
         bool is_there = ipxr_get(&it->router, k, &sent, packet, LONGEST) == 0 && sent.port < it->port_count; /* (nobody is on its own network) */
-        if (is_there && edge_lets_out(it, first_of(it, &it->ports[sent.port]), packet, sent.length))
-            gateway_send(it, &it->ports[sent.port], by != NULL && goes_on(packet, heard) ? by : NULL, sent.node, packet, sent.length);
+        size_t left = is_there ? edge_lets_out(it, first_of(it, &it->ports[sent.port]), packet, sent.length) : 0;
+        if (left > 0)
+            gateway_send(it, &it->ports[sent.port], by != NULL && goes_on(packet, heard) ? by : NULL, sent.node, packet, left);
     }
     ipxr_clear(&it->router);
 }

@@ -48,7 +48,8 @@ static bool has_same_clients(const network_setting *a, const network_setting *b)
 /* Whether the same goes between the network and others: broadcasts that are copied, and what passes the edge. */
 static bool has_same_sockets(const network_setting *a, const network_setting *b)
 {
-    return a->adopts == b->adopts && a->socket_count == b->socket_count && memcmp(a->sockets, b->sockets, a->socket_count * sizeof *a->sockets) == 0;
+    return a->adopts == b->adopts && a->rule_count == b->rule_count && memcmp(a->rules, b->rules, a->rule_count * sizeof *a->rules) == 0 &&
+           a->socket_count == b->socket_count && memcmp(a->sockets, b->sockets, a->socket_count * sizeof *a->sockets) == 0;
 }
 
 /* ---- Numbers ---- */

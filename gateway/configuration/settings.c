@@ -15,7 +15,8 @@ static const char KINDS[][KIND_ROOM] = {"", "ethernet2", "raw", "llc", "snap", "
 
 /* (one more kind of the library needs its word, and each of its lists has room here) */
 typedef char has_word_for_each_kind[sizeof KINDS / sizeof *KINDS == ANY_KIND + 1 ? 1 : -1];
-typedef char has_room_for_all[IPXR_ALL_LINKS <= MOST_LINKS && IPXR_ALL_SOCKETS <= MOST_SOCKETS && IPXR_ALL_RANGES <= MOST_RANGES && IPXR_ALL_RULES <= MOST_RULES ? 1 : -1];
+typedef char has_room_for_all[IPXR_ALL_LINKS <= MOST_LINKS && IPXR_ALL_SOCKETS <= MOST_SOCKETS && IPXR_ALL_RANGES <= MOST_RANGES &&
+                              IPXR_ALL_RULES <= MOST_RULES ? 1 : -1];
 
 const char *kind_word(uint8_t kind)
 {

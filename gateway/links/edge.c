@@ -45,20 +45,38 @@ static void look_for_claims(network *on, const ipxr_port *at, const uint8_t *pac
           node_words(packet + AT_FROM_NODE, node));
 }
 
+/* What the rules of a network let pass of a packet: so many bytes of it, 0 where nothing passes. */
+static size_t passes(const network *on, uint8_t way, const ipxr_port *at, uint8_t *packet, size_t length)
+{
+    size_t left = length;
+    if (on->set->rule_count > 0)
+        (void)ipxr_edge_filter(way, at, on->set->rules, on->set->rule_count, packet, length, &left);
+    return left;
+}
+
+/* The packet is copied, where it may be changed. */
+static void copy(gateway *it, arrived *what)
+{
+    memcpy(it->entered, what->packet, what->length);
+    what->packet = it->entered;
+}
+
 reason edge_lets_in(gateway *it, arrived *what)
 {
+    const network_setting *set = what->on->set;
     const ipxr_port at = port_at(what->on);
     look_for_claims(what->on, &at, what->packet, what->length);
-    if (!what->on->set->adopts || what->length > LONGEST)
-        return REASONS; /* (of one that is too long the router says so) */
-    if (ipxr_edge_is_held(&at, what->packet, what->length) == 1)
+    if (what->length > LONGEST)
+        return REASONS; /* (the router says that it is too long) */
+    if (set->adopts && ipxr_edge_is_held(&at, what->packet, what->length) == 1)
         return FROM_AFAR;
-    if (may_lack_number(what->packet)) {
-        memcpy(it->entered, what->packet, what->length);
+    if (set->rule_count > 0 || (set->adopts && may_lack_number(what->packet)))
+        copy(it, what);
+    if (set->adopts && what->packet == it->entered)
         (void)ipxr_edge_number(&at, it->entered, what->length);
-        what->packet = it->entered;
-    }
-    return REASONS;
+    if (set->rule_count > 0)
+        what->length = passes(what->on, IPXR_WAY_IN, &at, it->entered, what->length);
+    return what->length > 0 ? REASONS : DENIED;
 }
 
 /* Whether it is an answer to a query for the nearest service. */
@@ -68,7 +86,7 @@ static bool names_nearest(const uint8_t *packet, size_t length)
 }
 
 /* The fewest hops of a server of a type that was heard on a port; IPXR_NO_LIMIT where none was. */
-static uint16_t fewest_hops(const gateway *it, uint8_t number, uint16_t type)
+static uint16_t fewest_hops(gateway *it, uint8_t number, uint16_t type)
 {
     uint16_t fewest = IPXR_NO_LIMIT;
     ipxr_service_record service;
@@ -78,11 +96,22 @@ static uint16_t fewest_hops(const gateway *it, uint8_t number, uint16_t type)
     return fewest;
 }
 
-bool edge_lets_out(gateway *it, const network *on, const uint8_t *packet, size_t length)
+/* Whether it is one that a server on the asker's own cable makes needless. */
+static bool is_needless(gateway *it, const network *on, const ipxr_port *at, const uint8_t *packet, size_t length)
+{
+    if (!on->set->adopts || !names_nearest(packet, length))
+        return false;
+    uint16_t fewest = fewest_hops(it, (uint8_t)on->set->port, get16(packet + AT_SERVICE));
+    return fewest != IPXR_NO_LIMIT && ipxr_edge_is_needless(at, fewest, packet, length) == 1;
+}
+
+size_t edge_lets_out(gateway *it, network *on, uint8_t *packet, size_t length)
 {
     const ipxr_port at = port_at(on);
-    if (!on->set->adopts || !names_nearest(packet, length))
-        return true;
-    uint16_t fewest = fewest_hops(it, (uint8_t)on->set->port, get16(packet + AT_SERVICE));
-    return fewest == IPXR_NO_LIMIT || ipxr_edge_is_needless(&at, fewest, packet, length) != 1;
+    if (is_needless(it, on, &at, packet, length))
+        return 0;
+    size_t left = passes(on, IPXR_WAY_OUT, &at, packet, length);
+    if (left == 0)
+        counts_lose(&on->counts, DENIED);
+    return left;
 }

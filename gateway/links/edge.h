@@ -1,6 +1,6 @@
 /* What a packet passes between its network and the router's port there (ipxr_edge.h, docs/EDGE.md): numbers that its sender didn't know are
- * filled in, and what only neighbours may say to the router, but another router carried there, is held. A router that has another number for
- * a cable is told. And who asks for the nearest service gets no answer that a server on his own cable makes needless. */
+ * filled in; what only neighbours may say to the router, but another router carried there, is held; and rules say what passes. A router that
+ * has another number for a cable is told. Who asks for the nearest service gets no answer that a server on his own cable makes needless. */
 #ifndef EDGE_H
 #define EDGE_H
 
@@ -10,7 +10,7 @@
  * next one comes. */
 reason edge_lets_in(gateway *it, arrived *what);
 
-/* Whether what the router sends on a network goes out. */
-bool edge_lets_out(gateway *it, const network *on, const uint8_t *packet, size_t length);
+/* What goes out of a packet that the router sends on a network: so many bytes of it, 0 where it doesn't. A response may lose entries. */
+size_t edge_lets_out(gateway *it, network *on, uint8_t *packet, size_t length);
 
 #endif

@@ -3,6 +3,7 @@
 #include <string.h>
 
 #include "ipx.h"
+#include "links/edge.h"
 
 static bool names(const network_setting *it, uint16_t socket)
 {
@@ -26,8 +27,11 @@ static void hand_to(gateway *it, port *router_port, const origin *by, const netw
         gateway_lose(to, NOT_EXTENDED);
         return;
     }
+    size_t left = edge_lets_out(it, to, copy, length);
+    if (left == 0)
+        return;
     to->counts.extended++;
-    gateway_send(it, router_port, by, copy + AT_TO_NODE, copy, length);
+    gateway_send(it, router_port, by, copy + AT_TO_NODE, copy, left);
 }
 
 void extend(gateway *it, network *on, const origin *by, const uint8_t *packet, size_t length)

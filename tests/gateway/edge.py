@@ -7,12 +7,13 @@ import os
 import struct
 
 from cards import has_taps
+from changed import Changed
 from frames import FRONTS, Packets, Station, Udp
 from lab import (EVERYONE, GAME, RIP, SAP, Client, Clock, Gateway, address, comes_next, free_ports, packet, reaches, rip_response, sap_response,
                  tunnels, until)
 from spaces import ip
 from systems import SYSTEM, Windows
-from trying import Counts, begin, left_out, tried, tried_inside
+from trying import Counts, begin, has_linux, left_out, tried, tried_inside
 
 STATION = bytes.fromhex("020000000AA1")
 SERVER, OFFERED = 0x4010, 0x451  # a server's type, and the socket of its service
@@ -171,6 +172,67 @@ def another_number():
         assert sum(words in it for it in gate.lines) == 2, gate.lines
 
 
+def routes_told(far, gate, network):
+    """The networks to which the router has a way, as it tells who asks."""
+    far.say(address(0, gate.nodes[network], RIP), struct.pack(">HIHH", 1, 0xFFFFFFFF, 0xFFFF, 0xFFFF), kind=1)
+    heard = far.hear(lambda it: it[28:30] == struct.pack(">H", RIP) and it[16:18] == struct.pack(">H", GAME))
+    return {int.from_bytes(heard[at:at + 4], "big") for at in range(32, len(heard), 8)}
+
+
+def rules_come_in():
+    """Of several rules the first that names something decides: a response loses routes and services, and packets go nowhere."""
+    wire = Udp()
+    below = "deny type 20\ndeny socket 0455\npermit route 1001 in\ndeny route 1000-1FFF in\ndeny service 0004 LAB* in\ndeny nearest\n"
+    with Gateway(on_a_cable(wire) + below) as gate:
+        station, far = unnumbered(gate, wire), Client(gate.ports[NETWORK])
+        station.network = CABLE
+        wire.send(framed(rip_response(CABLE, STATION, [(0x1000, 1, 2), (0x1001, 1, 2), (0x2000, 1, 2)])))
+        wire.send(framed(rip_response(CABLE, STATION, [(0x1FFF, 1, 2)])))
+        services = [(4, "LAB1", CABLE, STATION, OFFERED, 1), (4, "OTHER", CABLE, STATION, OFFERED, 1), (7, "LAB2", CABLE, STATION, OFFERED, 1)]
+        wire.send(framed(sap_response(CABLE, STATION, services)))
+        gate.until_counted(CABLE, "denied", 1)
+        until(lambda: "services: 2\n" in gate.report(), "two services")
+        assert routes_told(far, gate, NETWORK) == {CABLE, 0x1001, 0x2000}
+        assert set(services_of(far, gate)) == {"OTHER", "LAB2"}
+        station.say(address(0, EVERYONE, GAME), bytes(32) + b"all", node=EVERYONE, kind=20)
+        station.say(address(NETWORK, far.node, 0x455), b"to a socket")
+        station.say(address(0, gate.nodes[CABLE], SAP), struct.pack(">HH", 3, 4), kind=0)
+        assert reaches(station, far) and gate.counted(CABLE, "denied") == 4
+        assert far.hear(lambda it: it[30:] == b"to a socket" or it[5] == 20, 0) is None
+
+
+def rules_go_out():
+    """What is denied on its way out isn't told, nor sent; what the network's own clients say to each other is."""
+    with Gateway(tunnels(2) + "deny type 20\ndeny route 1000-1FFF out\ndeny service * LAB* out\ndeny socket 0455\n") as gate:
+        one, far, other = Client(gate.ports[0x10]), Client(gate.ports[0x20]), Client(gate.ports[0x20])
+        one.send(rip_response(0x10, one.node, [(0x1000, 1, 2), (0x2000, 1, 2)]))
+        one.send(sap_response(0x10, one.node, [(4, "LAB1", 0x10, one.node, OFFERED, 1), (4, "OTHER", 0x10, one.node, OFFERED, 1)]))
+        until(lambda: "services: 2\n" in gate.report(), "two services")
+        assert routes_told(far, gate, 0x20) == {0x10, 0x2000}
+        far.say(address(0, gate.nodes[0x20], SAP), QUERY)
+        heard = far.hear(lambda it: it[28:30] == struct.pack(">H", SAP) and it[16:18] == struct.pack(">H", GAME))
+        assert len(heard) == 96 and heard[34:39] == b"OTHER", heard
+        one.say(far.at(0x455), b"to a socket")
+        one.say(address(0, EVERYONE, GAME), bytes(32) + b"all", kind=20)
+        assert comes_next(one, far), "what is denied comes"
+        other.say(far.at(0x455), b"from beside")
+        assert far.hear()[30:] == b"from beside"
+
+
+def rules_change():
+    """Another reload brings other rules, which hold at once; the router runs on."""
+    text = tunnels(2).replace(":0\n", ":{}\n").format(*free_ports(2))
+    with Changed(text) as gate:
+        one, far = Client(gate.ports[0x10]), Client(gate.ports[0x20])
+        assert reaches(one, far)
+        told = gate.reload(text + f"deny socket {GAME:04X}\n")
+        assert "1 with other sockets or edge" in told and "afresh" not in told, told
+        one.say(far.at(), b"denied")
+        gate.until_counted(0x20, "denied", 1)
+        gate.reload(text)
+        assert comes_next(one, far)
+
+
 def none_is_adopted():
     """Where a network doesn't adopt, the router hears what comes as it comes: 0 stays 0, and what routers carried is heard."""
     wire = Udp()
@@ -235,7 +297,9 @@ def inside():
 
 def main():
     counts = tried(is_answered, is_found, routes_of_a_neighbour, nobody_passes_for_a_neighbour, as_it_came, nearest_server, another_number,
-                   none_is_adopted)
+                   rules_come_in, rules_go_out, none_is_adopted)
+    if has_linux("rules that change", "the status socket is Linux' own"):
+        counts.run(rules_change)
     if SYSTEM is Windows or not os.path.isfile(os.environ.get(CAPTURE, "")):
         left_out("a capture of a real cable", f"{CAPTURE} names none")
         return counts

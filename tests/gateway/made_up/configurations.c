@@ -191,6 +191,8 @@ static void add_network(size_t *at, const made_network *it)
     if (!it->is_of_several)
         add(at, " %s", it->links[0].words);
     add(at, "%s\n%s%s", has_node(it) ? it->node : "", it->extend, it->extend[0] != '\0' ? "\n" : "");
+    if (it->number % 4 == 0)
+        add(at, "deny socket 0455\npermit service 0004 * in\ndeny service * * out\ndeny route 20-2F in\n");
     for (size_t k = 0; k < it->count; k++) {
         if (it->is_of_several)
             add(at, "link %s\n", it->links[k].words);
