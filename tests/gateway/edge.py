@@ -59,7 +59,7 @@ def is_answered():
 def services_of(far, gate):
     """The services that the router tells, by their name: where they are, and how far."""
     far.say(address(0, gate.nodes[NETWORK], SAP), QUERY)
-    answer = far.hear(lambda it: it[28:30] == struct.pack(">H", SAP) and it[16:18] == struct.pack(">H", GAME))
+    answer = far.hear(is_told_of_services)
     entries = [answer[start:start + 64] for start in range(32, len(answer), 64)]
     return {it[2:50].rstrip(b"\0").decode(): (it[50:62], int.from_bytes(it[62:], "big")) for it in entries}
 
@@ -130,14 +130,19 @@ def as_it_came():
         assert comes_next(one, beside)
 
 
+def is_told_of_services(bytes_):
+    """Whether the router answers a query."""
+    return bytes_[28:30] == struct.pack(">H", SAP) and bytes_[16:18] == struct.pack(">H", GAME)
+
+
 def nearest_for(asker, gateway):
-    """The name and hops of the server that the router names as the nearest; None where it names none before the asker hears himself."""
+    """The name and hops of the server that the router names as the nearest; None where it names none before it answers for all."""
     asker.say(address(0, gateway, SAP), struct.pack(">HH", 3, SERVER), kind=0)
     asker.say(address(0, gateway, SAP), struct.pack(">HH", 1, SERVER), kind=0)
-    heard = asker.hear(lambda it: it[28:30] == struct.pack(">H", SAP) and it[16:18] == struct.pack(">H", GAME))
-    if heard[30:32] != struct.pack(">H", 4):
-        return None
-    return heard[34:82].rstrip(b"\0").decode(), int.from_bytes(heard[94:96], "big")
+    found, heard = None, asker.hear(is_told_of_services)
+    while heard[30:32] == struct.pack(">H", 4):
+        found, heard = (heard[34:82].rstrip(b"\0").decode(), int.from_bytes(heard[94:96], "big")), asker.hear(is_told_of_services)
+    return found
 
 
 def nearest_server():
@@ -210,7 +215,7 @@ def rules_go_out():
         until(lambda: "services: 2\n" in gate.report(), "two services")
         assert routes_told(far, gate, 0x20) == {0x10, 0x2000}
         far.say(address(0, gate.nodes[0x20], SAP), QUERY)
-        heard = far.hear(lambda it: it[28:30] == struct.pack(">H", SAP) and it[16:18] == struct.pack(">H", GAME))
+        heard = far.hear(is_told_of_services)
         assert len(heard) == 96 and heard[34:39] == b"OTHER", heard
         one.say(far.at(0x455), b"to a socket")
         one.say(address(0, EVERYONE, GAME), bytes(32) + b"all", kind=20)

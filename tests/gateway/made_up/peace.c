@@ -12,9 +12,9 @@
 #include "world.h"
 
 /* Turns of a second: until all is empty; from then on somebody comes in, and another who only listens, he speaks, and has been heard. The router
- * says what it knows in a minute. (an address of which few strangers are answered may have to wait for a second answer) */
+ * says what it knows in a minute. (where one datagram a second goes to strangers, an address has to wait for 32 seconds for its second newcomer) */
 enum {
-    CALM = 200, COMES_IN = CALM + 1, COMES_AGAIN = COMES_IN + 3, LISTENS = COMES_AGAIN + 20, LISTENS_AGAIN = LISTENS + 3,
+    CALM = 200, COMES_IN = CALM + 1, COMES_AGAIN = COMES_IN + 3, LISTENS = COMES_AGAIN + 30, LISTENS_AGAIN = LISTENS + 3,
     SPEAKS = LISTENS_AGAIN + 11, HEARD = SPEAKS + 2, SAID_ALL = HEARD + 62
 };
 
