@@ -35,10 +35,6 @@ static const char *const LINES[] = {
     "# A second network for DOSBox, to see packets cross the router:",
     "#   network 20  1     1424               dosbox 127.0.0.1:2131",
     "",
-    "# A router with one network answers no questions. This line gives it a network of its own, which no cable carries, so that computers",
-    "# learn their network's number from it:",
-    "#   internal A1",
-    "",
     "# Games that broadcast only to their own network: write this line below each network whose players want to meet.",
     "#   extend 869C",
     "",
@@ -81,6 +77,10 @@ static const char *const LINES[] = {
     "#   clients 32 4",
     "#   link qemu-udp 127.0.0.1:5005 127.0.0.1:5006 raw",
     "#   link tap ipx1 ethernet2",
+    "",
+    "# A router with one network answers no questions. This line gives it a network of its own, which no cable carries, so that computers",
+    "# learn their network's number from it:",
+    "#   internal A1",
 };
 
 void example_show(FILE *file)

@@ -85,7 +85,7 @@ def try_example(gateway, folder):
     """The example of a configuration and what of it Windows has, with the lines that are commented out."""
     examples = {"Linux": (text_of("gateway/configuration/example.conf"), 10, 4), "Windows": (layout.windows_configuration().decode(), 8, 1)}
     for system, (text, words_there, kinds_there) in examples.items():
-        text = re.sub(r"(?m)^#   (?=network|link|extend|clients|allow|trust|rate|strangers|line|nodes)", "", text)
+        text = re.sub(r"(?m)^#   (?=network|link|extend|clients|allow|trust|rate|strangers|line|nodes|internal|adopt|permit|deny)", "", text)
         with open(f"{folder}/whole.conf", "w", encoding="utf-8", newline="") as it:
             it.write(text)
         tell(f"with all its lines that for {system} is right as well", complaint(gateway, "--check", f"{folder}/whole.conf"))
