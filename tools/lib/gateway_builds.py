@@ -20,7 +20,7 @@ TROUBLED = """
 # The calls that tests/gateway/made_up stands in front of: memory, and what each packet passes.
 WATCHED = """
     malloc calloc realloc free fclose gateway_open gateway_change tunnel_hear ether_hear status_hears loop_hears outgoing_copy
-    outgoing_own cable_send_all ipxr_packet ipxr_keyed_hear ipxr_keyed_receiver ipxr_segment_receiver""".split()
+    outgoing_own cable_send_all edge_lets_out ipxr_packet ipxr_keyed_hear ipxr_keyed_receiver ipxr_segment_receiver""".split()
 
 
 def sources(*folders):

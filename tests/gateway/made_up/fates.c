@@ -5,6 +5,7 @@
 #include "chance.h"
 #include "configuration/change.h"
 #include "ipx.h"
+#include "links/edge.h"
 #include "links/ether.h"
 #include "monitoring/status.h"
 #include "peace.h"
@@ -21,6 +22,8 @@ typedef struct tally {
     int32_t said;
     unsigned receivers, links; /* that got it, as the library said */
     unsigned copies, own, own_to_clients, settled;
+    const network *networks;     /* once something of them was to go out; */
+    uint64_t denied[MOST_LINKS]; /* and what of each was denied */
 } tally;
 
 /* Of the blocks that a reload takes the first so many are refused now and then, one at a time. */
@@ -140,6 +143,19 @@ size_t __wrap_cable_send_all(cable *it, const departure *list, size_t count)
     return sent;
 }
 
+size_t __real_edge_lets_out(gateway *it, network *on, uint8_t *packet, size_t length);
+size_t __wrap_edge_lets_out(gateway *it, network *on, uint8_t *packet, size_t length);
+size_t __wrap_edge_lets_out(gateway *it, network *on, uint8_t *packet, size_t length)
+{
+    uint64_t before = on->counts.packets.lost[DENIED];
+    size_t left = __real_edge_lets_out(it, on, packet, length);
+    now.networks = it->networks;
+    now.denied[on - it->networks] += on->counts.packets.lost[DENIED] - before;
+    if (left > length || (left == 0 && on->set->rule_count == 0 && !on->set->adopts))
+        wrong("%d bytes of %d go out", (int)left, (int)length);
+    return left;
+}
+
 bool __real_status_hears(const uint8_t *packet, size_t length);
 bool __wrap_status_hears(const uint8_t *packet, size_t length);
 bool __wrap_status_hears(const uint8_t *packet, size_t length)
@@ -212,7 +228,8 @@ static void judge(const network *on, const counts *before)
 {
     const counts *it = &on->counts;
     uint64_t wholly = lost_since(it, before, WHOLLY, sizeof WHOLLY / sizeof *WHOLLY);
-    uint64_t by_router = lost_since(it, before, BY_ROUTER, sizeof BY_ROUTER / sizeof *BY_ROUTER);
+    uint64_t denied = now.networks != NULL ? now.denied[on - now.networks] : 0;
+    uint64_t by_router = lost_since(it, before, BY_ROUTER, sizeof BY_ROUTER / sizeof *BY_ROUTER) - denied;
     uint64_t unanswered = it->packets.lost[TOO_MANY_ANSWERS] - before->packets.lost[TOO_MANY_ANSWERS];
     uint64_t nowhere = it->packets.lost[NO_CLIENT] - before->packets.lost[NO_CLIENT];
     uint64_t heard = now.heard + now.by_status + by_router, handed = now.receivers + now.links + now.by_loop;
