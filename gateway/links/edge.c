@@ -36,9 +36,10 @@ static void look_for_claims(network *on, const ipxr_port *at, const uint8_t *pac
 {
     char node[WORDS];
     uint32_t number;
+    if (on->set->type == LINK_DOSBOX || ipxr_edge_claim(at, packet, length, &number) != 1)
+        return;
     uint64_t now = clock_now();
-    bool is_told = on->claim_told != 0 && now - on->claim_told < BETWEEN;
-    if (on->set->type == LINK_DOSBOX || is_told || ipxr_edge_claim(at, packet, length, &number) != 1)
+    if (on->claim_told != 0 && now - on->claim_told < BETWEEN)
         return;
     on->claim_told = now;
     event("network %08" PRIX32 " is network %08" PRIX32 " for router %s there: each cable has one number", on->set->network, number,
