@@ -7,7 +7,7 @@ from telling import ends, prints, succeeds, tell
 
 KEPT = "examples/embed"
 EXAMPLES = ("two_networks", "answers", "fields", "services", "tunnel", "tunnel_fields", "keyed", "segment", "segment_fields", "joined",
-            "fair", "limits", "filters")
+            "fair", "limits", "filters", "static_routes")
 COUNTED = ("refusals", "blocks", "tunnel_blocks", "keyed_blocks", "segment_blocks")
 
 
