@@ -20,6 +20,9 @@
  * as many as a cable takes of which the system keeps all that it may. */
 enum { MOST_AT_ONCE = 64, MOST_TURNS_FIRST = 512 };
 
+/* Milliseconds until it is looked again whether a narrow line has room for what waits. */
+enum { LOOKS_AGAIN = 20 };
+
 /* Seconds of a record, up to the one in which it ends, and those from one time that a neighbour says it to the next, where he is late. */
 enum { RECORD_LASTS = 180, SAID_AGAIN = 61 };
 
@@ -315,8 +318,10 @@ static int patience(const gateway *it)
             return 0;
         left = cable_patience(&it->cables[k], left);
     }
-    for (size_t k = 0; k < it->count; k++)
+    for (size_t k = 0; k < it->count; k++) {
         left = asks_patience(&it->networks[k].asks, pings_patience(&it->networks[k].pings, left));
+        left = it->networks[k].again.count > 0 && left > LOOKS_AGAIN ? LOOKS_AGAIN : left;
+    }
     return left;
 }
 

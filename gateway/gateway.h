@@ -47,7 +47,8 @@ typedef struct network {
     strangers strangers; /* and who isn't one; */
     uint8_t refused[4];  /* the address that isn't allowed and was told last, */
     uint64_t refusal_told; /* and when, or 0; */
-    pings pings;         /* pings that wait for a narrow line; */
+    pings pings;         /* pings that wait for a narrow line, */
+    pings again;         /* and what waits there for who registered; */
     asks asks;           /* when pings are repeated that aren't answered; */
     outgoing outgoing;   /* what waits to be sent to clients */
     speaker speaks;      /* all who are there, where it isn't one; */

@@ -82,6 +82,7 @@ static void take_tunnel(network *on, const network *from)
     on->throttle = from->throttle;
     on->strangers = from->strangers;
     on->pings = from->pings;
+    on->again = from->again;
 }
 
 void tunnel_again(const gateway *it, network *on, const network *made)

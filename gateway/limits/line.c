@@ -1,5 +1,7 @@
 #include "limits/line.h"
 
+#include <string.h>
+
 #include "limits/meter.h"
 
 /* Addresses of strangers that are told apart, and bytes of a place that are its address. */
@@ -28,12 +30,16 @@ static struct {
 /* What is used of nobody's part. */
 static uint64_t nobody;
 
+/* (by a line of another width other limits hold, from now on) */
 void line_set(const settings *set)
 {
+    uint32_t before = line.kilobits;
     line.kilobits = 0;
     for (size_t k = 0; k < set->count; k++)
         if (set->networks[k].kilobits > 0)
             line.kilobits = set->networks[k].kilobits;
+    if (line.kilobits != before)
+        memset(&newcomers, 0, sizeof newcomers);
     ipxr_line_strangers(&line, &newcomers.limits);
 }
 
@@ -138,15 +144,23 @@ static uint64_t *stranger(const uint8_t key[SIPHASH_KEY], const uint8_t place[6]
     return &used[place_among(key, place)];
 }
 
-bool line_lets_stranger(const uint8_t key[SIPHASH_KEY], const uint8_t place[6])
+bool line_lets_more(void)
 {
-    return ipxr_line_lets_stranger(&line, limit_clock(), stranger(key, place));
+    uint64_t none = 0;
+    return ipxr_line_lets_stranger(&line, limit_clock(), &none);
+}
+
+void line_send_more(size_t length)
+{
+    uint64_t none = 0;
+    ipxr_line_send_to_stranger(&line, limit_clock(), length, &none);
 }
 
 bool line_lets_newcomer(const uint8_t key[SIPHASH_KEY], const uint8_t place[6], uint32_t count)
 {
     ipxr_meter *host = meter_now(&newcomers.hosts[place_among(key, place)]);
-    return line_lets_stranger(key, place) && ipxr_strangers_send(&newcomers.limits, count, host, meter_now(&newcomers.sent)) == IPXR_PASSES;
+    return ipxr_line_lets_stranger(&line, limit_clock(), stranger(key, place)) &&
+           ipxr_strangers_send(&newcomers.limits, count, host, meter_now(&newcomers.sent)) == IPXR_PASSES;
 }
 
 void line_send_to_stranger(const uint8_t key[SIPHASH_KEY], const uint8_t place[6], size_t length)

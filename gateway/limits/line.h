@@ -52,9 +52,11 @@ bool line_lets_again(void);
 void line_send_again(size_t length);
 
 /* Whether there is room for what the gateway says to a stranger, of whatever network; and a datagram of so many bytes goes out to him. The key
- * is of the hash by which addresses are told apart. Where more follows later, so many datagrams are counted at once: later they find room. */
+ * is of the hash by which addresses are told apart. Where more follows later, so many datagrams are counted at once, also of his address; what
+ * follows is then asked of the line alone. */
 bool line_lets_newcomer(const uint8_t key[SIPHASH_KEY], const uint8_t place[6], uint32_t count);
-bool line_lets_stranger(const uint8_t key[SIPHASH_KEY], const uint8_t place[6]);
+bool line_lets_more(void);
+void line_send_more(size_t length);
 void line_send_to_stranger(const uint8_t key[SIPHASH_KEY], const uint8_t place[6], size_t length);
 
 /* Nanoseconds from a ping of so many bytes to the next, so that those of many clients keep to the gateway's part of the line. */

@@ -62,6 +62,12 @@ static void copy(gateway *it, arrived *what)
     what->packet = it->entered;
 }
 
+bool edge_holds(const network *on, const uint8_t *packet, size_t length)
+{
+    const ipxr_port at = port_at(on);
+    return on->set->adopts && ipxr_edge_is_held(&at, packet, length) == 1;
+}
+
 reason edge_lets_in(gateway *it, arrived *what)
 {
     const network_setting *set = what->on->set;
@@ -69,8 +75,6 @@ reason edge_lets_in(gateway *it, arrived *what)
     look_for_claims(what->on, &at, what->packet, what->length);
     if (what->length > LONGEST)
         return REASONS; /* (the router says that it is too long) */
-    if (set->adopts && ipxr_edge_is_held(&at, what->packet, what->length) == 1)
-        return FROM_AFAR;
     if (set->rule_count > 0 || (set->adopts && may_lack_number(what->packet)))
         copy(it, what);
     if (set->adopts && what->packet == it->entered)

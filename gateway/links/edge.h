@@ -6,8 +6,11 @@
 
 #include "gateway.h"
 
-/* Why a packet doesn't come in; REASONS where it does. Then the packet that the router hears has its numbers: it may lie elsewhere, until the
- * next one comes. */
+/* Whether a packet is held: no limit counts it, since no neighbour sent it. */
+bool edge_holds(const network *on, const uint8_t *packet, size_t length);
+
+/* Why a packet doesn't come in that isn't held; REASONS where it does. Then the packet that the router hears has its numbers: it may lie
+ * elsewhere, until the next one comes. */
 reason edge_lets_in(gateway *it, arrived *what);
 
 /* What goes out of a packet that the router sends on a network: so many bytes of it, 0 where it doesn't. A response may lose entries. */

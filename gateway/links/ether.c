@@ -187,12 +187,20 @@ typedef struct incoming {
     arrived carried; /* what it carries */
 } incoming;
 
+/* What a packet is for the limits. (what is for routers of another network only passes here) */
+static uint8_t kind_on(const network *on, const uint8_t *packet, size_t length)
+{
+    uint8_t kind = ipxr_kind_of(packet, length);
+    bool is_for_routers = kind == IPXR_KIND_QUESTION || kind == IPXR_KIND_TOLD;
+    return is_for_routers && packet[AT_TYPE] != PROPAGATED && !is_for_here(on, packet) ? IPXR_KIND_OTHER : kind;
+}
+
 /* Why a frame goes nowhere; REASONS where it does. From here on its packet is looked at. */
 static reason lets_in(incoming *in)
 {
     arrived *what = &in->carried;
     line_use *line = &first_of(in->it, port_of(in->it, what->on))->speaks.line;
-    in->by = (origin){.speaks = &what->on->speaks, .kind = ipxr_kind_of(what->packet, in->rest), .line = line};
+    in->by = (origin){.speaks = &what->on->speaks, .kind = kind_on(what->on, what->packet, in->rest), .line = line};
     in->is_whole = has_length(what->packet, in->rest);
     what->length = in->is_whole ? get16(what->packet + AT_LENGTH) : in->rest;
     what->by = in->is_whole ? &in->by : NULL;
@@ -211,8 +219,11 @@ static void put_on_links(incoming *in)
 /* Why the router doesn't hear a packet; REASONS where it does. */
 static reason lets_hear(incoming *in)
 {
-    reason why = throttle_hears(&in->carried.on->throttle, &in->by);
-    return why != REASONS ? why : edge_lets_in(in->it, &in->carried);
+    arrived *what = &in->carried;
+    if (edge_holds(what->on, what->packet, what->length))
+        return FROM_AFAR;
+    reason why = throttle_hears(&what->on->throttle, &in->by);
+    return why != REASONS ? why : edge_lets_in(in->it, what);
 }
 
 /* Answers what is next with a packet whose network has several links, or this one. */

@@ -34,13 +34,23 @@ void pings_pace(pings *it, uint64_t between)
     ipxr_pace_more_wait(&it->pace, it->count, between, clock_nanoseconds());
 }
 
-const ipxr_own *pings_due(pings *it)
+const ipxr_own *pings_first(const pings *it)
 {
-    if (it->count == 0 || !ipxr_pace_lets_go(&it->pace, it->count, clock_nanoseconds()))
-        return NULL;
-    const ipxr_own *due = &it->list[it->first];
+    return it->count > 0 ? &it->list[it->first] : NULL;
+}
+
+void pings_end_first(pings *it)
+{
     it->first = (it->first + 1) % it->room;
     it->count--;
+}
+
+const ipxr_own *pings_due(pings *it)
+{
+    const ipxr_own *due = pings_first(it);
+    if (due == NULL || !ipxr_pace_lets_go(&it->pace, it->count, clock_nanoseconds()))
+        return NULL;
+    pings_end_first(it);
     return due;
 }
 

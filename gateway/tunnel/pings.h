@@ -29,6 +29,10 @@ void pings_pace(pings *it, uint64_t between);
 /* The next that may go, which waits no more; NULL where there is none. It stays where it is until one is added. */
 const ipxr_own *pings_due(pings *it);
 
+/* The first that waits, whenever it may go, or NULL; and it waits no more. */
+const ipxr_own *pings_first(const pings *it);
+void pings_end_first(pings *it);
+
 /* Milliseconds until the next may go, at most so many. */
 int pings_patience(const pings *it, int most);
 

@@ -24,8 +24,8 @@
 /* Seconds for which a cookie is a place's own. The one before counts too. */
 enum { MINUTE = 60 };
 
-/* Registrations that a tunnel remembers for nine seconds, and those of one address. */
-enum { MOST_REMEMBERED = 1024, MOST_REMEMBERED_OF_ONE = 64 };
+/* Registrations that a tunnel remembers for nine seconds, and those of one address; and what may wait for them to be sent by a narrow line. */
+enum { MOST_REMEMBERED = 1024, MOST_REMEMBERED_OF_ONE = 64, MOST_AGAIN = 2 * MOST_REMEMBERED };
 
 /* The datagrams that a stranger's registration brings upon his place: two answers and two pings. */
 enum { FOR_REGISTRATION = 4 };
@@ -45,7 +45,8 @@ int32_t tunnel_open(const gateway *it, network *on)
     memcpy(set.node, on->node, NODE);
     throttle_set(&on->throttle, on->set);
     if (!roster_make(&on->roster, on->set->clients) || !strangers_make(&on->strangers, on->set->strangers, it->key) ||
-        !pings_make(&on->pings, on->set->kilobits > 0 ? on->set->clients : 0))
+        !pings_make(&on->pings, on->set->kilobits > 0 ? on->set->clients : 0) ||
+        !pings_make(&on->again, on->set->kilobits > 0 ? MOST_AGAIN : 0))
         return IPXR_OUT_OF_MEMORY;
     return ipxr_keyed_make(&on->tunnel, &set);
 }
@@ -56,6 +57,7 @@ void tunnel_close(network *on)
     roster_free(&on->roster);
     strangers_free(&on->strangers);
     pings_free(&on->pings);
+    pings_free(&on->again);
 }
 
 /* ---- Sending ---- */
@@ -201,12 +203,6 @@ void tunnel_tell_leaves(network *on, const uint8_t place[NODE], const uint8_t no
 
 /* ---- Pings, and second answers ---- */
 
-/* Whether the line has room for a stranger now. */
-static bool has_line_for_stranger(const network *on, const uint8_t place[NODE])
-{
-    return !are_by_line(on) || line_lets_stranger(on->strangers.key, place);
-}
-
 /* Whether so many datagrams may go to a stranger now, or soon. (what the network's limit holds back uses nothing of the line, which others share) */
 static bool lets_stranger(network *on, const uint8_t place[NODE], uint32_t count)
 {
@@ -238,18 +234,28 @@ static void ping(network *on, const ipxr_own *own)
         ping_one(on, own);
 }
 
-/* Somebody who registered lately is answered again, or pinged, where there is room: for him it was asked then. A client is pinged in any case, and
- * at once: the tunnel asks it in no other way meanwhile, so that it would leave by what others do with the line, or register in its name while
- * its ping waits. */
+/* A client that registered lately is answered again, where it may be; and pinged in any case, and at once: the tunnel asks it in no other way
+ * meanwhile, so that it would leave by what others do with the line, or register in its name while its ping waits. */
+static void send_to_client_again(network *on, const ipxr_own *own, member *to)
+{
+    if (is_broadcast(own->bytes + AT_TO_NODE))
+        ping_one(on, own);
+    else if (lets_answer(on, to))
+        send_one(on, own, to);
+    else
+        counts_lose(&on->counts, TOO_MANY_ANSWERS);
+}
+
+/* Somebody who registered lately is answered again, or pinged: he was let in for that, so by a narrow line it waits until there is room. */
 static void send_again(network *on, const ipxr_own *own)
 {
     member *to = roster_find(&on->roster, own->place);
-    if (to != NULL && is_broadcast(own->bytes + AT_TO_NODE))
-        ping_one(on, own);
-    else if (to != NULL ? lets_answer(on, to) : has_line_for_stranger(on, own->place))
-        send_one(on, own, to);
-    else
-        counts_lose(&on->counts, to != NULL ? TOO_MANY_ANSWERS : TOO_MANY_STRANGERS);
+    if (to != NULL)
+        send_to_client_again(on, own, to);
+    else if (!are_by_line(on))
+        send_one(on, own, NULL);
+    else if (!pings_add(&on->again, own))
+        counts_lose(&on->counts, TOO_MANY_STRANGERS);
 }
 
 void tunnel_second(network *on)
@@ -298,9 +304,23 @@ static void ping_next(const gateway *it, network *on, const ipxr_own *next)
         ping_one(on, next);
 }
 
+/* What waits for who registered goes out as far as the line has room. (who is a client by now is pinged as such) */
+static void send_waiting(network *on)
+{
+    const ipxr_own *next;
+    while ((next = pings_first(&on->again)) != NULL && line_lets_more()) {
+        if (roster_find(&on->roster, next->place) == NULL) {
+            line_send_more(sizeof next->bytes);
+            send_counted(on, next, false);
+        }
+        pings_end_first(&on->again);
+    }
+}
+
 void tunnel_ping(const gateway *it, network *on)
 {
     const ipxr_own *next;
+    send_waiting(on);
     while ((next = pings_due(&on->pings)) != NULL)
         ping_next(it, on, next);
     if (asks_are_due(&on->asks))
@@ -315,13 +335,20 @@ bool tunnel_lets_in(const network_setting *set, const address *from)
     return set->allowed.count == 0 || ranges_have(&set->allowed, from) || ranges_have(&set->trusted, from);
 }
 
-ipxr_keyed_sender tunnel_sender(const gateway *it, const network *on, const address *from)
+/* Whether somebody may have his place as his node. (also where the configuration says so no more, but he is a client by it) */
+static bool is_by_address(network *on, const uint8_t place[NODE])
+{
+    const member *client = roster_find(&on->roster, place);
+    return on->set->nodes_by_address || (client != NULL && same_node(client->node, place));
+}
+
+ipxr_keyed_sender tunnel_sender(const gateway *it, network *on, const address *from)
 {
     ipxr_keyed_sender sender = {.is_trusted = ranges_have(&on->set->trusted, from), .may_register = true};
     uint64_t minute = it->seconds / MINUTE;
     place_of(from, sender.place);
     node_make(it->nodes, sender.place, sender.node);
-    memcpy(sender.former, on->set->nodes_by_address ? sender.place : sender.node, NODE);
+    memcpy(sender.former, is_by_address(on, sender.place) ? sender.place : sender.node, NODE);
     cookie_make(it->key, sender.place, minute, sender.current);
     cookie_make(it->key, sender.place, minute - 1, sender.previous);
     return sender;
@@ -455,8 +482,11 @@ static bool is_for_far_routers(incoming *in)
 /* Why the router doesn't hear what a client says; REASONS where it does. */
 static reason lets_hear(incoming *in)
 {
-    reason why = throttle_hands(&in->carried.on->throttle, &in->by);
-    return why != REASONS ? why : edge_lets_in(in->it, &in->carried);
+    arrived *what = &in->carried;
+    if (edge_holds(what->on, what->packet, what->length))
+        return FROM_AFAR;
+    reason why = throttle_hands(&what->on->throttle, &in->by);
+    return why != REASONS ? why : edge_lets_in(in->it, what);
 }
 
 /* Answers what is next with what a client says to others. (behind the tunnel, which has noted that a client answers: no limit drops that) */

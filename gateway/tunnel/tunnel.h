@@ -24,7 +24,7 @@ void tunnel_send(network *on, const origin *by, const uint8_t *node, const uint8
 
 /* Whether a network lets somebody in who sends from that address; and who he is for the library. */
 bool tunnel_lets_in(const network_setting *set, const address *from);
-ipxr_keyed_sender tunnel_sender(const gateway *it, const network *on, const address *from);
+ipxr_keyed_sender tunnel_sender(const gateway *it, network *on, const address *from);
 
 /* Puts a client into the list of clients. */
 void tunnel_list(network *on, const uint8_t place[6], const uint8_t node[6]);

@@ -97,6 +97,8 @@ static void check_tunnel(const gateway *it, network *on)
         wrong("network %X may have %u clients, and has room for %zu", (unsigned)on->set->network, on->set->clients, on->roster.room);
     if (on->pings.count > on->pings.room || (on->pings.count > 0 && on->set->kilobits == 0))
         wrong("%zu pings wait on network %X, and there is room for %zu", on->pings.count, (unsigned)on->set->network, on->pings.room);
+    if (on->again.count > on->again.room || (on->again.count > 0 && on->set->kilobits == 0))
+        wrong("%zu pings of strangers wait on network %X", on->again.count, (unsigned)on->set->network);
 }
 
 /* The first network that is on the same link shares its queues. */

@@ -166,7 +166,7 @@ static void check_calm(const gateway *it)
         const network *on = &it->networks[k];
         if (on->roster.count > 0)
             wrong("network %X has %zu clients after %d s of peace", (unsigned)on->set->network, on->roster.count, CALM);
-        if (on->pings.count > 0 || loop_is_shut(&on->loop))
+        if (on->pings.count + on->again.count > 0 || loop_is_shut(&on->loop))
             wrong("network %X has %zu pings after %d s of peace, or is shut", (unsigned)on->set->network, on->pings.count, CALM);
     }
 }
