@@ -1851,6 +1851,8 @@ static void all_is_told(void)
     WROTE(43, link.services);
     WROTE(1, link.is_of_several);
     WROTE_BYTES("4162 0000", link.carrier.name);
+    WROTE(0, link.nodes_by_address);
+    WROTE(1, link.adopts);
     ANSWERS(0, ipxr_configuration_link(&all, 4, &link));
 }
 
