@@ -8,5 +8,6 @@ pub mod Meaning
 pub mod Sharing
 pub mod Naming
 pub mod Owning
+pub mod Adopting
 pub mod Ruling
 pub mod examples

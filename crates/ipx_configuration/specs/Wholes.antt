@@ -42,6 +42,11 @@ abbrev pub is_of_internal : Line → Bool
 is_of_internal (line.Internal begun) = true
 is_of_internal other = false
 
+-- a line that begins with adopt
+abbrev pub is_of_adopt : Line → Bool
+is_of_adopt (line.Adopt is_off) = true
+is_of_adopt other = false
+
 -- a line that begins with permit or deny
 abbrev pub is_of_rule : Line → Bool
 is_of_rule (line.Rule permits begun) = true

@@ -12,11 +12,11 @@ ghost use Rattle.ipx_configuration.specs.Carriers.{tunnel, any_frames, same_carr
 ghost use Rattle.ipx_configuration.specs.Clashes.{clash};
 ghost use Rattle.ipx_configuration.specs.Configurations.{read_in, told, after, network_fault};
 ghost use Rattle.ipx_configuration.specs.Configured.{configured, rate_or_usual};
-ghost use Rattle.ipx_configuration.specs.Extends.{network_taken};
+ghost use Rattle.ipx_configuration.specs.Extends.{with_adopt, network_taken};
 ghost use Rattle.ipx_configuration.specs.Rules.{most_rules, rules_in, rule_said};
 ghost use Rattle.ipx_configuration.specs.Lines.{rate_of, with_nodes, link_taken};
 ghost use Rattle.ipx_configuration.specs.Memory.{most_networks, links_in};
-ghost use Rattle.ipx_configuration.specs.Wholes.{after_lines, IsBlank, AreApart, AreOrdered, is_of_network_or_link, is_of_internal, is_of_rule, is_of_nodes};
+ghost use Rattle.ipx_configuration.specs.Wholes.{after_lines, IsBlank, AreApart, AreOrdered, is_of_network_or_link, is_of_internal, is_of_adopt, is_of_rule, is_of_nodes};
 ghost use Rattle.ipx_configuration.specs.declared.carrier.Carrier.{Carrier};
 ghost use Rattle.ipx_configuration.specs.declared.fault.Fault.{Fault};
 ghost use Rattle.ipx_configuration.specs.declared.fault.Fault.TheVariants.{Once, ManyRules};
@@ -66,6 +66,17 @@ pub fn internal_is_said_once()
         → (after capacity n text c).internal ≡ c.internal }
     ensures number { (capacity : Capacity) (b : NetworkBegun) (own : Option Expected) (c : Configuration) → 0 < c.internal.line → number_in b ≡ Some c.internal.number
         → is_some (network_fault capacity b own c) ≡ true }
+{}
+
+/// The first right line `adopt` below a network says that of it and nothing else; one more is told where the first is, and changes nothing. No
+/// other line says it.
+pub fn adopt_is_said_once()
+    ensures first { (n : ℕ) (text : List ℕ) (r : Reading) (network : NetworkSetting) → is_of_adopt r.line ≡ true → r.fault ≡ None → network.adopt_line ≡ 0
+        → network_taken n text r network ≡ (with_adopt network n, None) }
+    ensures again { (n : ℕ) (text : List ℕ) (r : Reading) (network : NetworkSetting) → is_of_adopt r.line ≡ true → 0 < network.adopt_line
+        → network_taken n text r network ≡ (network, Some (Once network.adopt_line)) }
+    ensures others { (n : ℕ) (text : List ℕ) (r : Reading) (network : NetworkSetting) → is_of_adopt r.line ≡ false
+        → (network_taken n text r network).0.adopt_line ≡ network.adopt_line }
 {}
 
 /// A right rule stands behind all others of its network; if there are 64, one more is told and changes nothing. No other line changes rules.
