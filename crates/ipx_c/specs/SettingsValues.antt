@@ -189,6 +189,18 @@ abbrev pub rule_of_line : Line → RuleSaid
 rule_of_line (line.Rule permits begun) = rule_in permits begun
 rule_of_line other = no_rule
 
+-- what was expected in lines that came later
+abbrev pub later_number : Option Expected → ℕ
+later_number (Some expected.ByAddress) = 52
+later_number (Some expected.No) = 53
+later_number (Some expected.Rule) = 54
+later_number (Some expected.PacketType) = 55
+later_number (Some expected.Networks) = 56
+later_number (Some expected.Way) = 57
+later_number (Some expected.ServiceType) = 58
+later_number (Some expected.ServiceNames) = 59
+later_number other = 0
+
 -- what was expected; 0 where nothing is wrong (32 to 51 are those of lines together)
 abbrev pub expected_number : Option Expected → ℕ
 expected_number None = 0
@@ -223,14 +235,7 @@ expected_number (Some expected.Kilobits) = 28
 expected_number (Some expected.Range) = 29
 expected_number (Some (expected.FirstOf bits)) = 30
 expected_number (Some expected.FewerWords) = 31
-expected_number (Some expected.ByAddress) = 52
-expected_number (Some expected.No) = 53
-expected_number (Some expected.Rule) = 54
-expected_number (Some expected.PacketType) = 55
-expected_number (Some expected.Networks) = 56
-expected_number (Some expected.Way) = 57
-expected_number (Some expected.ServiceType) = 58
-expected_number (Some expected.ServiceNames) = 59
+expected_number other = later_number other
 
 -- the bits of a range whose address isn't its first
 abbrev pub bits_of : Option Expected → ℕ

@@ -1,6 +1,6 @@
 //! The structs of a configuration's line that cross to C, as its header has them, and its numbers.
 ghost use Rattle.std.specs.Prelude.{◌≡◌};
-ghost use Rattle.ipx_c.specs.SettingsValues.{no_host, host_values, no_link, place_name, place_values, frames_number, end_values, link_values, network_values, internal_values, line_number, numbers_of, link_of_line, network_of_line, rule_of_line, expected_number, bits_of};
+ghost use Rattle.ipx_c.specs.SettingsValues.{no_host, host_values, no_link, place_name, place_values, frames_number, end_values, link_values, network_values, internal_values, line_number, numbers_of, link_of_line, network_of_line, rule_of_line, later_number, expected_number, bits_of};
 
 use ipx_configuration::RuleSaid;
 use ipx_settings::{
@@ -314,7 +314,24 @@ pub(crate) fn rule_of_line(line: Line) -> RuleSaid
     }
 }
 
-/// The number of what was expected; 0 where nothing is wrong. The last ones came behind those of lines together.
+/// The numbers of what was expected that came behind those of lines together.
+fn later_number(fault: Option<Expected>) -> u8
+    ensures { result ≡ later_number fault }
+{
+    match fault {
+        Some(Expected::ByAddress) => 52,
+        Some(Expected::No) => 53,
+        Some(Expected::Rule) => 54,
+        Some(Expected::PacketType) => 55,
+        Some(Expected::Networks) => 56,
+        Some(Expected::Way) => 57,
+        Some(Expected::ServiceType) => 58,
+        Some(Expected::ServiceNames) => 59,
+        _ => 0,
+    }
+}
+
+/// The number of what was expected; 0 where nothing is wrong.
 pub(crate) fn expected_number(fault: Option<Expected>) -> u8
     ensures { result ≡ expected_number fault }
 {
@@ -351,14 +368,7 @@ pub(crate) fn expected_number(fault: Option<Expected>) -> u8
         Some(Expected::Range) => 29,
         Some(Expected::FirstOf(_)) => 30,
         Some(Expected::FewerWords) => 31,
-        Some(Expected::ByAddress) => 52,
-        Some(Expected::No) => 53,
-        Some(Expected::Rule) => 54,
-        Some(Expected::PacketType) => 55,
-        Some(Expected::Networks) => 56,
-        Some(Expected::Way) => 57,
-        Some(Expected::ServiceType) => 58,
-        Some(Expected::ServiceNames) => 59,
+        _ => later_number(fault),
     }
 }
 
