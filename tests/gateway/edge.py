@@ -20,6 +20,7 @@ SERVER, OFFERED = 0x4010, 0x451  # a server's type, and the socket of its servic
 QUERY = struct.pack(">HH", 1, 0xFFFF)  # for all services
 NETWORK, CABLE, LINE = 0x10, 0x20, 0x30
 CAPTURE = "IPX_CAPTURE"  # names the capture of a real cable
+MUCH = 600  # packets at once, more than a link may say to its router
 HEAD, RECORD = 24, 16  # bytes in front of a capture, and of each record
 BEHIND = 14 + len(FRONTS["llc"])  # where the packet stands in its frames
 
@@ -97,6 +98,23 @@ def routes_of_a_neighbour():
             wire.send(framed(packet(address(CABLE, EVERYONE, RIP), address(source, STATION, RIP), told, kind=1, control=1)))
         gate.until_counted(CABLE, "from afar", 3)
         assert "routes: 2\n" in gate.report() and "\n  00000053 " not in gate.report()
+
+
+def neighbours_are_heard_beside():
+    """What routers carried there, and what passes to routers of another network, uses up none of what neighbours may say."""
+    wire = Udp()
+    with Gateway(on_a_cable(wire)) as gate:
+        station = unnumbered(gate, wire)
+        told = struct.pack(">HIHH", 2, 0x53, 1, 2)
+        for _ in range(MUCH):
+            wire.send(framed(packet(address(CABLE, EVERYONE, RIP), address(LINE, STATION, RIP), told, kind=1, control=1)))
+        gate.until_counted(CABLE, "from afar", MUCH)
+        for _ in range(MUCH):
+            station.say(address(NETWORK, bytes(5) + b"\7", RIP), told, kind=1)
+        gate.until_counted(CABLE, "in", 2 * MUCH)
+        wire.send(framed(rip_response(CABLE, STATION, [(0x51, 1, 2)])))
+        until(lambda: "\n  00000051 hops 1 " in gate.report(), "a neighbour's route")
+        assert gate.counted(CABLE, "too many advertisements") == 0
 
 
 def nobody_passes_for_a_neighbour():
@@ -301,10 +319,11 @@ def inside():
 
 
 def main():
-    counts = tried(is_answered, is_found, routes_of_a_neighbour, nobody_passes_for_a_neighbour, as_it_came, nearest_server, another_number,
-                   rules_come_in, rules_go_out, none_is_adopted)
-    if has_linux("rules that change", "the status socket is Linux' own"):
+    counts = tried(is_answered, is_found, routes_of_a_neighbour, neighbours_are_heard_beside, nobody_passes_for_a_neighbour, as_it_came,
+                   nearest_server, rules_come_in, rules_go_out, none_is_adopted)
+    if has_linux("rules that change, and what is told once a minute", "the status socket and the clock that a test sets are Linux' own"):
         counts.run(rules_change)
+        counts.run(another_number)
     if SYSTEM is Windows or not os.path.isfile(os.environ.get(CAPTURE, "")):
         left_out("a capture of a real cable", f"{CAPTURE} names none")
         return counts

@@ -17,6 +17,7 @@ PINGED, BETWEEN = 60, 27  # clients that are pinged by such a line, and millisec
 LAST_PINGED, FORGOTTEN, SOON = 9, 10, 0.3  # seconds after which who registered is pinged for the last time, and isn't remembered; and a moment
 ASKED_AGAIN, WAITS = 5, 4  # seconds after which the library asks who is silent, and for which a ping may wait
 NEWCOMERS = 3  # registrations of one who wants to come in
+HOUSEHOLD, APART = 4, 2.5  # who only listen at one address, and seconds from one to the next
 SLOW, LISTENERS, FEW = 64, 3, 20  # kilobits a second; who only listens there; and strangers who register there in a second
 QUIET_SPEAKER = 11  # seconds after which who said only its first word isn't one of those who speak
 LITTLE = 10  # parts of what is lost at most of one speaker, of what all may lose
@@ -205,6 +206,20 @@ def who_only_listens_comes_in():
         figures(sent.end())
 
 
+@played_anew
+def a_house_comes_in():
+    """By a line of 64 kbit/s four of one house register, one each 2.5 seconds, who never say anything: each is pinged, and comes in."""
+    with Playground(by_a_line(SLOW, 1, ""), numbers=(0, 0, 0), more=1) as it:
+        narrow(it, SLOW)
+        for _ in range(HOUSEHOLD):
+            player = Player(it.free[0], GATEWAY)
+            it.party.put_in("listens", player)
+            player.register()
+            it.party.until(lambda: False, APART)
+        came = it.party.until(lambda: it.gate.counted(NETWORK, "clients") == HOUSEHOLD, 2 * FORGOTTEN)
+        assert came and all(player.network for player in it.party.all), "one of a house isn't pinged"
+
+
 def many_beside_long_packets():
     """40 addresses by 1 Mbit/s, beside a client that says 40 long packets a second: they lose nothing."""
     many_addresses(40, 1000, 6.0, 40, LONGEST)
@@ -216,7 +231,7 @@ def more_than_are_told_apart():
 
 
 TESTS = [strangers_share_a_part, a_newcomer_comes_in, many_beside_long_packets, more_than_are_told_apart, few_of_many_speak,
-         many_words_at_once, a_flood_from_a_wide_network, pings_of_many, who_registers_again_is_pinged, who_only_listens_comes_in]
+         many_words_at_once, a_flood_from_a_wide_network, pings_of_many, who_registers_again_is_pinged, who_only_listens_comes_in, a_house_comes_in]
 
 
 def inside():

@@ -16,7 +16,7 @@ from changed import Changed, at, comes_in, comes_to, is_told_to_leave, nodes_on,
 from events import Follower
 from frames import Packets, Station, Udp
 from lab import (AGAIN, ALL_THERE_IS, EVERYONE, GAME, LIMIT, NOBODY, RIP, TUNNEL, Client, Clock, address, comes_next, free_ports, is_ping,
-                 packet, reaches, registration, rip_response, socket_of, tunnels, until)
+                 packet, reaches, reaches_again, registration, rip_response, socket_of, tunnels, until)
 from links import is_closed
 from orders import is_farewell, told_until
 from segments import hears, tells
@@ -180,13 +180,18 @@ def rules_for_clients():
 
 
 def nodes():
-    """A line `nodes` comes and goes: clients stay, and hear each other."""
+    """A line `nodes` comes and goes: clients stay, and hear each other; also who came in by its address while the line was there."""
     with Changed(tunnels(1)) as gate:
-        a, b = Client(gate.ports[0x10]), Client(gate.ports[0x10])
+        clients = [Client(gate.ports[0x10]) for _ in range(2)]
         for below in ("nodes by-address\n", ""):
             said = gate.reload(tunnels(1, extra=below))
             assert "1 with other clients" in said and "router" not in said, said
-            assert reaches(a, b) and reaches(b, a) and gate.counted(0x10, "clients") == 2, below
+            assert all(reaches(one, other) for one in clients for other in clients), below
+            assert gate.counted(0x10, "clients") == len(clients), below
+            if below:
+                clients.append(Client(gate.ports[0x10], registers=False))
+                clients[-1].network = 0x10
+                assert reaches_again(clients[-1], clients[-1])
 
 
 def heard_of(gate, client):
