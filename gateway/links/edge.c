@@ -101,10 +101,11 @@ static uint16_t fewest_hops(gateway *it, uint8_t number, uint16_t type)
     return fewest;
 }
 
-/* Whether it is one that a server on the asker's own cable makes needless. */
+/* Whether it is one that a server on the asker's own cable makes needless. (a client of a tunnel could say falsely that there is one) */
 static bool is_needless(gateway *it, const network *on, const ipxr_port *at, const uint8_t *packet, size_t length)
 {
-    if (!on->set->adopts || !names_nearest(packet, length))
+    bool has_clients = on->set->type == LINK_DOSBOX || on->set->is_of_several;
+    if (has_clients || !on->set->adopts || !names_nearest(packet, length))
         return false;
     uint16_t fewest = fewest_hops(it, (uint8_t)on->set->port, get16(packet + AT_SERVICE));
     return fewest != IPXR_NO_LIMIT && ipxr_edge_is_needless(at, fewest, packet, length) == 1;

@@ -187,12 +187,12 @@ typedef struct incoming {
     arrived carried; /* what it carries */
 } incoming;
 
-/* What a packet is for the limits. (what is for routers of another network only passes here) */
+/* What a packet is for the limits. (what is for routers of another network only passes here, and so does what is propagated) */
 static uint8_t kind_on(const network *on, const uint8_t *packet, size_t length)
 {
     uint8_t kind = ipxr_kind_of(packet, length);
     bool is_for_routers = kind == IPXR_KIND_QUESTION || kind == IPXR_KIND_TOLD;
-    return is_for_routers && packet[AT_TYPE] != PROPAGATED && !is_for_here(on, packet) ? IPXR_KIND_OTHER : kind;
+    return is_for_routers && (packet[AT_TYPE] == PROPAGATED || !is_for_here(on, packet)) ? IPXR_KIND_OTHER : kind;
 }
 
 /* Why a frame goes nowhere; REASONS where it does. From here on its packet is looked at. */

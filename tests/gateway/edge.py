@@ -111,7 +111,8 @@ def neighbours_are_heard_beside():
         gate.until_counted(CABLE, "from afar", MUCH)
         for _ in range(MUCH):
             station.say(address(NETWORK, bytes(5) + b"\7", RIP), told, kind=1)
-        gate.until_counted(CABLE, "in", 2 * MUCH)
+            station.say(address(0, EVERYONE, RIP), bytes(32) + told, node=EVERYONE, kind=20)
+        gate.until_counted(CABLE, "in", 3 * MUCH)
         wire.send(framed(rip_response(CABLE, STATION, [(0x51, 1, 2)])))
         until(lambda: "\n  00000051 hops 1 " in gate.report(), "a neighbour's route")
         assert gate.counted(CABLE, "too many advertisements") == 0
@@ -176,9 +177,12 @@ def nearest_server():
         until(lambda: "services: 2\n" in gate.report(), "two services")
         assert nearest_for(station, gate.nodes[CABLE]) is None
         assert nearest_for(far, gate.nodes[NETWORK]) == ("LOCAL", 2)
+        far.send(sap_response(NETWORK, far.node, [(SERVER, "FALSE", NETWORK, far.node, OFFERED, 1)]))
+        until(lambda: "services: 3\n" in gate.report(), "three services")
+        assert nearest_for(Client(gate.ports[NETWORK]), gate.nodes[NETWORK]) == ("LOCAL", 2), "a client keeps others from servers"
         wire.send(framed(sap_response(CABLE, STATION, [(SERVER, "LOCAL", CABLE, STATION, OFFERED, 16)])))
-        until(lambda: "services: 1\n" in gate.report(), "one service again")
-        assert nearest_for(station, gate.nodes[CABLE]) == ("FAR", 4)
+        until(lambda: "services: 2\n" in gate.report(), "two services again")
+        assert nearest_for(station, gate.nodes[CABLE]) == ("FALSE", 2)
 
 
 def another_number():
