@@ -312,7 +312,7 @@ IPXR_CALL ipxr_flag ipxr_line_lets_stranger(ipxr_line *line, uint64_t now, uint6
 IPXR_CALL void ipxr_line_send_to_stranger(ipxr_line *line, uint64_t now, size_t bytes, uint64_t *address);
 
 /* Makes limits of what goes to all who are no clients by a line of that width, on all networks, for ipxr_strangers_send: count four datagrams
- * when somebody registers, and those that follow find room when they go out, up to nine seconds later. */
+ * when somebody registers. Those that follow, up to nine seconds later, are counted so; let each wait until the line has room. */
 IPXR_CALL void ipxr_line_strangers(const ipxr_line *line, ipxr_strangers_limits *limits);
 
 /* Writes into `between` how many nanoseconds should pass from a ping of so many bytes to the next, so that those of many clients keep

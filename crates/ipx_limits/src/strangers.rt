@@ -63,7 +63,7 @@ impl StrangersLimits {
     }
 
     /// The limits by a narrow line, for all networks together. What follows upon a registration goes out up to nine seconds later. Count it all
-    /// when that comes: it finds room then, since a fifth of what strangers have of the line is never counted.
+    /// when that comes, and let it wait for room then: a fifth of what strangers have of the line is never counted.
     pub fn of_line(line: &Line) -> StrangersLimits
         ensures { result ≡ strangers_of_line line.now }
     {
