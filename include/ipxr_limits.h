@@ -272,6 +272,10 @@ IPXR_CALL void ipxr_queues_give_back(ipxr_queues *queues, uint8_t queue);
  * of what may go to all such places. */
 IPXR_CALL uint8_t ipxr_strangers_send(const ipxr_strangers_limits *limits, uint32_t count, ipxr_meter *address, ipxr_meter *all);
 
+/* The same of a ping to somebody who speaks, but is no client: it goes only where a registration has room behind it, so that who speaks on and
+ * never answers keeps nobody out. */
+IPXR_CALL uint8_t ipxr_strangers_ping(const ipxr_strangers_limits *limits, ipxr_meter *address, ipxr_meter *all);
+
 /* ---- A narrow line ---- */
 
 /* An address has one more client there, or one fewer. */

@@ -3,11 +3,15 @@
 #include <string.h>
 
 #include "ipx.h"
+#include "limits/line.h"
 #include "tunnel/place.h"
 #include "tunnel/tunnel.h"
 
 /* The socket of registrations, pings and their answers. */
 #define TUNNEL_SOCKET 2
+
+/* Seconds for which a registration is remembered. */
+enum { REMEMBERED = 9 };
 
 /* The new tunnel hears a packet without data from somebody, who names a node and says it to another. */
 static void hear(network *on, const ipxr_keyed_sender *sender, const uint8_t node[NODE], const uint8_t to_node[NODE])
@@ -33,20 +37,35 @@ static bool is_let_in(const gateway *it, network *on, const known_client *client
     return ipxr_keyed_clients(&on->tunnel) > before;
 }
 
-/* Those who registered lately, and may come in, register in the new tunnel: they are answered once more, and then pinged. */
-static void keep_waiters(const gateway *it, network *on, network *old)
+/* Whether one who registered lately is remembered in the new tunnel. (what goes to him was counted when he registered, but by another line) */
+static bool stays_remembered(network *on, const network *old, const address *from, const uint8_t place[NODE])
+{
+    bool is_counted = on->set->kilobits == 0 || (old->again.room > 0 && !line_is_another());
+    return tunnel_lets_in(on->set, from) && (is_counted || tunnel_lets_register(on, place));
+}
+
+/* Those who registered lately, and have so many seconds left, register in the new tunnel. */
+static void keep_waiters_with(const gateway *it, network *on, network *old, uint8_t left)
 {
     static const uint8_t NOBODY[NODE] = {0};
     ipxr_keyed_member waiter;
     for (size_t k = 0; ipxr_keyed_waiter(&old->tunnel, k, &waiter) == 0; k++) {
         address from = address_of(waiter.place);
         ipxr_keyed_sender sender = tunnel_sender(it, on, &from);
-        member *client = roster_find(&on->roster, waiter.place);
-        if (tunnel_lets_in(on->set, &from))
+        if (waiter.seconds_left == left && stays_remembered(on, old, &from, waiter.place))
             hear(on, &sender, NOBODY, NOBODY);
-        if (client != NULL)
-            tunnel_note_registration(it, on, client);
     }
+}
+
+/* They go on waiting: first comes who has the fewest seconds left, and then a second passes in the new tunnel, which has no client yet. (what it
+ * would send them they were sent, or it waits for the line) */
+static void keep_waiters(const gateway *it, network *on, network *old)
+{
+    for (uint8_t left = 0; left < REMEMBERED; left++) {
+        keep_waiters_with(it, on, old, left);
+        ipxr_keyed_second(&on->tunnel);
+    }
+    keep_waiters_with(it, on, old, REMEMBERED);
 }
 
 /* A client stays in the list of clients, with what was counted of it, and how long it has been silent. (where it is trusted now and wasn't,
@@ -57,6 +76,7 @@ static void keep_client(const gateway *it, network *on, network *old, const know
     member *kept = roster_find(&on->roster, client->place), *was = roster_find(&old->roster, client->place);
     if (kept == NULL || was == NULL)
         return;
+    tunnel_note_registration(it, on, kept);
     kept->refused = client->refused;
     memcpy(kept->dropped, client->dropped, sizeof kept->dropped);
     kept->kept = it->seconds;
@@ -89,8 +109,9 @@ void tunnel_again(const gateway *it, network *on, const network *made)
 {
     network old = *on;
     take_tunnel(on, made);
-    keep_clients(it, on, &old);
     keep_waiters(it, on, &old);
+    keep_clients(it, on, &old);
+    tunnel_take_waiting(on, &old);
     tunnel_close(&old);
 }
 

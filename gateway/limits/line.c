@@ -15,6 +15,9 @@ static struct {
 
 static ipxr_line line;
 
+/* Whether it was of another width before it was set last. */
+static bool is_another;
+
 /* What the router uses of it. */
 static line_use router;
 
@@ -38,9 +41,15 @@ void line_set(const settings *set)
     for (size_t k = 0; k < set->count; k++)
         if (set->networks[k].kilobits > 0)
             line.kilobits = set->networks[k].kilobits;
-    if (line.kilobits != before)
+    is_another = line.kilobits != before;
+    if (is_another)
         memset(&newcomers, 0, sizeof newcomers);
     ipxr_line_strangers(&line, &newcomers.limits);
+}
+
+bool line_is_another(void)
+{
+    return is_another;
 }
 
 void line_join(line_use *it)
@@ -156,11 +165,22 @@ void line_send_more(size_t length)
     ipxr_line_send_to_stranger(&line, limit_clock(), length, &none);
 }
 
+/* What an address of strangers uses of what newcomers may. */
+static ipxr_meter *newcomer(const uint8_t key[SIPHASH_KEY], const uint8_t place[6])
+{
+    return meter_now(&newcomers.hosts[place_among(key, place)]);
+}
+
 bool line_lets_newcomer(const uint8_t key[SIPHASH_KEY], const uint8_t place[6], uint32_t count)
 {
-    ipxr_meter *host = meter_now(&newcomers.hosts[place_among(key, place)]);
     return ipxr_line_lets_stranger(&line, limit_clock(), stranger(key, place)) &&
-           ipxr_strangers_send(&newcomers.limits, count, host, meter_now(&newcomers.sent)) == IPXR_PASSES;
+           ipxr_strangers_send(&newcomers.limits, count, newcomer(key, place), meter_now(&newcomers.sent)) == IPXR_PASSES;
+}
+
+bool line_lets_ping(const uint8_t key[SIPHASH_KEY], const uint8_t place[6])
+{
+    return ipxr_line_lets_stranger(&line, limit_clock(), stranger(key, place)) &&
+           ipxr_strangers_ping(&newcomers.limits, newcomer(key, place), meter_now(&newcomers.sent)) == IPXR_PASSES;
 }
 
 void line_send_to_stranger(const uint8_t key[SIPHASH_KEY], const uint8_t place[6], size_t length)

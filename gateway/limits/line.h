@@ -21,6 +21,9 @@ typedef struct line_use {
 /* The line that a configuration names, if it names one. */
 void line_set(const settings *set);
 
+/* Whether it is of another width than the one before. */
+bool line_is_another(void);
+
 /* An address has one more client there, or one fewer. */
 void line_join(line_use *it);
 void line_leave(line_use *it);
@@ -53,8 +56,9 @@ void line_send_again(size_t length);
 
 /* Whether there is room for what the gateway says to a stranger, of whatever network; and a datagram of so many bytes goes out to him. The key
  * is of the hash by which addresses are told apart. Where more follows later, so many datagrams are counted at once, also of his address; what
- * follows is then asked of the line alone. */
+ * follows is then asked of the line alone. A ping to one who speaks goes only where a registration has room behind it. */
 bool line_lets_newcomer(const uint8_t key[SIPHASH_KEY], const uint8_t place[6], uint32_t count);
+bool line_lets_ping(const uint8_t key[SIPHASH_KEY], const uint8_t place[6]);
 bool line_lets_more(void);
 void line_send_more(size_t length);
 void line_send_to_stranger(const uint8_t key[SIPHASH_KEY], const uint8_t place[6], size_t length);

@@ -35,3 +35,8 @@ bool strangers_let(strangers *it, const uint8_t place[6], uint32_t count)
     return it->has_no_limit ||
            ipxr_strangers_send(&it->limits, count, of_host(it, place), meter_now(&it->sent)) == IPXR_PASSES;
 }
+
+bool strangers_let_ping(strangers *it, const uint8_t place[6])
+{
+    return it->has_no_limit || ipxr_strangers_ping(&it->limits, of_host(it, place), meter_now(&it->sent)) == IPXR_PASSES;
+}

@@ -27,4 +27,7 @@ void strangers_free(strangers *it);
 /* Whether so many datagrams may go to a stranger now, or soon; they are counted then. */
 bool strangers_let(strangers *it, const uint8_t place[6], uint32_t count);
 
+/* The same of a ping to one who speaks: only where a registration has room behind it. */
+bool strangers_let_ping(strangers *it, const uint8_t place[6]);
+
 #endif

@@ -203,10 +203,17 @@ void tunnel_tell_leaves(network *on, const uint8_t place[NODE], const uint8_t no
 
 /* ---- Pings, and second answers ---- */
 
-/* Whether so many datagrams may go to a stranger now, or soon. (what the network's limit holds back uses nothing of the line, which others share) */
-static bool lets_stranger(network *on, const uint8_t place[NODE], uint32_t count)
+/* (what the network's limit holds back uses nothing of the line, which others share) */
+bool tunnel_lets_register(network *on, const uint8_t place[NODE])
 {
-    return strangers_let(&on->strangers, place, count) && (!are_by_line(on) || line_lets_newcomer(on->strangers.key, place, count));
+    return strangers_let(&on->strangers, place, FOR_REGISTRATION) &&
+           (!are_by_line(on) || line_lets_newcomer(on->strangers.key, place, FOR_REGISTRATION));
+}
+
+/* Whether a stranger who speaks is pinged. */
+static bool lets_ping(network *on, const uint8_t place[NODE])
+{
+    return strangers_let_ping(&on->strangers, place) && (!are_by_line(on) || line_lets_ping(on->strangers.key, place));
 }
 
 /* Whether a client's registration or ping is answered now. (somebody may ask in its name, so that it would hear nothing else) */
@@ -256,6 +263,16 @@ static void send_again(network *on, const ipxr_own *own)
         send_one(on, own, NULL);
     else if (!pings_add(&on->again, own))
         counts_lose(&on->counts, TOO_MANY_STRANGERS);
+}
+
+void tunnel_take_waiting(network *on, network *old)
+{
+    const ipxr_own *next;
+    while ((next = pings_first(&old->again)) != NULL) {
+        if (!are_by_line(on) || !line_is_another())
+            send_again(on, next);
+        pings_end_first(&old->again);
+    }
 }
 
 void tunnel_second(network *on)
@@ -369,6 +386,7 @@ typedef struct incoming {
     bool is_for_router;   /* or the router hears it */
     member *client;       /* its sender, where he is one */
     bool is_carried;      /* somebody got it */
+    bool is_let_ask;      /* it is a question that counts already, wherever a router hears it */
     origin by;            /* who said it, where it is a client; */
     arrived carried;      /* and what he said */
 } incoming;
@@ -391,7 +409,7 @@ static bool holds_back(const incoming *in)
 {
     network *on = in->carried.on;
     return is_registration(in) && roster_find(&on->roster, in->sender.place) == NULL &&
-           !lets_stranger(on, in->sender.place, FOR_REGISTRATION);
+           !tunnel_lets_register(on, in->sender.place);
 }
 
 /* The client who said something, or NULL. A client is a place with a node: who says something there by another node is a stranger, and so is
@@ -479,13 +497,23 @@ static bool is_for_far_routers(incoming *in)
     return is;
 }
 
+/* Why what a client says goes nowhere; REASONS where it goes on. What it asks goes on to routers at other links of its network, too: there it
+ * asks no more than it may ask this one. */
+static reason lets_say(incoming *in)
+{
+    network *on = in->carried.on;
+    reason why = throttle_lets_say(&on->throttle, &in->by);
+    in->is_let_ask = in->by.kind == IPXR_KIND_QUESTION && on->segment != NULL;
+    return why == REASONS && in->is_let_ask ? throttle_hands(&on->throttle, &in->by) : why;
+}
+
 /* Why the router doesn't hear what a client says; REASONS where it does. */
 static reason lets_hear(incoming *in)
 {
     arrived *what = &in->carried;
     if (edge_holds(what->on, what->packet, what->length))
         return FROM_AFAR;
-    reason why = throttle_hands(&what->on->throttle, &in->by);
+    reason why = in->is_let_ask ? REASONS : throttle_hands(&what->on->throttle, &in->by);
     return why != REASONS ? why : edge_lets_in(in->it, what);
 }
 
@@ -509,7 +537,7 @@ static uint16_t answer_word(incoming *in, uint8_t next)
     case IPXR_NEXT_WORD_IS_FOR_FAR_ROUTERS:
         return is_for_far_routers(in);
     case IPXR_NEXT_WORD_LETS_SAY:
-        return (uint16_t)throttle_lets_say(&on->throttle, &in->by);
+        return (uint16_t)lets_say(in);
     case IPXR_NEXT_WORD_CARRY:
         carry(in);
         return 0;
@@ -556,7 +584,7 @@ static uint16_t answer(incoming *in, uint8_t next)
     case IPXR_NEXT_DATAGRAM_LETS_STRANGER:
         return !in->is_held_back;
     case IPXR_NEXT_DATAGRAM_LETS_PING:
-        return lets_stranger(on, in->sender.place, 1);
+        return lets_ping(on, in->sender.place);
     case IPXR_NEXT_DATAGRAM_ANSWER_STRANGER:
     case IPXR_NEXT_DATAGRAM_PING:
         send_own(on, NULL);

@@ -84,6 +84,7 @@ int main(void)
     ipxr_meter one = {0}, all = {0};
     int is_right = are_made(&limits, &household, &strangers) && is_received(&limits, &household) && is_said(&limits) && is_sent() &&
                    ipxr_kind_of(bytes, sizeof bytes) == IPXR_KIND_OTHER && ipxr_strangers_send(&strangers, 2, &one, &all) == IPXR_PASSES &&
-                   ipxr_strangers_send(&strangers, 1000, &one, &all) == IPXR_TOO_MUCH_FOR_STRANGERS;
+                   ipxr_strangers_send(&strangers, 1000, &one, &all) == IPXR_TOO_MUCH_FOR_STRANGERS &&
+                   ipxr_strangers_ping(&strangers, &one, &all) == IPXR_PASSES;
     return is_right ? 0 : 1;
 }

@@ -1080,6 +1080,23 @@ static void queues(void)
     ANSWERS(22, ipxr_queues_unshare(&given, 23, 21, 24));
 }
 
+/* (a registration has room behind it) */
+static void strangers_are_pinged(void)
+{
+    static const ipxr_strangers_limits limits = {.all = {.each = 3, .burst = 16}, .one = {.each = 5, .burst = 27}};
+    ipxr_meter address = {2}, all = {1};
+    ANSWERS(IPXR_PASSES, ipxr_strangers_ping(&limits, &address, &all));
+    WROTE(7, address.used);
+    WROTE(4, all.used);
+    all.used = 1;
+    ANSWERS(IPXR_TOO_MUCH_FOR_STRANGERS, ipxr_strangers_ping(&limits, &address, &all));
+    address.used = 2;
+    all.used = 2;
+    ANSWERS(IPXR_TOO_MUCH_FOR_STRANGERS, ipxr_strangers_ping(&limits, &address, &all));
+    WROTE(2, address.used);
+    WROTE(2, all.used);
+}
+
 static void strangers(void)
 {
     ipxr_meter address = {1}, all = {2};
@@ -1092,6 +1109,7 @@ static void strangers(void)
     ANSWERS(IPXR_TOO_MUCH_FOR_STRANGERS, ipxr_strangers_send(&STRANGERS, 3, &address, &all));
     WROTE(0, address.used);
     WROTE(8, all.used);
+    strangers_are_pinged();
 }
 
 /* Each clock is looked at once, and time passes for all that it is the clock of. */

@@ -11,7 +11,7 @@ import time
 
 from attacks import LONG_SHARES, OTHER_PORT, QUIET, TUNNEL_LINE, Playground, during, fill, flood, none
 from lab import EVERYONE, GAME, LIMIT, RIP, SAP, Clock, address, packet, played_anew, rip_response, until
-from players import FAST, NETWORK, Party, Player, Slow
+from players import FAST, NETWORK, Listener, Party, Player, Slow
 from spaces import GATEWAY, STRANGERS, build_flood, host
 from systems import SYSTEM
 from trying import begin, figures, named, tried, tried_on_own_system
@@ -39,6 +39,7 @@ PAGES, PAGES_AT_ONCE = 20, 188  # packets by which the router answers a client, 
 STRANGERS_A_SECOND = 100
 ALIKE = ("10.79.0.5", "10.79.16.5")  # two addresses with the same last twelve bits
 PORTS_THAT_REGISTER = 64  # more than are answered at once at one address
+MUTE, FILLED, PINGED = 9, 4, 11  # addresses; seconds after which their pings are too many; and after which who registered was pinged
 PINGS_LOST = 10  # or questions, of a flood, on their way to the gateway
 MOST_AHEAD = 1.5  # seconds by which a look at the clock may be late here
 
@@ -297,6 +298,38 @@ def an_address_like_a_newcomers():
         assert it.party.until(lambda: newcomer.network, LIMIT), "a newcomer isn't answered"
 
 
+class Mute(Player):
+    """Who speaks by its address, and answers no ping."""
+
+    def hear(self, bytes_):
+        pass
+
+
+@played_anew
+def who_never_answers(kilobits=None):
+    """Nine addresses speak 50 times a second, and answer no ping. Who registers at one of them, or elsewhere, and never says anything, comes in."""
+    line = f"line {kilobits}\n" if kilobits else ""
+    with Playground(f"{TUNNEL_LINE}{line}nodes by-address\n", numbers=(0, 0, 0), more=MUTE + 1) as it:
+        if kilobits:
+            narrow(it, kilobits)
+        mute = [Mute(host, GATEWAY, 1 / 50) for host in it.free[:MUTE]]
+        for player in mute:
+            it.party.put_in("mute", player)
+
+        def speak():
+            for player in mute:
+                player.speak(time.monotonic())
+
+        it.party.until(speak, FILLED)
+        assert it.gate.counted(NETWORK, "too many strangers") > 0, it.gate.report()
+        for number, host in enumerate((it.free[0], it.free[-1])):
+            player = Listener(host, GATEWAY)
+            it.party.put_in("listens", player)
+            player.register()
+            it.party.until(lambda one=player: speak() or one.pings, PINGED)
+            assert player.network and it.gate.counted(NETWORK, "clients") == number + 1, "who registers is kept out"
+
+
 def narrow(it, kilobits=1000):
     """The gateway's cards have a line of 1 Mbit/s from now on, or of so many kilobits a second."""
     for card in "g0", "g1":
@@ -505,6 +538,8 @@ TESTS = [
     named("with full tables RIP's requests in a player's name, 50 a second", questions_in_its_name, "rip"),
     forged_strangers,
     an_address_like_a_newcomers,
+    who_never_answers,
+    named("the same by a line of 64 kbit/s", who_never_answers, 64),
     a_narrow_line,
     named("by a line of 1 Mbit/s that the gateway knows a client says 22 long packets a second", a_line_is_shared, "chat", 22, LONGEST, 0),
     named("by such a line somebody has 16 clients that only listen", a_line_is_shared, "chat", SHARE, 46, 16),

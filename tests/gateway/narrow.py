@@ -2,10 +2,12 @@
 
 It runs in networks of its own (spaces.py), whose cards are as narrow as the configuration says. limits.py has floods by such a line, too.
 """
+import signal
+
 from attacks import OTHER_PORT, QUIET, TUNNEL_LINE, Playground, during, flood, none
 from lab import LIMIT, Clock, played_anew, until
 from limits import CHAT, FIRST, FLOOD, LONGEST, SECONDS, Crowd, narrow, stands
-from players import HELLO, MOST_LOST, NETWORK, NUMBERED, Party, Player
+from players import HELLO, MOST_LOST, NETWORK, NUMBERED, Listener, Party, Player
 from spaces import GATEWAY, STRANGERS, build_flood
 from systems import SYSTEM
 from trying import begin, figures, tried, tried_on_own_system
@@ -19,6 +21,7 @@ ASKED_AGAIN, WAITS = 5, 4  # seconds after which the library asks who is silent,
 NEWCOMERS = 3  # registrations of one who wants to come in
 HOUSEHOLD, APART = 4, 2.5  # who only listen at one address, and seconds from one to the next
 SLOW, LISTENERS, FEW = 64, 3, 20  # kilobits a second; who only listens there; and strangers who register there in a second
+OFTEN, BEHIND, MOST = 27, 2, 100  # registrations a second; seconds from a reload to the next; clients of a network
 QUIET_SPEAKER = 11  # seconds after which who said only its first word isn't one of those who speak
 LITTLE = 10  # parts of what is lost at most of one speaker, of what all may lose
 
@@ -189,6 +192,14 @@ def who_registers_again_is_pinged():
         assert all(player.pings > count for player, count in zip(it.party.all, before)), "a ping waits"
 
 
+def listens(it, host):
+    """Somebody registers, who never says anything."""
+    player = Listener(host, GATEWAY)
+    it.party.put_in("listens", player)
+    player.register()
+    return player
+
+
 @played_anew
 def who_only_listens_comes_in():
     """By a line of 64 kbit/s three register, who never say anything, and then strangers do, 20 times a second from forged addresses: the three are
@@ -196,9 +207,7 @@ def who_only_listens_comes_in():
     with Playground(by_a_line(SLOW, 1, ""), numbers=(0, 0, 0), more=LISTENERS) as it:
         narrow(it, SLOW)
         for at in it.free:
-            player = Player(at, GATEWAY)
-            it.party.put_in("listens", player)
-            player.register()
+            listens(it, at)
         until(lambda: it.party.hear() or all(player.network for player in it.party.all), "all are answered")
         sent = flood(it.gate, "forged", "register", FEW, host=STRANGERS, hosts=60000, first=3000, count=FEW * FORGOTTEN)
         came = it.party.until(lambda: it.gate.counted(NETWORK, "clients") == LISTENERS, FORGOTTEN)
@@ -212,12 +221,47 @@ def a_house_comes_in():
     with Playground(by_a_line(SLOW, 1, ""), numbers=(0, 0, 0), more=1) as it:
         narrow(it, SLOW)
         for _ in range(HOUSEHOLD):
-            player = Player(it.free[0], GATEWAY)
-            it.party.put_in("listens", player)
-            player.register()
+            listens(it, it.free[0])
             it.party.until(lambda: False, APART)
         came = it.party.until(lambda: it.gate.counted(NETWORK, "clients") == HOUSEHOLD, 2 * FORGOTTEN)
         assert came and all(player.network for player in it.party.all), "one of a house isn't pinged"
+
+
+def reads(it, text):
+    """The gateway reads another configuration."""
+    with open(it.gate.configuration, "w", encoding="utf-8") as file:
+        file.write(text)
+    it.gate.run.order(signal.SIGHUP)
+    it.gate.told("was read again")
+
+
+@played_anew
+def a_line_by_a_reload():
+    """Strangers register 27 times a second from forged addresses, and then a reload says that the line has 64 kbit/s. Who registers thereafter, and
+    never says anything, is pinged, and comes in."""
+    with Playground(numbers=(0, 0, 0), more=1) as it:
+        sent = flood(it.gate, "forged", "register", OFTEN, host=STRANGERS, hosts=60000, first=3000, count=OFTEN * LAST_PINGED)
+        it.party.until(lambda: not sent.lasts(), 2 * LAST_PINGED)
+        figures(sent.end())
+        narrow(it, SLOW)
+        reads(it, by_a_line(SLOW, 1, ""))
+        it.party.until(lambda: False, BEHIND)
+        player = listens(it, it.free[0])
+        came = it.party.until(lambda: it.gate.counted(NETWORK, "clients") == 1, FORGOTTEN)
+        assert came and player.network, "who registers isn't pinged"
+
+
+@played_anew
+def who_listens_beside_reloads():
+    """By a line and by none, somebody registers who never says anything, and each second a reload changes the network's limits: he is pinged
+    nine seconds later at the latest, and comes in."""
+    for text in TUNNEL_LINE, by_a_line(SLOW, 1, ""):
+        with Playground(text, numbers=(0, 0, 0), more=1) as it:
+            player = listens(it, it.free[0])
+            for number in range(FORGOTTEN):
+                it.party.until(lambda: player.pings, 1)
+                reads(it, f"{text}clients {MOST - number}\n")
+            assert it.gate.counted(NETWORK, "clients") == 1 and player.network, "a listener isn't pinged"
 
 
 def many_beside_long_packets():
@@ -231,7 +275,8 @@ def more_than_are_told_apart():
 
 
 TESTS = [strangers_share_a_part, a_newcomer_comes_in, many_beside_long_packets, more_than_are_told_apart, few_of_many_speak,
-         many_words_at_once, a_flood_from_a_wide_network, pings_of_many, who_registers_again_is_pinged, who_only_listens_comes_in, a_house_comes_in]
+         many_words_at_once, a_flood_from_a_wide_network, pings_of_many, who_registers_again_is_pinged, who_only_listens_comes_in, a_house_comes_in,
+         a_line_by_a_reload, who_listens_beside_reloads]
 
 
 def inside():

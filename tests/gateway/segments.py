@@ -2,11 +2,12 @@
 import re
 import select
 import signal
+import struct
 import time
 
 from cards import has_bridges, has_cards, has_taps, hears_all_frames, pair
 from frames import Packets, Station, Udp, frame
-from lab import (AGAIN, EVERYONE, GAME, LIMIT, Client, Clock, Gateway, address, free_ports, fresh, is_routers, packet, reaches,
+from lab import (AGAIN, EVERYONE, GAME, LIMIT, RIP, Client, Clock, Gateway, address, free_ports, fresh, is_routers, packet, reaches,
                  reaches_again, rip_response, until)
 from spaces import ip
 from status import Watched, advertise
@@ -24,6 +25,8 @@ LASTS = 300  # seconds for which a station is known
 SIX_HUNDRED = 600  # clients: more than there are stations
 STATIONS = 512  # of a link with frames that are known
 ROUTES_OF_DOSBOX, SERVICES_OF_DOSBOX = 64, 32  # that are learned where a network's line says nothing of it
+FOR_ALL = struct.pack(">HIHH", 1, 0xFFFFFFFF, 16, 1)  # a request for all routes
+ASKED, QUESTIONS = 40, 6  # that a client asks at once, and that go on of them: four, and one each second
 ADVERTISED = 60  # seconds from one advertisement of a router's to the next
 
 
@@ -293,6 +296,22 @@ def who_is_a_router_there():
                 assert any(is_routers(bytes_) for bytes_ in heard) == comes, (below, len(heard))
 
 
+def who_asks_there():
+    """What a client asks routers goes to other links as often as to this router, and what it says goes beside it."""
+    with Party() as it:
+        calls(it.anna)
+        hears(it.card, calls(it.anna))
+        for _ in range(ASKED):
+            it.anna.send(packet(address(0, EVERYONE, RIP), address(NUMBER, it.anna.node, RIP), FOR_ALL, kind=1))
+        last = calls(it.anna)
+        heard = []
+        while not heard or heard[-1][30:] != last:
+            heard.append(it.card.hear(lambda bytes_: bytes_[22:28] == it.anna.node))
+        came = sum(is_routers(bytes_) for bytes_ in heard)
+        assert 0 < came <= QUESTIONS, f"{came} questions"
+        assert it.gate.counted(NUMBER, "lost: too many questions") == ASKED - came
+
+
 def the_router_is_a_station():
     """Stations of each link reach other networks by the gateway, and are reached from there; its advertisements come to each link."""
     with Party("network 20 1 1424 dosbox 127.0.0.1:0\n") as it:
@@ -488,7 +507,7 @@ TESTS = (a_call_finds_all, an_answer_goes_to_one, a_node_moves, two_with_one_nod
          the_router_is_a_station,
          each_client_is_sure, a_client_at_two_links)
 OF_LINUX = (stations_are_shown, links_change_while_it_runs, clients_are_sure_after_a_reload, links_change_beneath_a_packet,
-            shares_of_several_links, who_is_a_router_there, stations_age)
+            shares_of_several_links, who_is_a_router_there, who_asks_there, stations_age)
 
 
 def inside():
