@@ -93,9 +93,18 @@ void gateway_send(gateway *it, port *router_port, const origin *by, const uint8_
 
 void gateway_flush(gateway *it)
 {
-    for (size_t k = 0; k < it->count; k++)
+    for (size_t k = 0; k < it->count; k++) {
         outgoing_send(&it->networks[k]);
+        ether_send_due(&it->networks[k]);
+    }
     it->room_count = 0;
+}
+
+void gateway_end_waiting(gateway *it)
+{
+    gateway_flush(it);
+    for (size_t k = 0; k < it->count; k++)
+        ether_send_waiting(&it->networks[k]);
 }
 
 uint8_t *gateway_room(gateway *it)
@@ -321,6 +330,7 @@ static int patience(const gateway *it)
     for (size_t k = 0; k < it->count; k++) {
         left = asks_patience(&it->networks[k].asks, pings_patience(&it->networks[k].pings, left));
         left = it->networks[k].again.count > 0 && left > LOOKS_AGAIN ? LOOKS_AGAIN : left;
+        left = paced_patience(&it->networks[k].paced, left);
     }
     return left;
 }

@@ -14,6 +14,7 @@
 #include "links/cable.h"
 #include "links/kinds.h"
 #include "links/loop.h"
+#include "links/paced.h"
 #include "monitoring/counts.h"
 #include "siphash.h"
 #include "tunnel/outgoing.h"
@@ -57,6 +58,7 @@ typedef struct network {
     ipxr_segment *segment; /* of its network's links, where it is one of several; */
     uint8_t link;          /* and its number there */
     loop loop;             /* whether it is one cable with another of them */
+    paced paced;           /* the router's broadcasts wait for each other where it has frames; */
     ipxr_kinds kinds;      /* of frames, which its stations use, where they may use any; */
     uint64_t kind_told;    /* and where not, when one that used another was told last, or 0; */
     uint64_t claim_told;   /* and when a router that has another number for the cable was, or 0 */
@@ -136,8 +138,11 @@ void gateway_send_all(gateway *it);
 /* Room for a packet that is to be sent. Its bytes stay there until gateway_flush. */
 uint8_t *gateway_room(gateway *it);
 
-/* Sends what waits to go out together. */
+/* Sends what waits to go out together, and of what goes out one by one as much as is due. */
 void gateway_flush(gateway *it);
+
+/* Sends all that waits. */
+void gateway_end_waiting(gateway *it);
 
 /* Sends a packet of the router's on a network, to a node there or to all. Its bytes stay where they are until gateway_flush. */
 void gateway_send(gateway *it, port *router_port, const origin *by, const uint8_t *node, const uint8_t *packet, size_t length);

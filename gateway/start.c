@@ -245,7 +245,7 @@ void gateway_stop(gateway *it)
     status_close();
     ipxr_stop(&it->router);
     gateway_send_all(it);
-    gateway_flush(it);
+    gateway_end_waiting(it);
     ipxr_free(&it->router);
     for (size_t k = 0; k < it->port_count; k++)
         segment_close(&it->ports[k]);

@@ -243,7 +243,7 @@ static bool takes_leave(gateway *it)
     if (status_is_followed())
         events_second(it); /* (of what is forgotten it is told by which network it was known) */
     gateway_send_all(it);
-    gateway_flush(it);
+    gateway_end_waiting(it);
     return true;
 }
 

@@ -9,16 +9,26 @@
 #include "monitoring/note.h"
 #include "systems/clock.h"
 
+static const uint8_t ALL_NODES[NODE] = {0xFF, 0xFF, 0xFF, 0xFF, 0xFF, 0xFF};
+
 /* Milliseconds from one line about somebody who speaks another kind of frames to the next. */
 enum { BETWEEN = 60000 };
 
 /* ---- Sending ---- */
 
+/* A raw frame of an odd length gets a byte more, since old drivers drop it without. (the longest is even; and all heed the packet's length) */
+static size_t make_even(uint8_t kind, uint8_t *frame, size_t length)
+{
+    if (kind == IPXR_FRAME_RAW && length % 2 == 1)
+        frame[length++] = 0;
+    return length;
+}
+
 /* The packet in a frame of a kind. Returns whether it is on its way. */
 static bool put_in(network *on, uint8_t kind, const uint8_t *from, const uint8_t *node, const uint8_t *packet, size_t length)
 {
     uint8_t frame[IPXR_LONGEST_FRAME];
-    size_t whole = ipxr_frame_write(kind, node, from, packet, length, frame, sizeof frame);
+    size_t whole = make_even(kind, frame, ipxr_frame_write(kind, node, from, packet, length, frame, sizeof frame));
     if (whole == 0 || !cable_send(on->cable, frame, whole))
         return false;
     capture_frame(frame, whole);
@@ -65,18 +75,41 @@ bool ether_put(network *on, const uint8_t *from, const uint8_t *node, const uint
 }
 
 /* (a packet is one, in however many kinds it goes out) */
-void ether_send(network *on, const origin *by, const uint8_t *from, const uint8_t *node, const uint8_t *packet, size_t length)
+static void send_now(network *on, const uint8_t *from, const uint8_t *node, const uint8_t *packet, size_t length)
 {
-    unsigned kinds = kinds_to(on, node);
-    reason why = throttle_carries(&on->throttle, on->of_link, by, length, count_of(kinds));
-    if (why != REASONS) {
-        gateway_lose(on, why);
-        return;
-    }
     frames count = put(on, from, node, packet, length);
     on->counts.out += count.sent > 0;
     for (; count.refused > 0; count.refused--)
         gateway_lose(on, NOT_SENT);
+}
+
+void ether_send(network *on, const origin *by, const uint8_t *from, const uint8_t *node, const uint8_t *packet, size_t length)
+{
+    reason why = throttle_carries(&on->throttle, on->of_link, by, length, count_of(kinds_to(on, node)));
+    if (why != REASONS)
+        gateway_lose(on, why);
+    else if (by != NULL || !is_broadcast(node) || !paced_add(&on->paced, from, packet, length))
+        send_now(on, from, node, packet, length);
+}
+
+static void send_paced(network *on, const paced_packet *next)
+{
+    if (on->is_up) /* (else the router said it before it heard that the link is lost) */
+        send_now(on, next->from, ALL_NODES, next->bytes, next->length);
+}
+
+void ether_send_due(network *on)
+{
+    const paced_packet *next;
+    while ((next = paced_due(&on->paced)) != NULL)
+        send_paced(on, next);
+}
+
+void ether_send_waiting(network *on)
+{
+    const paced_packet *next;
+    while ((next = paced_first(&on->paced)) != NULL)
+        send_paced(on, next);
 }
 
 /* ---- Hearing ---- */

@@ -34,7 +34,8 @@ def unframed(kind, bytes_):
         return None
     length = int.from_bytes(rest[2:4], "big")
     assert kind == "ethernet2" or field == length + len(FRONTS[kind]), "the length field counts what is carried"
-    assert len(bytes_) == max(60, len(bytes_) - len(rest) + length), "padded to 60 bytes, and no farther"
+    whole = len(bytes_) - len(rest) + length
+    assert len(bytes_) == max(60, whole + whole % 2 * (kind == "raw")), "padded to 60 bytes, and raw ones to an even number, no farther"
     assert not any(rest[length:]), "padded with zeros"
     return rest[:length]
 

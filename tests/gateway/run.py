@@ -24,6 +24,7 @@ import names
 import narrow
 import nodes
 import orders
+import paced
 import pc
 import probes
 import queues
@@ -44,9 +45,9 @@ import words
 from systems import SYSTEM, Windows
 from trying import Counts, left_out
 
-ALL = (counting, words, siphash, queues, unit, orders, status, events, probes, reloading, staying, tunnel, nodes, links, edge, internal, six,
-       names, segments, kinds, made_up, troubles, reload_memory, wires, refused, houses, attacks, forged, limits, complaints, asked, fair,
-       slow_pc, narrow, lossy, dosbox, pc, bochs)
+ALL = (counting, words, siphash, queues, unit, orders, status, events, probes, reloading, staying, tunnel, nodes, links, edge, internal, paced,
+       six, names, segments, kinds, made_up, troubles, reload_memory, wires, refused, houses, attacks, forged, limits, complaints, asked,
+       fair, slow_pc, narrow, lossy, dosbox, pc, bochs)
 TESTS = {it.__name__: it for it in ALL}
 
 
