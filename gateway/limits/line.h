@@ -58,7 +58,7 @@ void line_send_again(size_t length);
  * is of the hash by which addresses are told apart. Where more follows later, so many datagrams are counted at once, also of his address; what
  * follows is then asked of the line alone. A ping to one who speaks goes only where a registration has room behind it. */
 bool line_lets_newcomer(const uint8_t key[SIPHASH_KEY], const uint8_t place[6], uint32_t count);
-bool line_lets_ping(const uint8_t key[SIPHASH_KEY], const uint8_t place[6]);
+bool line_lets_ping(const uint8_t key[SIPHASH_KEY], const uint8_t place[6], size_t length);
 bool line_lets_more(void);
 void line_send_more(size_t length);
 void line_send_to_stranger(const uint8_t key[SIPHASH_KEY], const uint8_t place[6], size_t length);

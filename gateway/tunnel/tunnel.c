@@ -213,7 +213,7 @@ bool tunnel_lets_register(network *on, const uint8_t place[NODE])
 /* Whether a stranger who speaks is pinged. */
 static bool lets_ping(network *on, const uint8_t place[NODE])
 {
-    return strangers_let_ping(&on->strangers, place) && (!are_by_line(on) || line_lets_ping(on->strangers.key, place));
+    return strangers_let_ping(&on->strangers, place) && (!are_by_line(on) || line_lets_ping(on->strangers.key, place, HEADER));
 }
 
 /* Whether a client's registration or ping is answered now. (somebody may ask in its name, so that it would hear nothing else) */
