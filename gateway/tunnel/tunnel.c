@@ -265,12 +265,22 @@ static void send_again(network *on, const ipxr_own *own)
         counts_lose(&on->counts, TOO_MANY_STRANGERS);
 }
 
+/* The same datagram as the tunnel would say it now: an answer comes from the gateway's node, which may be another than before. */
+static ipxr_own of_now(const network *on, const ipxr_own *own)
+{
+    ipxr_own now = *own;
+    if (!is_broadcast(now.bytes + AT_TO_NODE))
+        memcpy(now.bytes + AT_FROM_NODE, on->node, NODE);
+    return now;
+}
+
 void tunnel_take_waiting(network *on, network *old)
 {
     const ipxr_own *next;
     while ((next = pings_first(&old->again)) != NULL) {
+        ipxr_own now = of_now(on, next);
         if (!are_by_line(on) || !line_is_another())
-            send_again(on, next);
+            send_again(on, &now);
         pings_end_first(&old->again);
     }
 }
