@@ -10,8 +10,9 @@
 /* The socket of registrations, pings and their answers. */
 #define TUNNEL_SOCKET 2
 
-/* Seconds for which a registration is remembered. */
-enum { REMEMBERED = 9 };
+/* Seconds for which a registration is remembered; and how many are left when its answer goes out again, and the first ping. (the second goes
+ * when none is left) */
+enum { REMEMBERED = 9, ANSWERED_AT = 8, PINGED_AT = 2 };
 
 /* The new tunnel hears a packet without data from somebody, who names a node and says it to another. */
 static void hear(network *on, const ipxr_keyed_sender *sender, const uint8_t node[NODE], const uint8_t to_node[NODE])
@@ -37,11 +38,18 @@ static bool is_let_in(const gateway *it, network *on, const known_client *client
     return ipxr_keyed_clients(&on->tunnel) > before;
 }
 
-/* Whether one who registered lately is remembered in the new tunnel. (what goes to him was counted when he registered, but by another line) */
-static bool stays_remembered(network *on, const network *old, const address *from, const uint8_t place[NODE])
+/* How many datagrams are to go to one who registered, and has so many seconds left. */
+static uint32_t due(uint8_t left)
 {
-    bool is_counted = on->set->kilobits == 0 || (old->again.room > 0 && !line_is_another());
-    return tunnel_lets_in(on->set, from) && (is_counted || tunnel_lets_register(on, place));
+    return (left > ANSWERED_AT) + (left > PINGED_AT) + (left > 0);
+}
+
+/* Whether one who registered lately is remembered in the new tunnel. (what goes to him was counted when he registered, by a line that was no
+ * narrower; else what is left of it counts now) */
+static bool stays_remembered(network *on, const network *old, const address *from, const ipxr_keyed_member *waiter)
+{
+    bool is_counted = on->set->kilobits == 0 || (old->again.room > 0 && !line_is_narrower());
+    return tunnel_lets_in(on->set, from) && (is_counted || tunnel_lets_newcomer(on, waiter->place, due(waiter->seconds_left)));
 }
 
 /* Those who registered lately, and have so many seconds left, register in the new tunnel. */
@@ -52,7 +60,7 @@ static void keep_waiters_with(const gateway *it, network *on, network *old, uint
     for (size_t k = 0; ipxr_keyed_waiter(&old->tunnel, k, &waiter) == 0; k++) {
         address from = address_of(waiter.place);
         ipxr_keyed_sender sender = tunnel_sender(it, on, &from);
-        if (waiter.seconds_left == left && stays_remembered(on, old, &from, waiter.place))
+        if (waiter.seconds_left == left && stays_remembered(on, old, &from, &waiter))
             hear(on, &sender, NOBODY, NOBODY);
     }
 }

@@ -15,8 +15,8 @@ static struct {
 
 static ipxr_line line;
 
-/* Whether it was of another width before it was set last. */
-static bool is_another;
+/* Whether it was wider before it was set last, or there was none. */
+static bool is_narrower;
 
 /* What the router uses of it. */
 static line_use router;
@@ -41,15 +41,15 @@ void line_set(const settings *set)
     for (size_t k = 0; k < set->count; k++)
         if (set->networks[k].kilobits > 0)
             line.kilobits = set->networks[k].kilobits;
-    is_another = line.kilobits != before;
-    if (is_another)
+    is_narrower = line.kilobits > 0 && (before == 0 || line.kilobits < before);
+    if (line.kilobits != before)
         memset(&newcomers, 0, sizeof newcomers);
     ipxr_line_strangers(&line, &newcomers.limits);
 }
 
-bool line_is_another(void)
+bool line_is_narrower(void)
 {
-    return is_another;
+    return is_narrower;
 }
 
 void line_join(line_use *it)

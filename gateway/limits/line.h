@@ -21,8 +21,8 @@ typedef struct line_use {
 /* The line that a configuration names, if it names one. */
 void line_set(const settings *set);
 
-/* Whether it is of another width than the one before. */
-bool line_is_another(void);
+/* Whether it is narrower than the one before, or there was none. */
+bool line_is_narrower(void);
 
 /* An address has one more client there, or one fewer. */
 void line_join(line_use *it);

@@ -17,6 +17,9 @@ enum { BETWEEN = 60000 };
 /* Where a response says that it answers a query for the nearest service, and that service's type; and how many bytes it has to that. */
 enum { AT_OPERATION = HEADER, NEAREST_RESPONSE = 4, AT_SERVICE = HEADER + 2, TO_SERVICE = AT_SERVICE + 2 };
 
+/* Where the service's address begins, behind its name; and hops from which on nothing is reached. */
+enum { AT_PLACE = 48, UNREACHABLE = 16 };
+
 static ipxr_port port_at(const network *on)
 {
     ipxr_port it = {.network = on->set->network, .cost = ANY_COST, .longest = on->set->longest};
@@ -111,13 +114,50 @@ static bool is_needless(gateway *it, const network *on, const ipxr_port *at, con
     return fewest != IPXR_NO_LIMIT && ipxr_edge_is_needless(at, fewest, packet, length) == 1;
 }
 
+/* Names another service in an answer to a query for the nearest: as the router tells it, one router further. */
+static void name_service(uint8_t *packet, const ipxr_service_record *service)
+{
+    uint8_t *at = packet + TO_SERVICE;
+    memcpy(at, service->name, sizeof service->name);
+    put32(at + AT_PLACE, service->network);
+    memcpy(at + AT_PLACE + 4, service->node, NODE);
+    put16(at + AT_PLACE + 10, service->socket);
+    put16(at + AT_PLACE + 12, (uint16_t)(service->hops + 1));
+}
+
+/* Whether the router tells a service of that type on a network. */
+static bool is_told(const network *on, const ipxr_service_record *service, uint16_t type)
+{
+    return service->port != on->set->port && service->type == type && service->hops + 1 < UNREACHABLE;
+}
+
+/* The router's answer names a service that the rules deny: it names the nearest of the type that they don't. Returns what goes out of it, 0 where
+ * there is none. */
+static size_t name_permitted(gateway *it, const network *on, const ipxr_port *at, uint8_t *packet, size_t length)
+{
+    uint8_t tried[LONGEST];
+    uint16_t fewest = UNREACHABLE, type = get16(packet + AT_SERVICE);
+    ipxr_service_record service;
+    memcpy(tried, packet, length);
+    for (size_t k = 0; ipxr_service(&it->router, k, &service) == 0; k++) {
+        if (!is_told(on, &service, type) || service.hops >= fewest)
+            continue;
+        name_service(tried, &service);
+        if (passes(on, IPXR_WAY_OUT, at, tried, length) != length)
+            continue;
+        fewest = service.hops;
+        memcpy(packet, tried, length);
+    }
+    return fewest < UNREACHABLE ? length : 0;
+}
+
 size_t edge_lets_out(gateway *it, network *on, uint8_t *packet, size_t length)
 {
     const ipxr_port at = port_at(on);
-    if (is_needless(it, on, &at, packet, length))
-        return 0;
     size_t left = passes(on, IPXR_WAY_OUT, &at, packet, length);
+    if (left == 0 && names_nearest(packet, length))
+        left = name_permitted(it, on, &at, packet, length);
     if (left == 0)
         counts_lose(&on->counts, DENIED);
-    return left;
+    return left > 0 && is_needless(it, on, &at, packet, left) ? 0 : left;
 }

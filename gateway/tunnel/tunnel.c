@@ -204,10 +204,9 @@ void tunnel_tell_leaves(network *on, const uint8_t place[NODE], const uint8_t no
 /* ---- Pings, and second answers ---- */
 
 /* (what the network's limit holds back uses nothing of the line, which others share) */
-bool tunnel_lets_register(network *on, const uint8_t place[NODE])
+bool tunnel_lets_newcomer(network *on, const uint8_t place[NODE], uint32_t count)
 {
-    return strangers_let(&on->strangers, place, FOR_REGISTRATION) &&
-           (!are_by_line(on) || line_lets_newcomer(on->strangers.key, place, FOR_REGISTRATION));
+    return strangers_let(&on->strangers, place, count) && (!are_by_line(on) || line_lets_newcomer(on->strangers.key, place, count));
 }
 
 /* Whether a stranger who speaks is pinged. */
@@ -279,7 +278,7 @@ void tunnel_take_waiting(network *on, network *old)
     const ipxr_own *next;
     while ((next = pings_first(&old->again)) != NULL) {
         ipxr_own now = of_now(on, next);
-        if (!are_by_line(on) || !line_is_another())
+        if (!are_by_line(on) || !line_is_narrower())
             send_again(on, &now);
         pings_end_first(&old->again);
     }
@@ -419,7 +418,7 @@ static bool holds_back(const incoming *in)
 {
     network *on = in->carried.on;
     return is_registration(in) && roster_find(&on->roster, in->sender.place) == NULL &&
-           !tunnel_lets_register(on, in->sender.place);
+           !tunnel_lets_newcomer(on, in->sender.place, FOR_REGISTRATION);
 }
 
 /* The client who said something, or NULL. A client is a place with a node: who says something there by another node is a stranger, and so is

@@ -26,8 +26,8 @@ void tunnel_send(network *on, const origin *by, const uint8_t *node, const uint8
 bool tunnel_lets_in(const network_setting *set, const address *from);
 ipxr_keyed_sender tunnel_sender(const gateway *it, network *on, const address *from);
 
-/* Whether a stranger may register: all his datagrams may go to him now, or soon; they are counted then. */
-bool tunnel_lets_register(network *on, const uint8_t place[6]);
+/* Whether so many datagrams for a registration may go to a stranger now, or soon; they are counted then. */
+bool tunnel_lets_newcomer(network *on, const uint8_t place[6], uint32_t count);
 
 /* Puts a client into the list of clients. */
 void tunnel_list(network *on, const uint8_t place[6], const uint8_t node[6]);
@@ -35,8 +35,7 @@ void tunnel_list(network *on, const uint8_t place[6], const uint8_t node[6]);
 /* Notes of a client whether its registration is remembered, with how many seconds. */
 void tunnel_note_registration(const gateway *it, network *on, member *client);
 
-/* What waits in an old tunnel for those who registered goes on waiting; by another line not, which is narrower, perhaps; and without one it goes
- * out. */
+/* What waits in an old tunnel for those who registered goes on waiting; by a narrower line not; and without one it goes out. */
 void tunnel_take_waiting(network *on, network *old);
 
 /* Tells that a client leaves, and takes it from the list. */

@@ -185,6 +185,21 @@ def nearest_server():
         assert nearest_for(station, gate.nodes[CABLE]) == ("FALSE", 2)
 
 
+def nearest_that_is_permitted():
+    """Where the rules deny the nearest server, the next that they permit is named; and none where one on the asker's own cable is as near."""
+    wire = Udp()
+    with Gateway(on_a_cable(wire) + "permit service * MAIN* out\ndeny service * * out\n") as gate:
+        station, far = unnumbered(gate, wire), Client(gate.ports[NETWORK])
+        station.network = CABLE
+        offers = [(SERVER, name, 0x99, STATION, OFFERED, hops) for name, hops in (("LAB", 1), ("MAIN3", 4), ("MAIN2", 3), ("MAIN1", 3), ("LAST", 15))]
+        far.send(sap_response(NETWORK, far.node, [*offers, (SERVER + 1, "MAIN0", 0x99, STATION, OFFERED, 2)]))
+        until(lambda: "services: 6\n" in gate.report(), "six services")
+        assert nearest_for(station, gate.nodes[CABLE]) == ("MAIN1", 4)
+        wire.send(framed(sap_response(CABLE, STATION, [(SERVER, "MAIN", CABLE, STATION, OFFERED, 1)])))
+        until(lambda: "services: 7\n" in gate.report(), "seven services")
+        assert nearest_for(station, gate.nodes[CABLE]) is None
+
+
 def another_number():
     """A router that has another number for the cable is told, once a minute."""
     wire, clock = Udp(), Clock()
@@ -324,7 +339,7 @@ def inside():
 
 def main():
     counts = tried(is_answered, is_found, routes_of_a_neighbour, neighbours_are_heard_beside, nobody_passes_for_a_neighbour, as_it_came,
-                   nearest_server, rules_come_in, rules_go_out, none_is_adopted)
+                   nearest_server, nearest_that_is_permitted, rules_come_in, rules_go_out, none_is_adopted)
     if has_linux("rules that change, and what is told once a minute", "the status socket and the clock that a test sets are Linux' own"):
         counts.run(rules_change)
         counts.run(another_number)
