@@ -1,6 +1,7 @@
 pub mod Advertised
 pub mod Again
 pub mod Claims
+pub mod RoutersWords
 pub mod Filters
 pub mod Fitting
 pub mod Headers

@@ -88,6 +88,17 @@ pub fn hears_neighbours_alone()
         → entered (port_at ports number) bytes ≡ Some new → heard ports up running number new ≡ Some message → IsDirect bytes }
 {}
 
+/// What a router says to all its neighbours, routes or services, comes in byte for byte at another's port, as long as each of these services
+/// names its network, or is further than one hop away. So routers behind edges hear each other as they would without.
+pub fn leaves_routers_words()
+    ensures routes { (port other : Port) (bytes : List ℕ) (operation : Operation) (entries : List RipEntry) → IsPort other
+        → packet_of bytes ≡ Ok (rip_packet_parts (own_address other) (everyone other) operation entries) → entered port bytes ≡ Some bytes }
+    ensures services { (port other : Port) (bytes : List ℕ) (nearest : Bool) (services : List Service) → IsPort other
+        → packet_of bytes ≡ Ok (sap_packet_parts (own_services other) (every_server other) nearest services)
+        → ((k : ℕ) → k < services_told port (sap_packet_parts (own_services other) (every_server other) nearest services) → is_own_service k bytes ≡ false)
+        → entered port bytes ≡ Some bytes }
+{}
+
 /// Of several rules the first that names something decides. What none names is permitted, and a packet that is denied doesn't pass.
 pub fn first_decides()
     ensures first { (names : What → Bool) (before after : List Rule) (rule : Rule) → AllByRecursion (λ r. names r.what ≡ false) before → names rule.what ≡ true
