@@ -311,8 +311,10 @@ IPXR_CALL void ipxr_line_send_answer(ipxr_line *line, uint64_t now, size_t bytes
 /* A ping goes out, for which there is always room: by it clients stay. */
 IPXR_CALL void ipxr_line_send_ping(ipxr_line *line, uint64_t now, size_t bytes);
 
-/* The same of what you say to one who is no client, and of the part which his address has of that. */
+/* The same of what you say to one who is no client, and of the part which his address has of that. A ping of so many bytes to one who speaks goes
+ * only where there is room for one more behind it. */
 IPXR_CALL ipxr_flag ipxr_line_lets_stranger(ipxr_line *line, uint64_t now, uint64_t *address);
+IPXR_CALL ipxr_flag ipxr_line_lets_ping(ipxr_line *line, uint64_t now, size_t bytes, uint64_t *address);
 IPXR_CALL void ipxr_line_send_to_stranger(ipxr_line *line, uint64_t now, size_t bytes, uint64_t *address);
 
 /* Makes limits of what goes to all who are no clients by a line of that width, on all networks, for ipxr_strangers_send: count four datagrams

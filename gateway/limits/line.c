@@ -177,19 +177,9 @@ bool line_lets_newcomer(const uint8_t key[SIPHASH_KEY], const uint8_t place[6], 
            ipxr_strangers_send(&newcomers.limits, count, newcomer(key, place), meter_now(&newcomers.sent)) == IPXR_PASSES;
 }
 
-/* Whether a datagram of so many bytes may go to a stranger, whose address uses so much of their part, and another behind it. */
-static bool has_room_for_two(uint64_t address, size_t length)
-{
-    ipxr_line then = line;
-    if (!ipxr_line_lets_stranger(&then, limit_clock(), &address))
-        return false;
-    ipxr_line_send_to_stranger(&then, limit_clock(), length, &address);
-    return ipxr_line_lets_stranger(&then, limit_clock(), &address);
-}
-
 bool line_lets_ping(const uint8_t key[SIPHASH_KEY], const uint8_t place[6], size_t length)
 {
-    return has_room_for_two(*stranger(key, place), length) &&
+    return ipxr_line_lets_ping(&line, limit_clock(), length, stranger(key, place)) &&
            ipxr_strangers_ping(&newcomers.limits, newcomer(key, place), meter_now(&newcomers.sent)) == IPXR_PASSES;
 }
 

@@ -65,7 +65,7 @@ static int is_sent(void)
                ipxr_line_lets_answer(&line, 0, &answered);
     ipxr_line_send_answer(&line, 0, 30, &answered);
     ipxr_line_send_ping(&line, 0, 30);
-    is_right = is_right && ipxr_line_lets_stranger(&line, line.own, &stranger);
+    is_right = is_right && ipxr_line_lets_stranger(&line, line.own, &stranger) && ipxr_line_lets_ping(&line, line.own, 30, &stranger);
     ipxr_line_send_to_stranger(&line, line.own, 30, &stranger);
     ipxr_line_between_pings(&line, 30, &between);
     ipxr_line_strangers(&line, &newcomers);

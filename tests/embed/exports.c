@@ -1241,6 +1241,23 @@ static void line_itself(void)
     ANSWERS(IPXR_LINE_WITHIN, ipxr_line_room(&line, NOW, SPOKE, SHORT_BYTES, &said, &to));
 }
 
+/* (there is room for one more behind it) */
+static void line_pings(ipxr_line line)
+{
+    uint64_t address = 795201000;
+    line.to_strangers = 974401000;
+    ANSWERS(1, ipxr_line_lets_ping(&line, NOW, SHORT_BYTES, &address));
+    line.to_strangers++;
+    ANSWERS(0, ipxr_line_lets_ping(&line, NOW, SHORT_BYTES, &address));
+    line.to_strangers--;
+    address++;
+    ANSWERS(0, ipxr_line_lets_ping(&line, NOW, SHORT_BYTES, &address));
+    WROTE(795201001, address);
+    address = 0;
+    line.used = 1000000000;
+    ANSWERS(0, ipxr_line_lets_ping(&line, NOW, SHORT_BYTES, &address));
+}
+
 static void line_own(void)
 {
     ipxr_line line = LINE;
@@ -1283,6 +1300,7 @@ static void line_own(void)
     WROTE(4518009832, answered);
     line.used = 20001000;
     ANSWERS(1, ipxr_line_lets_answer(&line, NOW, &answered));
+    line_pings(line);
 }
 
 static void limits(void)
