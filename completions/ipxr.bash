@@ -31,7 +31,7 @@ _ipxr() {
 # What may stand behind a word that asks a gateway.
 _ipxr_gateway_asking() {
     case $1 in
-    show) echo "links clients stations routes services counts events --json --prometheus --status" ;;
+    show) echo "links clients stations routes services edge counts events --json --prometheus --status" ;;
     *) echo "--status" ;;
     esac
 }

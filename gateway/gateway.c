@@ -10,6 +10,7 @@
 #include "links/extend.h"
 #include "links/links.h"
 #include "links/segment.h"
+#include "links/statics.h"
 #include "monitoring/capture.h"
 #include "monitoring/note.h"
 #include "monitoring/status.h"
@@ -314,6 +315,7 @@ static void let_seconds_pass(gateway *it)
     gateway_renew(it);
     let_tunnels_pass(it, passed);
     let_router_pass(it, passed);
+    statics_second(it);
     status_second(it);
 }
 

@@ -7,6 +7,7 @@
 #include "links/links.h"
 #include "links/node.h"
 #include "links/segment.h"
+#include "links/statics.h"
 #include "monitoring/note.h"
 #include "monitoring/output.h"
 #include "monitoring/status.h"
@@ -233,6 +234,7 @@ void gateway_renew(gateway *it)
     gateway_send_all(it);
     if (make(it) < 0)
         return; /* (no memory: it is tried again with the next second) */
+    statics_forget(it);
     for (size_t k = 0; k < it->port_count; k++)
         if (!it->ports[k].is_up)
             it->ports[k].is_up = ipxr_port_down(&it->router, (uint8_t)k) < 0; /* (then the next look tells the router) */

@@ -8,6 +8,7 @@
 #include "configuration/words.h"
 #include "links/links.h"
 #include "links/segment.h"
+#include "links/statics.h"
 #include "monitoring/events.h"
 #include "monitoring/note.h"
 #include "monitoring/output.h"
@@ -162,6 +163,7 @@ static void take_router(gateway *it)
     ipxr_free(&it->router);
     it->router = next.router;
     next.router = NONE;
+    statics_forget(it);
 }
 
 /* The router hears which of its ports are down now. (where it has no memory for it the port's first link is up until the next look, which
@@ -181,6 +183,18 @@ static void take_segments(gateway *it)
         router_port->segment = next.segments[k];
         if (first_of(it, router_port)->set->is_of_several)
             segment_begin(it, router_port);
+    }
+}
+
+/* The routes and services of a network's lines are others now, where its router is the same. (all of its links have them) */
+static void change_statics(gateway *it)
+{
+    for (size_t k = 0; !next.is_new_router && k < before.count; k++) {
+        const network_setting *was = before.networks[k].set;
+        bool is_first = k == 0 || before.networks[k - 1].set->network != was->network;
+        network *on = is_first ? first_of_network(it, was->network) : NULL;
+        if (on != NULL)
+            statics_change(it, on, was);
     }
 }
 
@@ -275,6 +289,7 @@ changed gateway_change(gateway *it, const settings *set)
     gateway_renew(it);
     gateway_tell_nodes(it);
     links_look_at_all(it);
+    change_statics(it);
     gateway_flush(it);
     return what;
 }

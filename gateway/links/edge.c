@@ -20,7 +20,7 @@ enum { AT_OPERATION = HEADER, NEAREST_RESPONSE = 4, AT_SERVICE = HEADER + 2, TO_
 /* Where the service's address begins, behind its name; and hops from which on nothing is reached. */
 enum { AT_PLACE = 48, UNREACHABLE = 16 };
 
-static ipxr_port port_at(const network *on)
+ipxr_port edge_port(const network *on)
 {
     ipxr_port it = {.network = on->set->network, .cost = ANY_COST, .longest = on->set->longest};
     memcpy(it.node, on->node, NODE);
@@ -67,14 +67,14 @@ static void copy(gateway *it, arrived *what)
 
 bool edge_holds(const network *on, const uint8_t *packet, size_t length)
 {
-    const ipxr_port at = port_at(on);
+    const ipxr_port at = edge_port(on);
     return on->set->adopts && ipxr_edge_is_held(&at, packet, length) == 1;
 }
 
 reason edge_lets_in(gateway *it, arrived *what)
 {
     const network_setting *set = what->on->set;
-    const ipxr_port at = port_at(what->on);
+    const ipxr_port at = edge_port(what->on);
     look_for_claims(what->on, &at, what->packet, what->length);
     if (what->length > LONGEST)
         return REASONS; /* (the router says that it is too long) */
@@ -153,7 +153,7 @@ static size_t name_permitted(gateway *it, const network *on, const ipxr_port *at
 
 size_t edge_lets_out(gateway *it, network *on, uint8_t *packet, size_t length)
 {
-    const ipxr_port at = port_at(on);
+    const ipxr_port at = edge_port(on);
     size_t left = passes(on, IPXR_WAY_OUT, &at, packet, length);
     if (left == 0 && names_nearest(packet, length))
         left = name_permitted(it, on, &at, packet, length);

@@ -6,6 +6,9 @@
 
 #include "gateway.h"
 
+/* The router's port on a network, as far as the edge asks for it. */
+ipxr_port edge_port(const network *on);
+
 /* Whether a packet is held: no limit counts it, since no neighbour sent it. */
 bool edge_holds(const network *on, const uint8_t *packet, size_t length);
 

@@ -83,19 +83,35 @@ static void send_now(network *on, const uint8_t *from, const uint8_t *node, cons
         gateway_lose(on, NOT_SENT);
 }
 
+static void send_paced(network *on, const paced_packet *next)
+{
+    if (on->is_up) /* (else the router said it before it heard that the link is lost) */
+        send_now(on, next->from, ALL_NODES, next->bytes, next->length);
+}
+
+/* The router's packet for all goes out behind those that wait. (without room for one more the first of them goes at once: none overtakes) */
+static void wait_for_turn(network *on, const uint8_t *from, const uint8_t *packet, size_t length)
+{
+    const paced_packet *first;
+    while (!paced_add(&on->paced, from, packet, length)) {
+        first = paced_first(&on->paced);
+        if (first == NULL) {
+            send_now(on, from, ALL_NODES, packet, length);
+            return;
+        }
+        send_paced(on, first);
+    }
+}
+
 void ether_send(network *on, const origin *by, const uint8_t *from, const uint8_t *node, const uint8_t *packet, size_t length)
 {
     reason why = throttle_carries(&on->throttle, on->of_link, by, length, count_of(kinds_to(on, node)));
     if (why != REASONS)
         gateway_lose(on, why);
-    else if (by != NULL || !is_broadcast(node) || !paced_add(&on->paced, from, packet, length))
+    else if (by == NULL && is_broadcast(node))
+        wait_for_turn(on, from, packet, length);
+    else
         send_now(on, from, node, packet, length);
-}
-
-static void send_paced(network *on, const paced_packet *next)
-{
-    if (on->is_up) /* (else the router said it before it heard that the link is lost) */
-        send_now(on, next->from, ALL_NODES, next->bytes, next->length);
 }
 
 void ether_send_due(network *on)

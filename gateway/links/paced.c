@@ -5,7 +5,7 @@
 #include "systems/clock.h"
 
 /* Packets that may wait on all links together. */
-enum { MOST_WAITING = 1024 };
+enum { MOST_WAITING = 4096 };
 
 enum { MILLISECOND_NS = 1000000 };
 

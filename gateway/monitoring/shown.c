@@ -251,7 +251,8 @@ static const struct {
     bool (*next)(gateway *it, cursor *so_far, sheet *s);
 } SECTIONS[] = {
     {"links", LINK_COLUMNS, next_link},    {"clients", CLIENT_COLUMNS, next_client},    {"stations", STATION_COLUMNS, next_station},
-    {"routes", ROUTE_COLUMNS, next_route}, {"services", SERVICE_COLUMNS, next_service}, {"counts", COUNT_COLUMNS, shown_count},
+    {"routes", ROUTE_COLUMNS, next_route}, {"services", SERVICE_COLUMNS, next_service}, {"edge", EDGE_COLUMNS, shown_edge},
+    {"counts", COUNT_COLUMNS, shown_count},
 };
 enum { SECTION_COUNT = sizeof SECTIONS / sizeof *SECTIONS };
 

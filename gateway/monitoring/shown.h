@@ -1,4 +1,4 @@
-/* What `show` shows: links, clients, stations, routes, services and counts, piece by piece, each record as it is when it is written. */
+/* What `show` shows: links, clients, stations, routes, services, edge and counts, piece by piece, each record as it is when it is written. */
 #ifndef SHOWN_H
 #define SHOWN_H
 
@@ -26,6 +26,8 @@ bool shown_next(gateway *it, cursor *so_far, sheet *s);
 /* Writes the record that is next, and goes behind it. Returns false where there is none, and nothing is written. */
 bool shown_count(gateway *it, cursor *so_far, sheet *s);
 extern const column COUNT_COLUMNS[];
+bool shown_edge(gateway *it, cursor *so_far, sheet *s);
+extern const column EDGE_COLUMNS[];
 
 /* The next piece of all counts in the text format of Prometheus. Returns false where all is written. */
 bool shown_metric(gateway *it, cursor *so_far, sheet *s);

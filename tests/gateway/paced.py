@@ -1,8 +1,8 @@
 """The router's broadcasts on a link with frames: those of a table go out one by one, 55 milliseconds apart, so that the card of an old computer
 has room for each.
 """
-from frames import Udp, unframed
-from lab import ALL_THERE_IS, Client, Clock, Gateway, is_routers, reaches, sap_response, tunnels
+from frames import Udp, frame, unframed
+from lab import ALL_THERE_IS, EVERYONE, Client, Clock, Gateway, is_routers, reaches, sap_response, tunnels
 from systems import SYSTEM
 from trying import begin, tried
 
@@ -11,6 +11,8 @@ SERVER = 0x4010
 STEP, PERIOD = 0.056, 60  # seconds from a packet to the next, and from one broadcast of all to the next
 PACKETS = 1 + SERVICES // OF_ONE  # of RIP and of SAP
 LATE = 2  # seconds in which all of them have gone
+LINKS, MANY = 32, 140 * 7  # cables and services: on all together more packets than may wait
+STATION = bytes.fromhex("020000000AA1")
 
 
 class Wire(Udp):
@@ -20,16 +22,18 @@ class Wire(Udp):
         super().__init__()
         self.socket.setblocking(False)
 
-    def count(self):
-        """How many such packets have come since one looked."""
-        found = 0
+    def heard(self):
+        """Such packets that have come since one looked."""
+        found = []
         while True:
             try:
                 (bytes_,) = self.receive()
             except BlockingIOError:
-                return found
-            inside = unframed("raw", bytes_)
-            found += inside is not None and is_routers(inside)
+                return [it for it in found if it is not None and is_routers(it)]
+            found.append(unframed("raw", bytes_))
+
+    def count(self):
+        return len(self.heard())
 
 
 def offers(client):
@@ -75,8 +79,36 @@ def all_goes_at_the_end():
         assert wire.count() >= PACKETS - 1
 
 
+def last_hops(packets, name):
+    """The hops of a service as it was told last."""
+    said = [bytes_[at + 62:at + 64] for bytes_ in packets for at in range(32, len(bytes_) - 63, 64) if bytes_[at + 2:at + 50].rstrip(b"\0") == name]
+    return int.from_bytes(said[-1], "big")
+
+
+def none_overtakes():
+    """Where more would wait than there is room for on all links, each link hears of a service that went that it is gone, and nothing else after."""
+    wires, clock = [Wire() for _ in range(LINKS)], Clock()
+    text = "".join(f"network {CABLE + k:X} 1 1490 qemu-udp 0 {wire.port} raw\n" for k, wire in enumerate(wires))
+    with Gateway(text, program=SYSTEM.fast, environment=clock.environment()) as gate:
+        for k, wire in enumerate(wires):
+            wire.to = gate.ports[CABLE + k]
+        names = [f"S{k:04}" for k in range(MANY)]
+        for first in range(0, MANY, OF_ONE):
+            services = [(SERVER, name, CABLE, STATION, 0x451, 1) for name in names[first:first + OF_ONE]]
+            wires[0].send(frame("raw", EVERYONE, STATION, sap_response(CABLE, STATION, services)))
+        wires[0].send(frame("raw", EVERYONE, STATION, sap_response(CABLE, STATION, [(SERVER, names[-1], CABLE, STATION, 0x451, 16)])))
+        assert f"services: {MANY - 1}\n" in gate.report()
+        heard = [[] for _ in wires]
+        for _ in range(LATE * 4):
+            clock.let_pass(1)
+            gate.report()
+            for wire, packets in zip(wires, heard):
+                packets += wire.heard()
+        assert all(last_hops(packets, names[-1].encode()) == 16 for packets in heard[1:])
+
+
 def main():
-    return tried(a_table_goes_out_one_by_one, all_goes_at_the_end)
+    return tried(a_table_goes_out_one_by_one, all_goes_at_the_end, none_overtakes)
 
 
 if __name__ == "__main__":

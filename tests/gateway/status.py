@@ -17,7 +17,7 @@ from lab import (ALL_THERE_IS, EVERYONE, GAME, LIMIT, NOBODY, Client, Gateway, a
 from systems import SYSTEM
 from trying import Counts, begin, has_linux, left_out, tried
 
-SECTIONS = ("links", "clients", "stations", "routes", "services", "counts")
+SECTIONS = ("links", "clients", "stations", "routes", "services", "edge", "counts")
 HOSTILE = [b'"', b"\\", b"\x1b[2J\x07", b"a b\tc\r\nd", b"\xff\xfe\x80", b"\x7f", b"</script>&'%s%n", b"\x01" * 47, bytes(range(1, 48)),
            bytes(range(200, 247)), "größe".encode()]
 ROUTES = 2048  # that fill the table
@@ -120,15 +120,20 @@ KEYS = {
     "stations": ["network", "station", "heard", "kind", "link"],
     "routes": ["network", "hops", "ticks", "by", "on", "age"],
     "services": ["type", "name", "network", "node", "socket", "hops", "by", "on", "age"],
+    "edge": ["network", "line"],
     "counts": ["network", "count", "number"],
 }
+
+# Lines of the edge, as they are shown.
+EDGE = ["deny type 20", "permit socket 0455", "deny nearest", "permit route 00001000-00001FFF in", "deny route 000000A1 out", "permit service 0004 LAB* out",
+        "deny service * * in", "permit service * MAIN in", "route 000000A2 2 3 via 00001B0204AA", "service 0004 MAIN 000000A2.000000000001.0451 3 via 00001B0204AA"]
 
 
 def a_field_a_column():
     """Each record has a field for each column, none more and none less, in columns too; and a trusted client's silence is its own."""
     wire = socket.socket(socket.AF_INET, socket.SOCK_DGRAM)
     wire.bind(("127.0.0.1", 0))
-    text = tunnels(1, extra="trust 127.0.0.2\n") + f"network 20 1 1424\nlink qemu-udp 0 {wire.getsockname()[1]} auto\nlink dosbox 0\n"
+    text = tunnels(1, extra="trust 127.0.0.2\ndeny type 20\n") + f"network 20 1 1424\nlink qemu-udp 0 {wire.getsockname()[1]} auto\nlink dosbox 0\n"
     with wire, Watched(text) as gate:
         a, trusted = Client(gate.ports[0x10]), Client(gate.ports[0x10], host="127.0.0.2")
         advertise(a, [b"SERVER"], [(0x77, 2, 3)])
@@ -144,7 +149,7 @@ def a_field_a_column():
             headings, *lines = gate.asked("show", section).splitlines()
             assert headings.split() == [it.upper().replace("_", "-") for it in keys], headings
             # (links, and what is counted, have words of several parts)
-            has_parts = section in ("links", "stations", "counts")
+            has_parts = section in ("links", "stations", "edge", "counts")
             assert len(lines) == len(records) and (has_parts or all(len(it.split()) == len(keys) for it in lines)), lines
         heard = {it["trusted"]: it["heard"] for it in gate.shown("clients")}
         assert 0 <= heard[True] <= LIMIT and 0 <= heard[False] <= LIMIT and reaches(a, trusted), heard
@@ -156,7 +161,13 @@ def all_of_it():
         whole = json.loads(gate.asked("show", "--json"))
         assert list(whole) == ["release", "seconds", *SECTIONS], whole
         text = gate.asked("show")
-        assert [it.split()[0] for it in text.split("\n\n")] == ["NETWORK", "NETWORK", "NETWORK", "NETWORK", "TYPE", "NETWORK"], text
+        assert [it.split()[0] for it in text.split("\n\n")] == ["NETWORK", "NETWORK", "NETWORK", "NETWORK", "TYPE", "NETWORK", "NETWORK"], text
+
+
+def the_edge():
+    """The lines of the edge are shown in their order, as one may write them again."""
+    with Watched(tunnels(1) + tunnels(1, 0x20, "".join(f"{it}\n" for it in EDGE))) as gate:
+        assert [(it["network"], it["line"]) for it in gate.shown("edge")] == [("00000020", it) for it in EDGE]
 
 
 def as_the_report():
@@ -243,7 +254,7 @@ def an_answer_that_is_lost():
 def wrong_questions():
     """Wrong words are told with what was expected; whatever else is said by hand, it answers the next."""
     with Watched(tunnels(1)) as gate:
-        assert asked(gate.path, "show", "nothing")[::2] == (1, "expected links, clients, stations, routes, services, counts or events\n")
+        assert asked(gate.path, "show", "nothing")[::2] == (1, "expected links, clients, stations, routes, services, edge, counts or events\n")
         assert asked(gate.path, "show", "links", "counts")[0] == 64
         assert asked(gate.path, "show", "links", "--prometheus")[0] == 64
         assert asked(gate.path, "reload", "now")[0] == 64
@@ -353,7 +364,7 @@ def nobody_reads():
 def main():
     if not has_linux("the status socket"):
         return Counts()
-    return tried(seen, a_field_a_column, all_of_it, as_the_report, hostile_names, full_tables, metrics, an_answer_that_is_lost,
+    return tried(seen, a_field_a_column, all_of_it, the_edge, as_the_report, hostile_names, full_tables, metrics, an_answer_that_is_lost,
                  wrong_questions, who_may_ask, who_takes_nobody, many_ask, no_room_to_ask, nobody_reads)
 
 

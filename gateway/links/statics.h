@@ -1,0 +1,16 @@
+/* Routes and services by way of nodes that say nothing themselves: the router hears of them each minute, in these nodes' names. */
+#ifndef STATICS_H
+#define STATICS_H
+
+#include "gateway.h"
+
+/* A second has passed: the router hears what is due, where it is up. */
+void statics_second(gateway *it);
+
+/* It has forgotten all of them: it is another router. */
+void statics_forget(gateway *it);
+
+/* The lines of a network are others now, and its router is the same: what they say no more ends at once. */
+void statics_change(gateway *it, network *on, const network_setting *was);
+
+#endif

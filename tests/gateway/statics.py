@@ -1,0 +1,74 @@
+"""Routes and services by way of nodes that say nothing themselves, as lines of the configuration say them."""
+import struct
+
+from changed import Changed
+from frames import Station, Udp
+from lab import GAME, Client, Clock, Gateway, address, tunnels, until
+from edge import nearest_for, routes_told, services_of, unnumbered
+from systems import SYSTEM
+from trying import begin, has_linux, tried
+
+NETWORK, CABLE = 0x10, 0x20
+VIA, OTHER = bytes.fromhex("00001B0204AA"), bytes.fromhex("00001B0204BB")
+SERVER, FIRST, MANY = bytes.fromhex("000000000001"), 0x1000, 60  # a server's node; and more routes than a packet has room for
+LIFETIME, DAY = 180, 400  # seconds of a record, and more than two of them
+ROUTE, SERVICE = "route A1 2 3 via 00001B0204AA\n", "service 4010 FILES A1.000000000001.451 3 via 00001B0204AA\n"
+
+
+def with_lines(wire, lines, near=0):
+    """A network of DOSBox, and a cable with lines below it."""
+    return tunnels(1) + f"network {CABLE:X} 1 1490 qemu-udp {near} {wire.port} raw\n{lines}"
+
+
+def are_learned():
+    """The router tells the routes and services of the lines, and sends what is for them to their node."""
+    wire = Udp()
+    many = "".join(f"route {FIRST + k:X} 1 2 via 00001B0204BB\n" for k in range(MANY))
+    with Gateway(with_lines(wire, ROUTE + SERVICE + many)) as gate:
+        station, far = unnumbered(gate, wire), Client(gate.ports[NETWORK])
+        until(lambda: f"routes: {MANY + 1}\n" in gate.report() and "services: 1\n" in gate.report(), "all routes and the service")
+        assert routes_told(far, gate, NETWORK) >= {CABLE, 0xA1}
+        assert services_of(far, gate) == {"FILES": (address(0xA1, SERVER, 0x451), 4)}
+        assert nearest_for(far, gate.nodes[NETWORK]) == ("FILES", 4)
+        for node, to in (VIA, 0xA1), (OTHER, FIRST + MANY - 1):
+            far.say(address(to, SERVER, GAME), b"far away")
+            frame = next(it for it in iter(lambda: wire.receive()[0], None) if it[44:] == b"far away" + bytes(60 - 52))
+            assert frame[:6] == node, frame
+        assert station.network == 0
+
+
+def they_stay():
+    """By a set clock they stay, however long nobody says them: the gateway does, also after the link was away."""
+    wire, clock = Udp(), Clock()
+    with Gateway(with_lines(wire, ROUTE + SERVICE), program=SYSTEM.fast, environment=clock.environment()) as gate:
+        for _ in range(DAY):
+            clock.let_pass(1)
+            report = gate.report()
+        assert "\n  000000A1 hops 2 ticks 3 by 00001B0204AA on 00000020" in report and "services: 1\n" in report, report
+
+
+def they_end():
+    """A reload without a line ends what it said at once, and a line more is heard at once; the router runs on."""
+    wire = Udp()
+    (near,) = (Udp().port,)
+    with Changed(with_lines(wire, ROUTE + SERVICE, near).replace(":0\n", ":0\n")) as gate:
+        far = Client(gate.ports[NETWORK])
+        until(lambda: "routes: 1\n" in gate.report() and "services: 1\n" in gate.report(), "both")
+        told = gate.reload(with_lines(wire, "route A2 2 3 via 00001B0204BB\n", near))
+        assert "afresh" not in told, told
+        until(lambda: "\n  000000A2 " in gate.report(), "the other route")
+        report = gate.report()
+        assert "\n  000000A1 " not in report and "services: 0\n" in report, report
+        assert routes_told(far, gate, NETWORK) == {CABLE, 0xA2}
+
+
+def main():
+    counts = tried(are_learned)
+    if has_linux("lines that change, and that stay", "the status socket and the clock that a test sets are Linux' own"):
+        counts.run(they_stay)
+        counts.run(they_end)
+    return counts
+
+
+if __name__ == "__main__":
+    begin(main)
