@@ -16,6 +16,7 @@ use Rattle.ipx_settings.specs.Numbers.{hexadecimal_of}
 use Rattle.ipx_settings.specs.Right.{AreNumbers, IsInWord, IsWord}
 use Rattle.ipx_settings.specs.RightLines.{IsNode}
 use Rattle.ipx_settings.specs.Rules.{last_route}
+use Rattle.ipx_settings.specs.Statics.{last_type}
 use Rattle.ipx_settings.specs.WritingLines.{byte_digits, bytes_digits, number_word, socket_word, rate_word}
 use Rattle.ipx_settings.proofs.NumbersAgain.{number_is, number_again}
 use Rattle.ipx_settings.proofs.Without.{Without, each-digits, other_byte}
@@ -126,6 +127,12 @@ type_again n low =
     rw (le-leb (length (socket_word n)) 4 (omega (arith, socket_size n)))
     (number_is 16 0 65535 n (socket_word n) (omega (arith, socket_size n), bytes_all (to_be_bytes w16 n) (two_bytes n)) (socket_value n low) (omega arith) (omega (arith, low)))
 
+-- of one type of services
+pub one_type_again : (n : ℕ) → 1 ≤ n → n ≤ last_type → hexadecimal_of 4 1 last_type (socket_word n) ≡ Some n
+one_type_again n least most =
+    rw (le-leb (length (socket_word n)) 4 (omega (arith, socket_size n)))
+    (number_is 16 1 last_type n (socket_word n) (omega (arith, socket_size n), bytes_all (to_be_bytes w16 n) (two_bytes n)) (socket_value n (omega (arith, most))) least most)
+
 pub no_star : (n : ℕ) → bytes_eq (socket_word n) (codes "*") ≡ false
 no_star n =
     elim (cases_Bool (bytes_eq (socket_word n) (codes "*"))) [
@@ -146,7 +153,7 @@ six_bytes a b c d e f la lb lc ld le lf = rw (byte_again a la, byte_again b lb, 
 six_items : (xs : List ℕ) → length xs ≡ 6 → xs ≡ get_or xs 0 0 ∷ get_or xs 1 0 ∷ get_or xs 2 0 ∷ get_or xs 3 0 ∷ get_or xs 4 0 ∷ get_or xs 5 0 ∷ []
 six_items xs h = text_from_reads xs _ h (refl, (refl, (refl, (refl, (refl, (refl, tt))))))
 
-node_bytes_again : (node : List ℕ) → AreNumbers 6 8 node → node_bytes_of (bytes_digits node) ≡ Some node
+pub node_bytes_again : (node : List ℕ) → AreNumbers 6 8 node → node_bytes_of (bytes_digits node) ≡ Some node
 node_bytes_again node are =
     let all = six_items node are.0 in
     ap (λ l. node_bytes_of (bytes_digits l)) all ∙ six_bytes _ _ _ _ _ _ (are.1 0) (are.1 1) (are.1 2) (are.1 3) (are.1 4) (are.1 5) ∙ ap Some (sym all)
@@ -154,11 +161,21 @@ node_bytes_again node are =
 pub node_again : (node : List ℕ) → IsNode node → node_of (bytes_digits node) ≡ Some node
 node_again node is = rw (node_bytes_again node is.0, is.1) refl
 
-pub node_is_word : (node : List ℕ) → IsNode node → IsWord (bytes_digits node)
-node_is_word node is =
-    let all = six_items node is.0.0 in
-    let low : (k : ℕ) → get_or node k 0 < 256 = λ k. omega (arith, is.0.1 k) in
+pub node_bytes_are_word : (node : List ℕ) → AreNumbers 6 8 node → IsWord (bytes_digits node)
+node_bytes_are_word node are =
+    let all = six_items node are.0 in
+    let low : (k : ℕ) → get_or node k 0 < 256 = λ k. omega (arith, are.1 k) in
     rw all (digits_are_word _ _ (low 0, (low 1, (low 2, (low 3, (low 4, (low 5, tt)))))))
+
+pub node_is_word : (node : List ℕ) → IsNode node → IsWord (bytes_digits node)
+node_is_word node is = node_bytes_are_word node is.0
+
+-- a byte that is no digit isn't there
+pub node_bytes_without : (byte : ℕ) (node : List ℕ) → AreNumbers 6 8 node → digit_value byte ≡ 36 → Without byte (bytes_digits node)
+node_bytes_without byte node are other =
+    let all = six_items node are.0 in
+    let low : (k : ℕ) → get_or node k 0 < 256 = λ k. omega (arith, are.1 k) in
+    rw all (each-digits (λ c. c ≢ byte) 16 _ (λ c few. other_byte byte c other few) (bytes_all _ (low 0, (low 1, (low 2, (low 3, (low 4, (low 5, tt))))))))
 
 -- ---- numbers a second
 

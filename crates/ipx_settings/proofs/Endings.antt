@@ -2,6 +2,8 @@ use Rattle.std.proofs.Common.{◌≡◌, ℕ, ◌≤◌, nat_le, Bool, true, fal
 use Rattle.std.specs.Prelude.{codes}
 use Rattle.ipx_settings.specs.Addresses.{own_host, four_at, six_at}
 use Rattle.ipx_settings.specs.Names.{padded, name_room}
+use Rattle.ipx_settings.specs.Rules.{service_room}
+use Rattle.ipx_settings.specs.Statics.{route_at, service_address_at, service_at}
 use Rattle.ipx_settings.specs.Beginnings.{said_by}
 use Rattle.ipx_settings.specs.Lines.{line_step, line_ends, fault_of}
 use Rattle.ipx_settings.specs.declared.addresses.Address.{Address}
@@ -30,6 +32,11 @@ use Rattle.ipx_settings.specs.declared.rule.RuleBegun.TheVariants as rule
 use Rattle.ipx_settings.specs.declared.rule.Way.TheVariants.{In}
 use Rattle.ipx_settings.specs.declared.rule.What.{What}
 use Rattle.ipx_settings.specs.declared.rule.What.TheVariants as what
+use Rattle.ipx_settings.specs.declared.statics.RouteBegun.{RouteBegun}
+use Rattle.ipx_settings.specs.declared.statics.RouteBegun.TheVariants as route
+use Rattle.ipx_settings.specs.declared.statics.ServiceAddress.{ServiceAddress}
+use Rattle.ipx_settings.specs.declared.statics.ServiceBegun.{ServiceBegun}
+use Rattle.ipx_settings.specs.declared.statics.ServiceBegun.TheVariants as service
 
 -- words that make it a line
 abbrev pub CanEnd : Context → Line → Type 0
@@ -102,6 +109,47 @@ rule_can_end c permits (rule.ServicesOf kind) = (codes "*" ∷ codes "in" ∷ []
 rule_can_end c permits (rule.ServicesNamed kind it) = (codes "in" ∷ [], (whole permits (what.Services In kind it), (refl, refl)))
 rule_can_end c permits (rule.Whole it) = ends_now c (whole permits it) refl
 
+-- ---- routes and services
+
+abbrev a_node : List ℕ
+a_node = 0 ∷ 0 ∷ 0 ∷ 0 ∷ 0 ∷ 1 ∷ []
+
+-- by way of it
+abbrev by_it : List (List ℕ)
+by_it = codes "via" ∷ codes "000000000001" ∷ []
+
+abbrev a_route : ℕ → ℕ → ℕ → Line
+a_route network hops ticks = line.Route (route.Whole (route_at network hops ticks a_node))
+
+route_can_end : (c : Context) (it : RouteBegun) → CanEnd c (line.Route it)
+route_can_end c route.Nothing = (codes "1" ∷ codes "1" ∷ codes "1" ∷ by_it, (a_route 1 1 1, (refl, refl)))
+route_can_end c (route.To network) = (codes "1" ∷ codes "1" ∷ by_it, (a_route network 1 1, (refl, refl)))
+route_can_end c (route.Hops network hops) = (codes "1" ∷ by_it, (a_route network hops 1, (refl, refl)))
+route_can_end c (route.Ticks network hops ticks) = (by_it, (a_route network hops ticks, (refl, refl)))
+route_can_end c (route.Via network hops ticks) = (codes "000000000001" ∷ [], (a_route network hops ticks, (refl, refl)))
+route_can_end c (route.Whole it) = ends_now c (line.Route (route.Whole it)) refl
+
+abbrev a_name : List ℕ
+a_name = padded service_room (codes "A")
+
+abbrev an_address : ServiceAddress
+an_address = service_address_at 1 a_node 1
+
+abbrev its_word : List ℕ
+its_word = codes "1.000000000001.1"
+
+abbrev a_service : ℕ → List ℕ → ServiceAddress → ℕ → Line
+a_service kind name address hops = line.Service (service.Whole (service_at kind name address hops a_node))
+
+service_can_end : (c : Context) (it : ServiceBegun) → CanEnd c (line.Service it)
+service_can_end c service.Nothing = (codes "1" ∷ codes "A" ∷ its_word ∷ codes "1" ∷ by_it, (a_service 1 a_name an_address 1, (refl, refl)))
+service_can_end c (service.Kind kind) = (codes "A" ∷ its_word ∷ codes "1" ∷ by_it, (a_service kind a_name an_address 1, (refl, refl)))
+service_can_end c (service.Named kind name) = (its_word ∷ codes "1" ∷ by_it, (a_service kind name an_address 1, (refl, refl)))
+service_can_end c (service.At kind name address) = (codes "1" ∷ by_it, (a_service kind name address 1, (refl, refl)))
+service_can_end c (service.Hops kind name address hops) = (by_it, (a_service kind name address hops, (refl, refl)))
+service_can_end c (service.Via kind name address hops) = (codes "000000000001" ∷ [], (a_service kind name address hops, (refl, refl)))
+service_can_end c (service.Whole it) = ends_now c (line.Service (service.Whole it)) refl
+
 -- ---- lines
 
 abbrev a_head : ℕ → ℕ → Head
@@ -150,6 +198,8 @@ can_end c (line.Internal (internal.Whole number node)) some = ends_now c (line.I
 can_end c (line.Adopt false) some = (codes "no" ∷ [], (line.Adopt true, (refl, refl)))
 can_end c (line.Adopt true) some = ends_now c (line.Adopt true) refl
 can_end c (line.Rule permits it) some = rule_can_end c permits it
+can_end c (line.Route it) some = route_can_end c it
+can_end c (line.Service it) some = service_can_end c it
 
 -- ---- what doesn't end says what was expected
 
@@ -224,3 +274,16 @@ refuses c (line.Rule permits rule.Services) open_still = (expected.ServiceType, 
 refuses c (line.Rule permits (rule.ServicesOf kind)) open_still = (expected.ServiceNames, refl)
 refuses c (line.Rule permits (rule.ServicesNamed kind it)) open_still = (expected.Way, refl)
 refuses c (line.Rule permits (rule.Whole it)) open_still = absurd cc
+refuses c (line.Route route.Nothing) open_still = (expected.Destination, refl)
+refuses c (line.Route (route.To network)) open_still = (expected.Hops, refl)
+refuses c (line.Route (route.Hops network hops)) open_still = (expected.Ticks, refl)
+refuses c (line.Route (route.Ticks network hops ticks)) open_still = (expected.Via, refl)
+refuses c (line.Route (route.Via network hops ticks)) open_still = (expected.Node, refl)
+refuses c (line.Route (route.Whole it)) open_still = absurd cc
+refuses c (line.Service service.Nothing) open_still = (expected.OneType, refl)
+refuses c (line.Service (service.Kind kind)) open_still = (expected.ServiceName, refl)
+refuses c (line.Service (service.Named kind name)) open_still = (expected.ServiceAddress, refl)
+refuses c (line.Service (service.At kind name address)) open_still = (expected.Hops, refl)
+refuses c (line.Service (service.Hops kind name address hops)) open_still = (expected.Via, refl)
+refuses c (line.Service (service.Via kind name address hops)) open_still = (expected.Node, refl)
+refuses c (line.Service (service.Whole it)) open_still = absurd cc

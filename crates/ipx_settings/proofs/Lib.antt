@@ -16,11 +16,14 @@ pub mod WordsAgain
 pub mod LinksAgain
 pub mod DigitsAgain
 pub mod RulesAgain
+pub mod StaticsAgain
 pub mod LinesAgain
 pub mod ListsAgain
 pub mod AddressesRight
 pub mod LinksRight
 pub mod RulesRight
+pub mod NodesRight
+pub mod StaticsRight
 pub mod LinesRight
 -- laws
 pub mod Begun

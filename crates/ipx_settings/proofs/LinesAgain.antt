@@ -43,6 +43,7 @@ use Rattle.ipx_settings.proofs.FirstWrong.{read, read_all}
 use Rattle.ipx_settings.proofs.LinksAgain.{link_again, link_is_words, literal}
 use Rattle.ipx_settings.proofs.NumbersAgain.{number_again}
 use Rattle.ipx_settings.proofs.RulesAgain.{rule_line, rule_is_words, rule_count}
+use Rattle.ipx_settings.proofs.StaticsAgain.{route_line, route_is_words, route_count, service_line, service_is_words, service_count}
 use Rattle.ipx_settings.proofs.WordsAgain.{words_again, before_again}
 
 -- ---- links, behind what stands before them
@@ -264,6 +265,8 @@ line_again c (line.Nodes by_address) is = nodes_line c by_address is
 line_again c (line.Internal it) is = internal_line c it is
 line_again c (line.Adopt is_off) is = adopt_line c is_off is
 line_again c (line.Rule permits it) is = rule_line c permits it is
+line_again c (line.Route it) is = route_line c it is
+line_again c (line.Service it) is = service_line c it is
 
 -- ---- its words
 
@@ -359,6 +362,8 @@ line_is_words c (line.Nodes by_address) is = (literal (codes "nodes") (omega ari
 line_is_words c (line.Internal it) is = (literal (codes "internal") (omega arith) refl, internal_are_words it is)
 line_is_words c (line.Adopt is_off) is = (literal (codes "adopt") (omega arith) refl, adopt_are_words is_off)
 line_is_words c (line.Rule permits it) is = rule_is_words permits it is
+line_is_words c (line.Route it) is = (literal (codes "route") (omega arith) refl, route_is_words it is)
+line_is_words c (line.Service it) is = (literal (codes "service") (omega arith) refl, service_is_words it is)
 
 -- ---- how many they are
 
@@ -433,6 +438,8 @@ line_count (line.Internal (internal.Whole number node)) = omega arith
 line_count (line.Adopt false) = omega arith
 line_count (line.Adopt true) = omega arith
 line_count (line.Rule permits it) = omega (arith, rule_count (permit_word permits) it)
+line_count (line.Route it) = omega (arith, route_count it)
+line_count (line.Service it) = omega (arith, service_count it)
 
 -- ---- texts
 

@@ -1,19 +1,20 @@
-use Rattle.std.proofs.Common.{◌≡◌, ℕ, zero, suc, ◌*◌, ◌^◌, ◌<◌, ◌≤◌, ◌==◌, ◌&&◌, nat_lt, not, Bool, true, false, List, [], ◌∷◌, length, get_or, take, drop, filter, refl, sym, subst, arith, Option, Some, None, one-add}
+use Rattle.std.proofs.Common.{◌≡◌, ℕ, ◌^◌, ◌<◌, ◌≤◌, ◌==◌, ◌&&◌, nat_lt, not, Bool, true, false, List, [], ◌∷◌, length, filter, refl, sym, subst, arith, Option, Some, None, one-add}
 use Rattle.std.specs.List.{AllByRecursion, slice_split, onto_first}
 use Rattle.std.specs.Option.{is_some, is_none}
 use Rattle.std.specs.Prelude.{Result, Ok, Err, codes}
 use Rattle.ipx_settings.specs.Addresses.{range_of, is_first}
 use Rattle.ipx_settings.specs.Beginnings.{if_right, said_by}
-use Rattle.ipx_settings.specs.Lines.{most_rate, most_kilobits, rate_or_none, socket_of, line_first, clients_step, share_behind, rate_step, strangers_step, kilobits_step, nodes_step, adopt_step, range_by, with_network, with_internal, with_rule, line_step, line_ends, read_from, read_to, reading_by, reading_of}
+use Rattle.ipx_settings.specs.Lines.{most_rate, most_kilobits, rate_or_none, socket_of, line_first, clients_step, share_behind, rate_step, strangers_step, kilobits_step, nodes_step, adopt_step, range_by, with_network, with_internal, with_rule, with_route, with_service, line_step, line_ends, read_from, read_to, reading_by, reading_of}
 use Rattle.ipx_settings.specs.Lines as lines
 use Rattle.ipx_settings.specs.Internals.{internal_step, internal_ends}
 use Rattle.ipx_settings.specs.Links.{said, is_the, link_step, link_ends}
 use Rattle.ipx_settings.specs.Networks.{last_network, least_longest, most_longest, head_of, with_shares, is_share, with_link, behind_head, may_have_node, behind_whole, network_step, network_ends}
-use Rattle.ipx_settings.specs.Nodes.{byte_at, bytes_by, step_of, is_single, node_bytes_of, node_of}
+use Rattle.ipx_settings.specs.Nodes.{node_of}
 use Rattle.ipx_settings.specs.Numbers.{number_of, hexadecimal_of}
-use Rattle.ipx_settings.specs.Right.{AreNumbers, IsInWord, IsWord, IsLink}
+use Rattle.ipx_settings.specs.Right.{IsInWord, IsWord, IsLink}
 use Rattle.ipx_settings.specs.RightLines.{Within, IsHead, IsNode, MayHaveNode, IsWhole, IsNetwork, IsClients, IsRate, IsMost, IsInternal, IsSaid}
 use Rattle.ipx_settings.specs.Rules.{rule_step}
+use Rattle.ipx_settings.specs.Statics.{route_step, service_step}
 use Rattle.ipx_settings.specs.Words.{is_blank, is_mark, before_mark, words, most_words}
 use Rattle.ipx_settings.specs.declared.addresses.HostRange.{HostRange}
 use Rattle.ipx_settings.specs.declared.expected.Expected.{Expected}
@@ -35,12 +36,18 @@ use Rattle.ipx_settings.specs.declared.network.NetworkBegun.{NetworkBegun}
 use Rattle.ipx_settings.specs.declared.network.NetworkBegun.TheVariants as network
 use Rattle.ipx_settings.specs.declared.rule.RuleBegun.{RuleBegun}
 use Rattle.ipx_settings.specs.declared.rule.RuleBegun.TheVariants as rule
+use Rattle.ipx_settings.specs.declared.statics.RouteBegun.{RouteBegun}
+use Rattle.ipx_settings.specs.declared.statics.RouteBegun.TheVariants as route
+use Rattle.ipx_settings.specs.declared.statics.ServiceBegun.{ServiceBegun}
+use Rattle.ipx_settings.specs.declared.statics.ServiceBegun.TheVariants as service
 use Rattle.ipx_settings.proofs.AddressesAgain.{one_value}
-use Rattle.ipx_settings.proofs.AddressesRight.{bound, chosen, no_value, decimal_within, hexadecimal_within}
+use Rattle.ipx_settings.proofs.AddressesRight.{chosen, no_value, decimal_within, hexadecimal_within}
 use Rattle.ipx_settings.proofs.FirstWrong.{right}
 use Rattle.ipx_settings.proofs.LinksRight.{IsPart, no_error, said_right, chosen_right, ok_right, step_right}
+use Rattle.ipx_settings.proofs.NodesRight.{node_right}
 use Rattle.ipx_settings.proofs.Parts.{has_bytes, keeps}
 use Rattle.ipx_settings.proofs.RulesRight.{RulePart, rule_part, rule_right}
+use Rattle.ipx_settings.proofs.StaticsRight.{RoutePart, route_part, route_right, ServicePart, service_part, service_right}
 
 -- ---- words of a text
 
@@ -73,46 +80,12 @@ filled ((c ∷ part) ∷ parts) each = subst (AllByRecursion IsWord) (sym (keeps
 pub words_are : (text : List ℕ) → AllByRecursion IsWord (words (before_mark text))
 words_are text = filled (slice_split is_blank (before_mark text)) (parts_each (before_mark text) (unmarked text))
 
--- ---- numbers and nodes
+-- ---- numbers
 
 rate_most : (word : List ℕ) (r : ℕ) → rate_or_none word ≡ Some r → r ≤ most_rate
 rate_most word r e =
     chosen (λ n. n ≤ most_rate) (is_the word (codes "none")) (Some 0) (number_of 1 most_rate word) r
     (λ _ f. subst (λ n. n ≤ most_rate) (one_value 0 r f) (omega arith)) (λ _ f. (decimal_within 1 most_rate r word f).1) e
-
-byte_low : (word : List ℕ) (at n : ℕ) → byte_at word at ≡ Some n → n < 2 ^ 8
-byte_low word at n e = omega (arith, hexadecimal_within 2 0 255 n (take 2 (drop at word)) e)
-
-six_numbers : (a b c d e f : ℕ) → a < 2 ^ 8 → b < 2 ^ 8 → c < 2 ^ 8 → d < 2 ^ 8 → e < 2 ^ 8 → f < 2 ^ 8 → AreNumbers 6 8 (a ∷ b ∷ c ∷ d ∷ e ∷ f ∷ [])
-six_numbers a b c d e f la lb lc ld le lf = (refl, each)
-  where
-    each : (k : ℕ) → get_or (a ∷ b ∷ c ∷ d ∷ e ∷ f ∷ []) k 0 < 2 ^ 8
-    each zero = la
-    each (suc zero) = lb
-    each (suc (suc zero)) = lc
-    each (suc (suc (suc zero))) = ld
-    each (suc (suc (suc (suc zero)))) = le
-    each (suc (suc (suc (suc (suc zero))))) = lf
-    each (suc (suc (suc (suc (suc (suc k)))))) = omega arith
-
-bytes_right : (step : ℕ) (word node : List ℕ) → bytes_by step word ≡ Some node → AreNumbers 6 8 node
-bytes_right step word node e0 =
-    bound (AreNumbers 6 8) (byte_at word 0) _ node (λ a ia e1.
-    bound (AreNumbers 6 8) (byte_at word step) _ node (λ b ib e2.
-    bound (AreNumbers 6 8) (byte_at word (2 * step)) _ node (λ c ic e3.
-    bound (AreNumbers 6 8) (byte_at word (3 * step)) _ node (λ d id e4.
-    bound (AreNumbers 6 8) (byte_at word (4 * step)) _ node (λ e ie e5.
-    bound (AreNumbers 6 8) (byte_at word (5 * step)) _ node (λ f if6 e6.
-    subst (AreNumbers 6 8) (one_value (a ∷ b ∷ c ∷ d ∷ e ∷ f ∷ []) node e6)
-    (six_numbers a b c d e f (byte_low word 0 a ia) (byte_low word step b ib) (byte_low word (2 * step) c ic) (byte_low word (3 * step) d id) (byte_low word (4 * step) e ie) (byte_low word (5 * step) f if6)))
-    e5) e4) e3) e2) e1) e0
-
-node_right : (word node : List ℕ) → node_of word ≡ Some node → IsNode node
-node_right word node e =
-    bound IsNode (node_bytes_of word) _ node (λ bytes ibytes e1.
-    chosen IsNode (is_single bytes) (Some bytes) None node
-    (λ single f. subst IsNode (one_value bytes node f) (bound (AreNumbers 6 8) (step_of word) _ bytes (λ step _ e2. bytes_right step word bytes e2) ibytes, single))
-    (λ _ f. absurd (no_value node f)) e1) e
 
 -- ---- networks, as far as they were read
 
@@ -240,6 +213,8 @@ LinePart c (line.Nodes by_address) = Unit {0}
 LinePart c (line.Internal it) = InternalPart it
 LinePart c (line.Adopt is_off) = Unit {0}
 LinePart c (line.Rule permits it) = RulePart it
+LinePart c (line.Route it) = RoutePart it
+LinePart c (line.Service it) = ServicePart it
 
 first_part : (c : Context) (word : List ℕ) (next : Line) → line_first word ≡ Ok next → LinePart c next
 first_part c word next e =
@@ -257,8 +232,10 @@ first_part c word next e =
     chosen_right P (is_the word (codes "internal")) _ _ next (λ _ f. ok_right P (line.Internal internal.Nothing) next tt f) (λ _ e11.
     chosen_right P (is_the word (codes "adopt")) _ _ next (λ _ f. ok_right P (line.Adopt false) next tt f) (λ _ e12.
     chosen_right P (is_the word (codes "permit")) _ _ next (λ _ f. ok_right P (line.Rule true rule.Nothing) next tt f) (λ _ e13.
-    chosen_right P (is_the word (codes "deny")) _ _ next (λ _ f. ok_right P (line.Rule false rule.Nothing) next tt f) (λ _ f. absurd (no_error expected.Line next f))
-    e13) e12) e11) e10) e9) e8) e7) e6) e5) e4) e3) e2) e1) e
+    chosen_right P (is_the word (codes "deny")) _ _ next (λ _ f. ok_right P (line.Rule false rule.Nothing) next tt f) (λ _ e14.
+    chosen_right P (is_the word (codes "route")) _ _ next (λ _ f. ok_right P (line.Route route.Nothing) next tt f) (λ _ e15.
+    chosen_right P (is_the word (codes "service")) _ _ next (λ _ f. ok_right P (line.Service service.Nothing) next tt f) (λ _ f. absurd (no_error expected.Line next f))
+    e15) e14) e13) e12) e11) e10) e9) e8) e7) e6) e5) e4) e3) e2) e1) e
 
 network_line_part : (c : Context) (b : NetworkBegun) (word : List ℕ) (r : Result NetworkBegun Expected) (next : Line) → IsWord word → NetworkPart c.has_cards b → network_step c.has_cards b word ≡ r
     → with_network r ≡ Ok next → LinePart c next
@@ -337,6 +314,16 @@ rule_line_part : (c : Context) (permits : Bool) (it : RuleBegun) (word : List �
 rule_line_part c permits it word (Ok more) next one part read e = ok_right (LinePart c) (line.Rule permits more) next (rule_part it more word one part read) e
 rule_line_part c permits it word (Err why) next one part read e = absurd (no_error why next e)
 
+route_line_part : (c : Context) (it : RouteBegun) (word : List ℕ) (r : Result RouteBegun Expected) (next : Line) → RoutePart it → route_step it word ≡ r
+    → with_route r ≡ Ok next → LinePart c next
+route_line_part c it word (Ok more) next part read e = ok_right (LinePart c) (line.Route more) next (route_part it more word part read) e
+route_line_part c it word (Err why) next part read e = absurd (no_error why next e)
+
+service_line_part : (c : Context) (it : ServiceBegun) (word : List ℕ) (r : Result ServiceBegun Expected) (next : Line) → IsWord word → ServicePart it → service_step it word ≡ r
+    → with_service r ≡ Ok next → LinePart c next
+service_line_part c it word (Ok more) next one part read e = ok_right (LinePart c) (line.Service more) next (service_part it more word one part read) e
+service_line_part c it word (Err why) next one part read e = absurd (no_error why next e)
+
 line_part : (c : Context) (l next : Line) (word : List ℕ) → IsWord word → LinePart c l → line_step c l word ≡ Ok next → LinePart c next
 line_part c line.Nothing next word one part e = first_part c word next e
 line_part c (line.Network b) next word one part e = network_line_part c b word (network_step c.has_cards b word) next one part refl e
@@ -352,6 +339,8 @@ line_part c (line.Nodes by_address) next word one part e = nodes_part c by_addre
 line_part c (line.Internal it) next word one part e = internal_line_part c it word (internal_step it word) next part refl e
 line_part c (line.Adopt is_off) next word one part e = adopt_part c is_off word next e
 line_part c (line.Rule permits it) next word one part e = rule_line_part c permits it word (rule_step it word) next one part refl e
+line_part c (line.Route it) next word one part e = route_line_part c it word (route_step it word) next part refl e
+line_part c (line.Service it) next word one part e = service_line_part c it word (service_step it word) next one part refl e
 
 said_part : (c : Context) (l last : Line) (ws : List (List ℕ)) → AllByRecursion IsWord ws → LinePart c l → said_by c l ws ≡ Some last → LinePart c last
 said_part c l last [] are part e = subst (LinePart c) (one_value l last e) part
@@ -398,6 +387,8 @@ line_said c (line.Nodes by_address) part ends = ends
 line_said c (line.Internal it) part ends = internal_right it part ends
 line_said c (line.Adopt is_off) part ends = ends
 line_said c (line.Rule permits it) part ends = rule_right it part ends
+line_said c (line.Route it) part ends = route_right it part ends
+line_said c (line.Service it) part ends = service_right it part ends
 
 words_said : (c : Context) (ws : List (List ℕ)) → AllByRecursion IsWord ws → (reading_by c ws).fault ≡ None → IsSaid c (reading_by c ws).line
 words_said c ws are none = by (nat_lt most_words (length ws)) refl

@@ -47,23 +47,23 @@ service_by name field true right read =
     let same : padded service_room name ≡ field = one_value (padded service_room name) field (sym (rw right refl) ∙ read) in
     (ap name_in (sym same) ∙ name_is name service_room (service_size name right) (service_without 0 name right refl), service_without star name right refl)
 
-service : (field : List ℕ) (is : IsServiceName field) → (name_in field ≡ is.0) × Without star is.0
-service field is = service_by is.0 field (is_service_name is.0) refl is.2
+pub service_name : (field : List ℕ) (is : IsServiceName field) → (name_in field ≡ is.0) × Without star is.0
+service_name field is = service_by is.0 field (is_service_name is.0) refl is.2
 
 names_again : (it : Names) → AreNames it → names_of (names_word it) ≡ Some it
 names_again names.All are = refl
 names_again (names.Is field) are =
-    let is = service field are in
+    let is = service_name field are in
     rw (is.0, cut_none star are.0 is.1, are.2) refl
 names_again (names.Begins field) are =
-    let is = service field are in
+    let is = service_name field are in
     rw (is.0, cut_front star are.0 [] is.1, are.2, ne_eqb (length are.0) 0 (λ e. omega (arith, e, are.1.0))) refl
 
 names_is_word : (it : Names) → AreNames it → IsWord (names_word it)
 names_is_word names.All are = literal (codes "*") (omega arith) refl
-names_is_word (names.Is field) are = subst IsWord (sym (service field are).0) are.1
+names_is_word (names.Is field) are = subst IsWord (sym (service_name field are).0) are.1
 names_is_word (names.Begins field) are =
-    rw (service field are).0
+    rw (service_name field are).0
     (omega (arith, length-append are.0 (codes "*")), each-append IsInWord are.0 (codes "*") are.1.1 ((refl, refl), tt))
 
 -- ---- networks, types and ways

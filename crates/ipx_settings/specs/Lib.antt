@@ -10,6 +10,7 @@ pub mod Links
 pub mod Networks
 pub mod Internals
 pub mod Rules
+pub mod Statics
 pub mod Lines
 -- what is written, and values that are read
 pub mod Writing

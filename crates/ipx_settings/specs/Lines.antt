@@ -7,6 +7,7 @@ use Rattle.ipx_settings.specs.Links.{said, is_the, link_step, link_ends}
 use Rattle.ipx_settings.specs.Networks.{network_step, network_ends}
 use Rattle.ipx_settings.specs.Numbers.{number_of, hexadecimal_of}
 use Rattle.ipx_settings.specs.Rules.{rule_step, rule_ends}
+use Rattle.ipx_settings.specs.Statics.{route_step, route_ends, service_step, service_ends}
 use Rattle.ipx_settings.specs.Words.{words, before_mark, most_words}
 use Rattle.ipx_settings.specs.declared.reading.Reading.{Reading}
 use Rattle.ipx_settings.specs.declared.addresses.HostRange.{HostRange}
@@ -27,6 +28,10 @@ use Rattle.ipx_settings.specs.declared.network.NetworkBegun.{NetworkBegun}
 use Rattle.ipx_settings.specs.declared.network.NetworkBegun.TheVariants as network
 use Rattle.ipx_settings.specs.declared.rule.RuleBegun.{RuleBegun}
 use Rattle.ipx_settings.specs.declared.rule.RuleBegun.TheVariants as rule_begun
+use Rattle.ipx_settings.specs.declared.statics.RouteBegun.{RouteBegun}
+use Rattle.ipx_settings.specs.declared.statics.RouteBegun.TheVariants as route
+use Rattle.ipx_settings.specs.declared.statics.ServiceBegun.{ServiceBegun}
+use Rattle.ipx_settings.specs.declared.statics.ServiceBegun.TheVariants as service
 
 -- the most of a rate, and of the kilobits of a line
 abbrev pub most_rate : ℕ
@@ -59,6 +64,8 @@ line_first word =
     else if is_the word (codes "adopt") then Ok (line.Adopt false)
     else if is_the word (codes "permit") then Ok (line.Rule true rule_begun.Nothing)
     else if is_the word (codes "deny") then Ok (line.Rule false rule_begun.Nothing)
+    else if is_the word (codes "route") then Ok (line.Route route.Nothing)
+    else if is_the word (codes "service") then Ok (line.Service service.Nothing)
     else Err expected.Line
 
 -- the most clients, and the most of one address, which are no more
@@ -132,6 +139,14 @@ abbrev pub with_rule : Bool → Result RuleBegun Expected → Result Line Expect
 with_rule permits (Ok next) = Ok (line.Rule permits next)
 with_rule permits (Err e) = Err e
 
+abbrev pub with_route : Result RouteBegun Expected → Result Line Expected
+with_route (Ok next) = Ok (line.Route next)
+with_route (Err e) = Err e
+
+abbrev pub with_service : Result ServiceBegun Expected → Result Line Expected
+with_service (Ok next) = Ok (line.Service next)
+with_service (Err e) = Err e
+
 -- a word more
 abbrev pub line_step : Context → Line → List ℕ → Result Line Expected
 line_step c line.Nothing word = line_first word
@@ -148,6 +163,8 @@ line_step c (line.Nodes by_address) word = nodes_step by_address word
 line_step c (line.Internal begun) word = with_internal (internal_step begun word)
 line_step c (line.Adopt is_off) word = adopt_step is_off word
 line_step c (line.Rule permits begun) word = with_rule permits (rule_step begun word)
+line_step c (line.Route begun) word = with_route (route_step begun word)
+line_step c (line.Service begun) word = with_service (service_step begun word)
 
 abbrev pub clients_end : ClientsBegun → Bool
 clients_end clients.Nothing = false
@@ -176,6 +193,8 @@ line_ends (line.Nodes by_address) = by_address
 line_ends (line.Internal begun) = internal_ends begun
 line_ends (line.Adopt is_off) = is_off
 line_ends (line.Rule permits begun) = rule_ends begun
+line_ends (line.Route begun) = route_ends begun
+line_ends (line.Service begun) = service_ends begun
 
 abbrev pub fault_of : {A : Type 0} → Result A Expected → Option Expected
 fault_of (Ok a) = None

@@ -7,6 +7,7 @@ use Rattle.ipx_settings.specs.Networks.{last_network, least_longest, most_longes
 use Rattle.ipx_settings.specs.Nodes.{is_single}
 use Rattle.ipx_settings.specs.Right.{AreNumbers, IsLink, IsWord}
 use Rattle.ipx_settings.specs.Rules.{last_route, service_name_of}
+use Rattle.ipx_settings.specs.Statics.{most_hops, last_type, plain_name_of, is_host_node}
 use Rattle.ipx_settings.specs.Words.{most_words}
 use Rattle.ipx_settings.specs.declared.addresses.HostRange.{HostRange}
 use Rattle.ipx_settings.specs.declared.internal.InternalBegun.{InternalBegun}
@@ -31,6 +32,11 @@ use Rattle.ipx_settings.specs.declared.rule.RuleBegun.{RuleBegun}
 use Rattle.ipx_settings.specs.declared.rule.RuleBegun.TheVariants as rule
 use Rattle.ipx_settings.specs.declared.rule.What.{What}
 use Rattle.ipx_settings.specs.declared.rule.What.TheVariants as what
+use Rattle.ipx_settings.specs.declared.statics.RouteBegun.{RouteBegun}
+use Rattle.ipx_settings.specs.declared.statics.RouteBegun.TheVariants as route
+use Rattle.ipx_settings.specs.declared.statics.ServiceAddress.{ServiceAddress}
+use Rattle.ipx_settings.specs.declared.statics.ServiceBegun.{ServiceBegun}
+use Rattle.ipx_settings.specs.declared.statics.ServiceBegun.TheVariants as service
 
 -- a number between two, or one of them
 abbrev pub Within : ℕ → ℕ → ℕ → Type 0
@@ -110,6 +116,25 @@ abbrev pub IsRule : RuleBegun → Type 0
 IsRule (rule.Whole it) = IsWhat it
 IsRule other = ⊥
 
+-- a route by way of a node
+abbrev pub IsRoute : RouteBegun → Type 0
+IsRoute (route.Whole it) = Within 1 last_route it.network × Within 1 most_hops it.hops × Within 1 65535 it.ticks × IsNode it.via
+IsRoute other = ⊥
+
+-- the name of one service, in its room
+abbrev pub IsPlainName : List ℕ → Type 0
+IsPlainName field = (name : List ℕ) × IsWord name × (plain_name_of name ≡ Some field)
+
+abbrev pub IsServiceAddress : ServiceAddress → Type 0
+IsServiceAddress address =
+    Within 1 last_network address.network × AreNumbers 6 8 address.node × (is_host_node address.node ≡ true) × Within 1 65535 address.socket
+
+-- a service by way of a node
+abbrev pub IsService : ServiceBegun → Type 0
+IsService (service.Whole it) =
+    Within 1 last_type it.kind × IsPlainName it.name × IsServiceAddress it.address × Within 1 most_hops it.hops × IsNode it.via
+IsService other = ⊥
+
 -- what a line without a list can say, read in that context
 abbrev pub IsRight : Context → Line → Type 0
 IsRight c line.Nothing = Unit {0}
@@ -126,6 +151,8 @@ IsRight c (line.Nodes by_address) = by_address ≡ true
 IsRight c (line.Internal it) = IsInternal it
 IsRight c (line.Adopt is_off) = is_off ≡ true
 IsRight c (line.Rule permits it) = IsRule it
+IsRight c (line.Route it) = IsRoute it
+IsRight c (line.Service it) = IsService it
 
 -- a range whose address is its first
 abbrev pub IsRange : HostRange → Type 0
@@ -151,3 +178,5 @@ IsSaid c (line.Nodes by_address) = by_address ≡ true
 IsSaid c (line.Internal it) = IsInternal it
 IsSaid c (line.Adopt is_off) = is_off ≡ true
 IsSaid c (line.Rule permits it) = IsRule it
+IsSaid c (line.Route it) = IsRoute it
+IsSaid c (line.Service it) = IsService it

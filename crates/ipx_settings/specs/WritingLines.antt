@@ -30,6 +30,11 @@ use Rattle.ipx_settings.specs.declared.rule.Way.{Way}
 use Rattle.ipx_settings.specs.declared.rule.Way.TheVariants.{In, Out}
 use Rattle.ipx_settings.specs.declared.rule.What.{What}
 use Rattle.ipx_settings.specs.declared.rule.What.TheVariants as what
+use Rattle.ipx_settings.specs.declared.statics.RouteBegun.{RouteBegun}
+use Rattle.ipx_settings.specs.declared.statics.RouteBegun.TheVariants as route
+use Rattle.ipx_settings.specs.declared.statics.ServiceAddress.{ServiceAddress}
+use Rattle.ipx_settings.specs.declared.statics.ServiceBegun.{ServiceBegun}
+use Rattle.ipx_settings.specs.declared.statics.ServiceBegun.TheVariants as service
 
 -- two digits for each byte, of upper case
 abbrev pub byte_digits : ℕ → List ℕ
@@ -136,6 +141,23 @@ abbrev pub permit_word : Bool → List ℕ
 permit_word true = codes "permit"
 permit_word false = codes "deny"
 
+-- by way of a node, behind its word
+abbrev pub via_words : List ℕ → List (List ℕ)
+via_words via = codes "via" ∷ bytes_digits via ∷ []
+
+abbrev pub route_words : RouteBegun → List (List ℕ)
+route_words (route.Whole it) = number_word it.network ∷ decimal it.hops ∷ decimal it.ticks ∷ via_words it.via
+route_words other = []
+
+abbrev pub service_address_word : ServiceAddress → List ℕ
+service_address_word address =
+    number_word address.network ++ codes "." ++ bytes_digits address.node ++ codes "." ++ socket_word address.socket
+
+abbrev pub service_words : ServiceBegun → List (List ℕ)
+service_words (service.Whole it) =
+    socket_word it.kind ∷ name_in it.name ∷ service_address_word it.address ∷ decimal it.hops ∷ via_words it.via
+service_words other = []
+
 -- all words of a line but for lists, which are written by themselves
 abbrev pub line_words : Line → List (List ℕ)
 line_words line.Nothing = []
@@ -152,6 +174,8 @@ line_words (line.Nodes by_address) = codes "nodes" ∷ nodes_words by_address
 line_words (line.Internal it) = codes "internal" ∷ internal_words it
 line_words (line.Adopt is_off) = codes "adopt" ∷ adopt_words is_off
 line_words (line.Rule permits it) = rule_words (permit_word permits) it
+line_words (line.Route it) = codes "route" ∷ route_words it
+line_words (line.Service it) = codes "service" ∷ service_words it
 
 abbrev pub range_word : HostRange → List ℕ
 range_word range = ipv4_text range.first ++ codes "/" ++ decimal range.bits

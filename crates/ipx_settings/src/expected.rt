@@ -83,4 +83,18 @@ pub enum Expected {
     ServiceType,
     /// Names of services.
     ServiceNames,
+    /// The number of a network that a route leads to.
+    Destination,
+    /// The routers on a way.
+    Hops,
+    /// The ticks of a way.
+    Ticks,
+    /// `via`.
+    Via,
+    /// The type of one service.
+    OneType,
+    /// The name of one service.
+    ServiceName,
+    /// Where a service is offered: its network, node and socket.
+    ServiceAddress,
 }

@@ -9,6 +9,7 @@ use crate::link::LinkBegun;
 use crate::network::NetworkBegun;
 use crate::numbers::{hexadecimal, number, short};
 use crate::rule::RuleBegun;
+use crate::statics::{RouteBegun, ServiceBegun};
 use crate::words::is_word;
 
 /// The most that a rate may be, and the kilobits of a line: ten gigabits.
@@ -84,6 +85,10 @@ pub enum Line {
     Adopt(bool),
     /// A rule, which permits what it names, or denies it.
     Rule(bool, RuleBegun),
+    /// A route by way of a node on the network.
+    Route(RouteBegun),
+    /// A service, alike.
+    Service(ServiceBegun),
 }
 
 /// A number a second, or 0 for `none`.
@@ -136,6 +141,10 @@ fn first(word: &[u8]) -> Result<Line, Expected>
         Ok(Line::Rule(true, RuleBegun::Nothing))
     } else if is_word(word, b"deny") {
         Ok(Line::Rule(false, RuleBegun::Nothing))
+    } else if is_word(word, b"route") {
+        Ok(Line::Route(RouteBegun::Nothing))
+    } else if is_word(word, b"service") {
+        Ok(Line::Service(ServiceBegun::Nothing))
     } else {
         Err(Expected::Line)
     }
@@ -301,6 +310,14 @@ impl Line {
                 Ok(next) => Ok(Line::Rule(permits, next)),
                 Err(expected) => Err(expected),
             },
+            Line::Route(begun) => match begun.step(word) {
+                Ok(next) => Ok(Line::Route(next)),
+                Err(expected) => Err(expected),
+            },
+            Line::Service(begun) => match begun.step(word) {
+                Ok(next) => Ok(Line::Service(next)),
+                Err(expected) => Err(expected),
+            },
         }
     }
 
@@ -323,6 +340,8 @@ impl Line {
             Line::Internal(begun) => begun.ends(),
             Line::Adopt(is_off) => is_off,
             Line::Rule(_, begun) => begun.ends(),
+            Line::Route(begun) => begun.ends(),
+            Line::Service(begun) => begun.ends(),
         }
     }
 

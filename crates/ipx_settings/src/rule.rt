@@ -112,7 +112,7 @@ fn field_of(name: &[u8]) -> [u8; 48]
 }
 
 /// The name of a service, with zeros behind it.
-fn service_name(name: &[u8]) -> Option<[u8; 48]>
+pub(crate) fn service_name(name: &[u8]) -> Option<[u8; 48]>
     ensures { result ≡ service_name_of name.now }
 {
     if is_service_name(name) {
@@ -144,7 +144,8 @@ fn names_said(word: &[u8]) -> Option<Names>
     }
 }
 
-fn network(word: &[u8]) -> Option<u32>
+/// A network that routes lead to.
+pub(crate) fn network(word: &[u8]) -> Option<u32>
     ensures { result ≡ one_network word.now }
 {
     hexadecimal(word, 8, 1, LAST_ROUTE)

@@ -11,6 +11,7 @@ use crate::network::{Head, NetworkBegun};
 use crate::putting::{LONGEST_NUMBER, give, put_bytes, put_number, put_text};
 use crate::writing_links::{LONGEST_LINK, put_link};
 use crate::writing_rules::put_rule;
+use crate::writing_statics::{put_route, put_service};
 
 /// How many bytes a number has at most with a blank before it.
 const LONGEST_NEXT: usize = 1 + LONGEST_NUMBER;
@@ -284,6 +285,8 @@ fn put_line(room: &mut [u8], at: usize, line: &Line) -> usize
         Line::Internal(internal) => put_internal(room, at, *internal),
         Line::Adopt(is_off) => put_adopt(room, at, *is_off),
         Line::Rule(permits, rule) => put_rule(room, at, *permits, rule),
+        Line::Route(route) => put_route(room, at, *route),
+        Line::Service(service) => put_service(room, at, service),
     }
 }
 
