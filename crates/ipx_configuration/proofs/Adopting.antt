@@ -7,6 +7,7 @@ use Rattle.ipx_settings.specs.declared.line.Line.TheVariants as line
 use Rattle.ipx_configuration.specs.Extends.{with_adopt, network_by}
 use Rattle.ipx_configuration.specs.Lines.{if_right}
 use Rattle.ipx_configuration.specs.Rules.{rule_fault, more_rules, with_rules}
+use Rattle.ipx_configuration.specs.Statics.{route_fault, service_fault}
 use Rattle.ipx_configuration.specs.Wholes.{is_of_adopt}
 use Rattle.ipx_configuration.specs.declared.fault.Fault.{Fault}
 use Rattle.ipx_configuration.specs.declared.fault.Fault.TheVariants as fault
@@ -33,6 +34,8 @@ module _ (number : ℕ) (text : List ℕ) (read : ℕ) (own : Option Expected) (
   first (line.Nodes b) is right none = absurd (true≢false (sym is))
   first (line.Internal b) is right none = absurd (true≢false (sym is))
   first (line.Rule permits b) is right none = absurd (true≢false (sym is))
+  first (line.Route b) is right none = absurd (true≢false (sym is))
+  first (line.Service b) is right none = absurd (true≢false (sym is))
 
   pub again : (l : Line) → is_of_adopt l ≡ true → 0 < n.adopt_line → network_by number text l read own n ≡ (n, Some (fault.Once n.adopt_line))
   again (line.Adopt b) is some = rw (lt-ltb 0 n.adopt_line some) refl
@@ -49,6 +52,8 @@ module _ (number : ℕ) (text : List ℕ) (read : ℕ) (own : Option Expected) (
   again (line.Nodes b) is some = absurd (true≢false (sym is))
   again (line.Internal b) is some = absurd (true≢false (sym is))
   again (line.Rule permits b) is some = absurd (true≢false (sym is))
+  again (line.Route b) is some = absurd (true≢false (sym is))
+  again (line.Service b) is some = absurd (true≢false (sym is))
 
   pub others : (l : Line) → is_of_adopt l ≡ false → (network_by number text l read own n).0.adopt_line ≡ n.adopt_line
   others (line.Adopt b) is = absurd (true≢false is)
@@ -65,3 +70,5 @@ module _ (number : ℕ) (text : List ℕ) (read : ℕ) (own : Option Expected) (
   others (line.Nodes b) is = refl
   others (line.Internal b) is = refl
   others (line.Rule permits b) is = kept (rule_fault n.rules own) n (with_rules n (more_rules n.rules permits b)) refl
+  others (line.Route b) is = kept (route_fault n b own) n _ refl
+  others (line.Service b) is = kept (service_fault n.static_services b own) n _ refl

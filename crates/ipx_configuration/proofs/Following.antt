@@ -12,12 +12,14 @@ use Rattle.ipx_settings.specs.declared.link.LinkBegun.{LinkBegun}
 use Rattle.ipx_settings.specs.declared.link.LinkBegun.TheVariants as begun
 use Rattle.ipx_settings.specs.declared.network.NetworkBegun.{NetworkBegun}
 use Rattle.ipx_settings.specs.declared.reading.Reading.{Reading}
+use Rattle.ipx_settings.specs.declared.statics.RouteBegun.{RouteBegun}
 use Rattle.ipx_configuration.specs.Carriers.{may_hear_itself, longest_on}
 use Rattle.ipx_configuration.specs.Clashes.{when, first_of, line_fault, first_clash, carrier_in, link_by}
-use Rattle.ipx_configuration.specs.Configurations.{nothing, a_network, a_link, a_wrong_network, names_link, names_link_by, head_or_none, number_fault, more_links, network_fault, after_network, linked, link_line_by, link_line_fault, link_line, after_internal, internal_fault, network_above, extended_by, link_extended_by, is_below_tunnel, below_network_by, below_link_by, tunnel_fault, now_linked, taken_below, taken_by, read_in, after}
+use Rattle.ipx_configuration.specs.Configurations.{nothing, a_network, a_link, a_wrong_network, names_link, names_link_by, head_or_none, more_links, network_fault, after_network, linked, link_line_by, link_line_fault, link_line, after_internal, internal_fault, network_above, extended_by, route_clash, routed, link_extended_by, is_below_tunnel, below_network_by, below_link_by, tunnel_fault, now_linked, taken_below, taken_by, read_in, after}
 use Rattle.ipx_configuration.specs.Internals.{all_networks, is_full, internal_clash}
 use Rattle.ipx_configuration.specs.Lines.{if_right, once, rate_of, clients_said, rate_said, number_said, with_clients, with_rate, with_strangers, with_kilobits, with_nodes, kilobits_fault, link_taken, link_by as line_by}
 use Rattle.ipx_configuration.specs.Memory.{networks_in, links_in, last_network, last_link, with_link, with_last_link}
+use Rattle.ipx_configuration.specs.Numbers.{number_fault, routed_fault}
 use Rattle.ipx_configuration.specs.Said.{new_link}
 use Rattle.ipx_configuration.specs.declared.carrier.Carrier.{Carrier}
 use Rattle.ipx_configuration.specs.declared.configuration.Capacity.{Capacity}
@@ -105,9 +107,12 @@ of_named false x y is e = absurd (true≢false (sym is))
 abbrev named_fault : NetworkBegun → Option Expected → Configuration → Option Fault
 named_fault b own c = if names_link b own then more_links (link_in b) (head_or_none b).longest c.links own else line_fault own
 
+abbrev routed_and_link : NetworkBegun → Option Expected → Configuration → List (Option Fault)
+routed_and_link b own c = routed_fault (number_in b) (networks_in c.networks) ∷ named_fault b own c ∷ []
+
 abbrev number_and_link : NetworkBegun → Option Expected → Configuration → List (Option Fault)
 number_and_link b own c =
-    number_fault (number_in b) (networks_in c.networks) ∷ internal_clash (number_in b) c.internal ∷ named_fault b own c ∷ []
+    number_fault (number_in b) (networks_in c.networks) ∷ internal_clash (number_in b) c.internal ∷ routed_and_link b own c
 
 -- where one more has room, one has
 pub has_room : (capacity : Capacity) (c : Configuration) → is_full capacity c ≡ false → nat_lt c.networks.count 32 ≡ true
@@ -122,9 +127,10 @@ network_follows capacity n b own c = elim (cases_Bool (is_some (network_fault ca
   | inl wrong ↦ rw wrong (same refl)
   | inr right ↦
       let checks = first_none (when (is_full capacity c) fault.ManyNetworks) (number_and_link b own c) (no_fault (network_fault capacity b own c) right) in
-      let numbers = first_none (number_fault (number_in b) (networks_in c.networks)) (internal_clash (number_in b) c.internal ∷ named_fault b own c ∷ []) checks.1 in
-      let own_number = first_none (internal_clash (number_in b) c.internal) (named_fault b own c ∷ []) numbers.1 in
-      let links = first_none (named_fault b own c) [] own_number.1 in
+      let numbers = first_none (number_fault (number_in b) (networks_in c.networks)) (internal_clash (number_in b) c.internal ∷ routed_and_link b own c) checks.1 in
+      let own_number = first_none (internal_clash (number_in b) c.internal) (routed_and_link b own c) numbers.1 in
+      let routes = first_none (routed_fault (number_in b) (networks_in c.networks)) (named_fault b own c ∷ []) own_number.1 in
+      let links = first_none (named_fault b own c) [] routes.1 in
       let free : nat_lt c.networks.count 32 ≡ true = has_room capacity c (unless (is_full capacity c) fault.ManyNetworks checks.0) in
       rw (right, free) (linked_follows (c.networks.count + 1) n c.networks.count c.links (carrier_in (link_in b)) refl (λ carrier is.
       free_and_room (link_in b) (head_or_none b).longest c.links own carrier
@@ -224,6 +230,8 @@ carrier_kept n text (line.Nodes b) read own links link = kept (once link.nodes_l
 carrier_kept n text (line.Internal b) read own links link = refl
 carrier_kept n text (line.Adopt b) read own links link = refl
 carrier_kept n text (line.Rule permits b) read own links link = refl
+carrier_kept n text (line.Route b) read own links link = refl
+carrier_kept n text (line.Service b) read own links link = refl
 
 number_kept : (n : ℕ) (text : List ℕ) (l : Line) (read : ℕ) (own : Option Expected) (links : List LinkSetting) (link : LinkSetting)
     → (line_by n text l read own links link).0.network ≡ link.network
@@ -241,6 +249,8 @@ number_kept n text (line.Nodes b) read own links link = network_kept (once link.
 number_kept n text (line.Internal b) read own links link = refl
 number_kept n text (line.Adopt b) read own links link = refl
 number_kept n text (line.Rule permits b) read own links link = refl
+number_kept n text (line.Route b) read own links link = refl
+number_kept n text (line.Service b) read own links link = refl
 
 extends_follow : (c : Configuration) (n : ℕ) (text : List ℕ) (r : Reading) (o : Option NetworkSetting)
     → Follows (extended_by c n text r o).0.networks.count c.links (extended_by c n text r o).0.links
@@ -253,6 +263,17 @@ link_extends_follow c n text r None e = same refl
 link_extends_follow c n text r (Some link) e =
     let l = link_taken n text r (links_in c.links) link in
     again link l.0 e (carrier_kept n text r.line r.read r.fault (links_in c.links) link) (number_kept n text r.line r.read r.fault (links_in c.links) link) refl
+
+either : (l : LinkList) (b : Bool) (x y : Configuration × Option Fault) → Follows x.0.networks.count l x.0.links → Follows y.0.networks.count l y.0.links
+    → Follows (if b then x else y).0.networks.count l (if b then x else y).0.links
+either l true x y one other = one
+either l false x y one other = other
+
+routed_follows : (c : Configuration) (n : ℕ) (text : List ℕ) (r : Reading) (b : RouteBegun)
+    → Follows (routed n text r b c).0.networks.count c.links (routed n text r b c).0.links
+routed_follows c n text r b =
+    either c.links (is_some (route_clash b c)) (c, route_clash b c) (extended_by c n text r (last_network c.networks)) (same refl)
+    (extends_follow c n text r (last_network c.networks))
 
 below_network_follows : (n : ℕ) (text : List ℕ) (r : Reading) (l : Line) (c : Configuration)
     → Follows (below_network_by n text r l c).0.networks.count c.links (below_network_by n text r l c).0.links
@@ -270,11 +291,8 @@ below_network_follows n text r (line.Nodes b) c = same refl
 below_network_follows n text r (line.Internal b) c = same refl
 below_network_follows n text r (line.Adopt b) c = extends_follow c n text r (last_network c.networks)
 below_network_follows n text r (line.Rule permits b) c = extends_follow c n text r (last_network c.networks)
-
-either : (l : LinkList) (b : Bool) (x y : Configuration × Option Fault) → Follows x.0.networks.count l x.0.links → Follows y.0.networks.count l y.0.links
-    → Follows (if b then x else y).0.networks.count l (if b then x else y).0.links
-either l true x y one other = one
-either l false x y one other = other
+below_network_follows n text r (line.Route b) c = routed_follows c n text r b
+below_network_follows n text r (line.Service b) c = extends_follow c n text r (last_network c.networks)
 
 module _ (n : ℕ) (text : List ℕ) (r : Reading) (c : Configuration) where
   last_follows : Follows (link_extended_by c n text r (last_link c.links)).0.networks.count c.links (link_extended_by c n text r (last_link c.links)).0.links
@@ -301,6 +319,8 @@ module _ (n : ℕ) (text : List ℕ) (r : Reading) (c : Configuration) where
   below_link_follows (line.Internal b) = tunnel_follows (tunnel_fault c)
   below_link_follows (line.Adopt b) = extends_follow c n text r (last_network c.networks)
   below_link_follows (line.Rule permits b) = extends_follow c n text r (last_network c.networks)
+  below_link_follows (line.Route b) = routed_follows c n text r b
+  below_link_follows (line.Service b) = extends_follow c n text r (last_network c.networks)
 
   below_follows : Follows (taken_below n text r c).0.networks.count c.links (taken_below n text r c).0.links
   below_follows =
@@ -323,6 +343,8 @@ module _ (n : ℕ) (text : List ℕ) (r : Reading) (c : Configuration) where
   taken_follows capacity (line.Internal b) = internal_follows capacity n b r.fault c
   taken_follows capacity (line.Adopt b) = below_follows
   taken_follows capacity (line.Rule permits b) = below_follows
+  taken_follows capacity (line.Route b) = below_follows
+  taken_follows capacity (line.Service b) = below_follows
 
 pub follows : (capacity : Capacity) (n : ℕ) (text : List ℕ) (c : Configuration)
     → Follows (after capacity n text c).networks.count c.links (after capacity n text c).links

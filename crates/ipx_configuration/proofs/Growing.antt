@@ -10,7 +10,8 @@ use Rattle.ipx_settings.specs.declared.line.Line.TheVariants as line
 use Rattle.ipx_settings.specs.declared.link.LinkBegun.{LinkBegun}
 use Rattle.ipx_settings.specs.declared.network.NetworkBegun.{NetworkBegun}
 use Rattle.ipx_settings.specs.declared.reading.Reading.{Reading}
-use Rattle.ipx_configuration.specs.Configurations.{nothing, a_network, a_link, a_wrong_network, names_link, network_of, network_fault, after_network, internal_fault, after_internal, now_linked, with_a_link, link_line_fault, link_line, extended_by, link_extended_by, is_below_tunnel, tunnel_fault, below_network_by, below_link_by, taken_below, taken_by, read_in, after}
+use Rattle.ipx_settings.specs.declared.statics.RouteBegun.{RouteBegun}
+use Rattle.ipx_configuration.specs.Configurations.{nothing, a_network, a_link, a_wrong_network, names_link, network_of, network_fault, after_network, internal_fault, after_internal, now_linked, with_a_link, link_line_fault, link_line, extended_by, route_clash, routed, link_extended_by, is_below_tunnel, tunnel_fault, below_network_by, below_link_by, taken_below, taken_by, read_in, after}
 use Rattle.ipx_configuration.specs.Extends.{network_taken}
 use Rattle.ipx_configuration.specs.Memory.{last_network, last_link, with_network, with_last_network}
 use Rattle.ipx_configuration.specs.declared.configuration.Capacity.{Capacity}
@@ -86,6 +87,11 @@ either n true x y one other = one
 either n false x y one other = other
 
 module _ (n : ℕ) (text : List ℕ) (r : Reading) (c : Configuration) where
+  routed_grows : (b : RouteBegun) → Grows c.networks (routed n text r b c).0.networks
+  routed_grows b =
+      either c.networks (is_some (route_clash b c)) (c, route_clash b c) (extended_by c n text r (last_network c.networks)) (stays c.networks)
+      (extended_grows c n text r (last_network c.networks))
+
   below_network_grows : (l : Line) → Grows c.networks (below_network_by n text r l c).0.networks
   below_network_grows line.Nothing = stays c.networks
   below_network_grows (line.Network b) = stays c.networks
@@ -101,6 +107,8 @@ module _ (n : ℕ) (text : List ℕ) (r : Reading) (c : Configuration) where
   below_network_grows (line.Internal b) = stays c.networks
   below_network_grows (line.Adopt b) = extended_grows c n text r (last_network c.networks)
   below_network_grows (line.Rule permits b) = extended_grows c n text r (last_network c.networks)
+  below_network_grows (line.Route b) = routed_grows b
+  below_network_grows (line.Service b) = extended_grows c n text r (last_network c.networks)
 
   last_grows : Grows c.networks (link_extended_by c n text r (last_link c.links)).0.networks
   last_grows = link_extended_grows c n text r (last_link c.links)
@@ -123,6 +131,8 @@ module _ (n : ℕ) (text : List ℕ) (r : Reading) (c : Configuration) where
   below_link_grows (line.Internal b) = tunnel_grows
   below_link_grows (line.Adopt b) = extended_grows c n text r (last_network c.networks)
   below_link_grows (line.Rule permits b) = extended_grows c n text r (last_network c.networks)
+  below_link_grows (line.Route b) = routed_grows b
+  below_link_grows (line.Service b) = extended_grows c n text r (last_network c.networks)
 
   below_grows : Grows c.networks (taken_below n text r c).0.networks
   below_grows =
@@ -145,6 +155,8 @@ module _ (n : ℕ) (text : List ℕ) (r : Reading) (c : Configuration) where
   taken_grows capacity (line.Internal b) = internal_grows capacity n b r.fault c
   taken_grows capacity (line.Adopt b) = below_grows
   taken_grows capacity (line.Rule permits b) = below_grows
+  taken_grows capacity (line.Route b) = below_grows
+  taken_grows capacity (line.Service b) = below_grows
 
 pub grows : (capacity : Capacity) (n : ℕ) (text : List ℕ) (c : Configuration) → Grows c.networks (after capacity n text c).networks
 grows capacity n text c = let r = read_in capacity text c in taken_grows n text r c capacity r.line

@@ -10,4 +10,6 @@ pub mod Naming
 pub mod Owning
 pub mod Adopting
 pub mod Ruling
+pub mod Leading
+pub mod Elsewhere
 pub mod examples

@@ -107,3 +107,5 @@ unchanged capacity n text r c f (line.Nodes b) is wrong = absurd (true≢false (
 unchanged capacity n text r c f (line.Internal b) is wrong = absurd (true≢false (sym is))
 unchanged capacity n text r c f (line.Adopt b) is wrong = absurd (true≢false (sym is))
 unchanged capacity n text r c f (line.Rule permits b) is wrong = absurd (true≢false (sym is))
+unchanged capacity n text r c f (line.Route b) is wrong = absurd (true≢false (sym is))
+unchanged capacity n text r c f (line.Service b) is wrong = absurd (true≢false (sym is))

@@ -26,6 +26,8 @@ module _ (n : ℕ) (text : List ℕ) (read : ℕ) (own : Option Expected) (links
   first (line.Internal b) is right none = absurd (true≢false (sym is))
   first (line.Adopt b) is right none = absurd (true≢false (sym is))
   first (line.Rule permits b) is right none = absurd (true≢false (sym is))
+  first (line.Route b) is right none = absurd (true≢false (sym is))
+  first (line.Service b) is right none = absurd (true≢false (sym is))
 
   pub again : (l : Line) → is_of_nodes l ≡ true → 0 < link.nodes_line → link_by n text l read own links link ≡ (link, Some (fault.Once link.nodes_line))
   again (line.Nodes b) is some = rw (lt-ltb 0 link.nodes_line some) refl
@@ -42,6 +44,8 @@ module _ (n : ℕ) (text : List ℕ) (read : ℕ) (own : Option Expected) (links
   again (line.Internal b) is some = absurd (true≢false (sym is))
   again (line.Adopt b) is some = absurd (true≢false (sym is))
   again (line.Rule permits b) is some = absurd (true≢false (sym is))
+  again (line.Route b) is some = absurd (true≢false (sym is))
+  again (line.Service b) is some = absurd (true≢false (sym is))
 
   kept : (f : Option Fault) (next : LinkSetting) → next.nodes_line ≡ link.nodes_line → (if_right f link next).0.nodes_line ≡ link.nodes_line
   kept None next e = e
@@ -62,3 +66,5 @@ module _ (n : ℕ) (text : List ℕ) (read : ℕ) (own : Option Expected) (links
   others (line.Internal b) is = refl
   others (line.Adopt b) is = refl
   others (line.Rule permits b) is = refl
+  others (line.Route b) is = refl
+  others (line.Service b) is = refl

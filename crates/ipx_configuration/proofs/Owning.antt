@@ -10,10 +10,12 @@ use Rattle.ipx_settings.specs.declared.line.Line.TheVariants as line
 use Rattle.ipx_settings.specs.declared.link.LinkBegun.{LinkBegun}
 use Rattle.ipx_settings.specs.declared.network.NetworkBegun.{NetworkBegun}
 use Rattle.ipx_settings.specs.declared.reading.Reading.{Reading}
+use Rattle.ipx_settings.specs.declared.statics.RouteBegun.{RouteBegun}
 use Rattle.ipx_configuration.specs.Clashes.{when, first_of, line_fault}
-use Rattle.ipx_configuration.specs.Configurations.{nothing, a_network, a_link, a_wrong_network, names_link, head_or_none, number_fault, more_links, network_fault, internal_fault, after_internal, link_line_fault, link_line, extended_by, link_extended_by, is_below_tunnel, tunnel_fault, below_network_by, below_link_by, taken_below, taken_by}
+use Rattle.ipx_configuration.specs.Configurations.{nothing, a_network, a_link, a_wrong_network, names_link, head_or_none, more_links, network_fault, internal_fault, after_internal, link_line_fault, link_line, extended_by, route_clash, routed, link_extended_by, is_below_tunnel, tunnel_fault, below_network_by, below_link_by, taken_below, taken_by}
 use Rattle.ipx_configuration.specs.Internals.{is_full, internal_clash}
 use Rattle.ipx_configuration.specs.Memory.{networks_in, last_network, last_link}
+use Rattle.ipx_configuration.specs.Numbers.{number_fault, routed_fault}
 use Rattle.ipx_configuration.specs.Wholes.{is_of_internal}
 use Rattle.ipx_configuration.specs.declared.configuration.Capacity.{Capacity}
 use Rattle.ipx_configuration.specs.declared.configuration.Configuration.{Configuration}
@@ -39,6 +41,8 @@ of_internal (line.Kilobits b) is = absurd (true≢false (sym is))
 of_internal (line.Nodes b) is = absurd (true≢false (sym is))
 of_internal (line.Adopt b) is = absurd (true≢false (sym is))
 of_internal (line.Rule permits b) is = absurd (true≢false (sym is))
+of_internal (line.Route b) is = absurd (true≢false (sym is))
+of_internal (line.Service b) is = absurd (true≢false (sym is))
 
 module _ (capacity : Capacity) (n : ℕ) (text : List ℕ) (r : Reading) (c : Configuration) where
   pub again : (l : Line) → is_of_internal l ≡ true → 0 < c.internal.line → (taken_by capacity n text r l c).1 ≡ Some (fault.Once c.internal.line)
@@ -85,6 +89,9 @@ module _ (n : ℕ) (text : List ℕ) (r : Reading) (c : Configuration) where
   tunnel_same : Same (if is_below_tunnel c then link_extended_by c n text r (last_link c.links) else (c, Some (tunnel_fault c)))
   tunnel_same = either (is_below_tunnel c) (link_extended_by c n text r (last_link c.links)) (c, Some (tunnel_fault c)) (link_same (last_link c.links)) refl
 
+  routed_same : (b : RouteBegun) → Same (routed n text r b c)
+  routed_same b = either (is_some (route_clash b c)) (c, route_clash b c) (extended_by c n text r (last_network c.networks)) refl (extended_same (last_network c.networks))
+
   below_network_same : (l : Line) → Same (below_network_by n text r l c)
   below_network_same line.Nothing = refl
   below_network_same (line.Network b) = refl
@@ -100,6 +107,8 @@ module _ (n : ℕ) (text : List ℕ) (r : Reading) (c : Configuration) where
   below_network_same (line.Internal b) = refl
   below_network_same (line.Adopt b) = extended_same (last_network c.networks)
   below_network_same (line.Rule permits b) = extended_same (last_network c.networks)
+  below_network_same (line.Route b) = routed_same b
+  below_network_same (line.Service b) = extended_same (last_network c.networks)
 
   below_link_same : (l : Line) → Same (below_link_by n text r l c)
   below_link_same line.Nothing = tunnel_same
@@ -116,6 +125,8 @@ module _ (n : ℕ) (text : List ℕ) (r : Reading) (c : Configuration) where
   below_link_same (line.Internal b) = tunnel_same
   below_link_same (line.Adopt b) = extended_same (last_network c.networks)
   below_link_same (line.Rule permits b) = extended_same (last_network c.networks)
+  below_link_same (line.Route b) = routed_same b
+  below_link_same (line.Service b) = extended_same (last_network c.networks)
 
   below_same : Same (taken_below n text r c)
   below_same =
@@ -142,6 +153,8 @@ module _ (n : ℕ) (text : List ℕ) (r : Reading) (c : Configuration) where
   others capacity (line.Nodes b) is = below_same
   others capacity (line.Adopt b) is = below_same
   others capacity (line.Rule permits b) is = below_same
+  others capacity (line.Route b) is = below_same
+  others capacity (line.Service b) is = below_same
 
 -- ---- its number
 
@@ -156,4 +169,4 @@ number_taken capacity b own c said has =
     let clash : internal_clash (number_in b) c.internal ≡ Some (fault.OtherNetwork c.internal.line) = rw (has, lt-ltb 0 c.internal.line said, eq-eqb c.internal.number c.internal.number refl) refl in
     rw clash
     (third (when (is_full capacity c) fault.ManyNetworks) (number_fault (number_in b) (networks_in c.networks)) (fault.OtherNetwork c.internal.line)
-    ((if names_link b own then more_links (link_in b) (head_or_none b).longest c.links own else line_fault own) ∷ []))
+    (routed_fault (number_in b) (networks_in c.networks) ∷ (if names_link b own then more_links (link_in b) (head_or_none b).longest c.links own else line_fault own) ∷ []))

@@ -10,6 +10,7 @@ use Rattle.ipx_settings.specs.declared.rule.What.{What}
 use Rattle.ipx_configuration.specs.Extends.{network_by}
 use Rattle.ipx_configuration.specs.Lines.{once, if_right}
 use Rattle.ipx_configuration.specs.Rules.{rule_said, rules_in}
+use Rattle.ipx_configuration.specs.Statics.{route_fault, service_fault}
 use Rattle.ipx_configuration.specs.Wholes.{is_of_rule}
 use Rattle.ipx_configuration.specs.declared.fault.Fault.{Fault}
 use Rattle.ipx_configuration.specs.declared.fault.Fault.TheVariants as fault
@@ -41,6 +42,8 @@ module _ (number : ℕ) (text : List ℕ) (read : ℕ) (own : Option Expected) (
   full (line.Nodes b) is many = absurd (true≢false (sym is))
   full (line.Internal b) is many = absurd (true≢false (sym is))
   full (line.Adopt b) is many = absurd (true≢false (sym is))
+  full (line.Route b) is many = absurd (true≢false (sym is))
+  full (line.Service b) is many = absurd (true≢false (sym is))
 
   pub others : (l : Line) → is_of_rule l ≡ false → (network_by number text l read own n).0.rules ≡ n.rules
   others (line.Rule permits b) is = absurd (true≢false is)
@@ -57,3 +60,5 @@ module _ (number : ℕ) (text : List ℕ) (read : ℕ) (own : Option Expected) (
   others (line.Nodes b) is = refl
   others (line.Internal b) is = refl
   others (line.Adopt b) is = kept (once n.adopt_line own) n _ refl
+  others (line.Route b) is = kept (route_fault n b own) n _ refl
+  others (line.Service b) is = kept (service_fault n.static_services b own) n _ refl

@@ -3,3 +3,4 @@ pub mod Nodes
 pub mod Internal
 pub mod Adopt
 pub mod Rules
+pub mod Statics

@@ -1,11 +1,10 @@
 -- A configuration, line by line.
-use Rattle.std.specs.Prelude.{ℕ, ◌-◌, Bool, true, false, not, ◌==◌, ◌&&◌, if◌then◌else◌, nat_lt, List, [], ◌∷◌, replicate, Option, Some, None, slice_get}
-use Rattle.std.specs.List.{position}
+use Rattle.std.specs.Prelude.{ℕ, ◌-◌, Bool, true, false, not, ◌==◌, ◌&&◌, if◌then◌else◌, nat_lt, List, [], ◌∷◌, replicate, Option, Some, None}
 use Rattle.std.specs.Option.{is_some, unwrap_or, option_map}
-use Rattle.ipx_settings.specs.Cutting.{◌>>=◌}
 use Rattle.ipx_settings.specs.Internals.{internal_number}
 use Rattle.ipx_settings.specs.Lines.{reading_of}
 use Rattle.ipx_settings.specs.Networks.{number_in, head_in, link_in, node_in}
+use Rattle.ipx_settings.specs.Statics.{route_to}
 use Rattle.ipx_settings.specs.declared.expected.Expected.{Expected}
 use Rattle.ipx_settings.specs.declared.expected.Expected.TheVariants as expected
 use Rattle.ipx_settings.specs.declared.internal.InternalBegun.{InternalBegun}
@@ -18,14 +17,17 @@ use Rattle.ipx_settings.specs.declared.network.Head.{Head}
 use Rattle.ipx_settings.specs.declared.network.NetworkBegun.{NetworkBegun}
 use Rattle.ipx_settings.specs.declared.network.Shares.{Shares}
 use Rattle.ipx_settings.specs.declared.reading.Reading.{Reading}
+use Rattle.ipx_settings.specs.declared.statics.RouteBegun.{RouteBegun}
 use Rattle.ipx_configuration.specs.Carriers.{tunnel}
 use Rattle.ipx_configuration.specs.Clashes.{first_of, when, line_fault, carrier_in, link_fault}
 use Rattle.ipx_configuration.specs.Extends.{network_taken}
 use Rattle.ipx_configuration.specs.Internals.{is_said, is_full, internal_clash, internal_said}
 use Rattle.ipx_configuration.specs.Lines.{link_taken}
 use Rattle.ipx_configuration.specs.Memory.{most_links, networks_in, links_in, last_network, last_link, with_network, with_link, with_last_network, with_last_link}
+use Rattle.ipx_configuration.specs.Numbers.{number_fault, routed_fault}
 use Rattle.ipx_configuration.specs.Rules.{no_rules}
 use Rattle.ipx_configuration.specs.Said.{no_sockets, new_link}
+use Rattle.ipx_configuration.specs.Statics.{no_routes, no_services}
 use Rattle.ipx_configuration.specs.declared.carrier.Carrier.{Carrier}
 use Rattle.ipx_configuration.specs.declared.configuration.Capacity.{Capacity}
 use Rattle.ipx_configuration.specs.declared.configuration.Configuration.{Configuration}
@@ -121,18 +123,12 @@ network_by line first head node is_of_several = record {
   sockets = no_sockets;
   adopt_line = 0;
   rules = no_rules;
+  static_routes = no_routes;
+  static_services = no_services;
 }
 
 abbrev pub network_of : ℕ → ℕ → NetworkBegun → Bool → NetworkSetting
 network_of line first begun is_of_several = network_by line first (head_or_none begun) (node_in begun) is_of_several
-
--- a network that has a link has the number
-abbrev pub has_number : ℕ → NetworkSetting → Bool
-has_number number network = network.has_link && (network.number == number)
-
-abbrev pub number_fault : Option ℕ → List NetworkSetting → Option Fault
-number_fault number networks =
-    number >>= λ n. position (has_number n) networks >>= λ k. slice_get networks k >>= λ network. Some (fault.OtherNetwork network.line)
 
 -- what is wrong with one more link
 abbrev pub more_links : LinkBegun → ℕ → LinkList → Option Expected → Option Fault
@@ -145,6 +141,7 @@ network_fault capacity begun own c =
     when (is_full capacity c) fault.ManyNetworks
     ∷ number_fault (number_in begun) (networks_in c.networks)
     ∷ internal_clash (number_in begun) c.internal
+    ∷ routed_fault (number_in begun) (networks_in c.networks)
     ∷ (if names_link begun own then more_links (link_in begun) (head_or_none begun).longest c.links own else line_fault own)
     ∷ [])
 
@@ -173,6 +170,7 @@ internal_fault capacity begun own c =
     when (is_said c.internal) (fault.Once c.internal.line)
     ∷ when (is_full capacity c) fault.ManyNetworks
     ∷ number_fault (internal_number begun) (networks_in c.networks)
+    ∷ routed_fault (internal_number begun) (networks_in c.networks)
     ∷ line_fault own
     ∷ [])
 
@@ -217,6 +215,8 @@ with_a_link n = record {
   sockets = n.sockets;
   adopt_line = n.adopt_line;
   rules = n.rules;
+  static_routes = n.static_routes;
+  static_services = n.static_services;
 }
 
 abbrev pub now_linked : NetworkList → Option NetworkSetting → NetworkList
@@ -246,6 +246,15 @@ extended_by c line text r (Some network) =
 abbrev pub extended : ℕ → List ℕ → Reading → Configuration → Configuration × Option Fault
 extended line text r c = extended_by c line text r (last_network c.networks)
 
+-- a network has the number where a route leads
+abbrev pub route_clash : RouteBegun → Configuration → Option Fault
+route_clash begun c =
+    first_of (number_fault (route_to begun) (networks_in c.networks) ∷ internal_clash (route_to begun) c.internal ∷ [])
+
+-- behind the line of a route by way of a node on the last network
+abbrev pub routed : ℕ → List ℕ → Reading → RouteBegun → Configuration → Configuration × Option Fault
+routed line text r begun c = if is_some (route_clash begun c) then (c, route_clash begun c) else extended line text r c
+
 abbrev pub link_extended_by : Configuration → ℕ → List ℕ → Reading → Option LinkSetting → Configuration × Option Fault
 link_extended_by c line text r None = (c, None)
 link_extended_by c line text r (Some link) = (
@@ -268,6 +277,8 @@ abbrev pub below_network_by : ℕ → List ℕ → Reading → Line → Configur
 below_network_by n text r (line.Extend has_some) c = extended n text r c
 below_network_by n text r (line.Adopt is_off) c = extended n text r c
 below_network_by n text r (line.Rule permits begun) c = extended n text r c
+below_network_by n text r (line.Route begun) c = routed n text r begun c
+below_network_by n text r (line.Service begun) c = extended n text r c
 below_network_by n text r (line.Rate begun) c = (c, Some fault.BelowLink)
 below_network_by n text r other c = (c, Some fault.BelowTunnelLink)
 
@@ -278,6 +289,8 @@ abbrev pub below_link_by : ℕ → List ℕ → Reading → Line → Configurati
 below_link_by n text r (line.Extend has_some) c = extended n text r c
 below_link_by n text r (line.Adopt is_off) c = extended n text r c
 below_link_by n text r (line.Rule permits begun) c = extended n text r c
+below_link_by n text r (line.Route begun) c = routed n text r begun c
+below_link_by n text r (line.Service begun) c = extended n text r c
 below_link_by n text r (line.Rate begun) c = link_extended n text r c
 below_link_by n text r other c = if is_below_tunnel c then link_extended n text r c else (c, Some (tunnel_fault c))
 

@@ -82,6 +82,8 @@ configured_at link network shares shared = record {
   nodes_by_address = nat_lt 0 link.nodes_line;
   adopts = network.adopt_line == 0;
   rules = network.rules;
+  static_routes = network.static_routes;
+  static_services = network.static_services;
 }
 
 abbrev pub configured_by : Capacity → LinkSetting → List LinkSetting → NetworkSetting → LinkConfigured

@@ -9,6 +9,7 @@ use Rattle.ipx_configuration.specs.Clashes.{first_of, when, line_fault}
 use Rattle.ipx_configuration.specs.Lines.{once, if_right, words_from}
 use Rattle.ipx_configuration.specs.Rules.{rule_taken}
 use Rattle.ipx_configuration.specs.Said.{has_socket, with_socket, most_sockets}
+use Rattle.ipx_configuration.specs.Statics.{route_taken, service_taken}
 use Rattle.ipx_configuration.specs.declared.fault.Fault.{Fault}
 use Rattle.ipx_configuration.specs.declared.fault.Fault.TheVariants as fault
 use Rattle.ipx_configuration.specs.declared.said.NetworkSetting.{NetworkSetting}
@@ -51,6 +52,8 @@ with_sockets n sockets = record {
   sockets = sockets;
   adopt_line = n.adopt_line;
   rules = n.rules;
+  static_routes = n.static_routes;
+  static_services = n.static_services;
 }
 
 abbrev pub taken_by : NetworkSetting → Sockets × Option Fault → Option Expected → NetworkSetting × Option Fault
@@ -78,6 +81,8 @@ with_adopt n line = record {
   sockets = n.sockets;
   adopt_line = line;
   rules = n.rules;
+  static_routes = n.static_routes;
+  static_services = n.static_services;
 }
 
 abbrev pub adopt_taken : ℕ → NetworkSetting → Option Expected → NetworkSetting × Option Fault
@@ -89,6 +94,8 @@ abbrev pub network_by : ℕ → List ℕ → Line → ℕ → Option Expected �
 network_by number text (line.Extend has_some) read own n = sockets_taken n text read own
 network_by number text (line.Adopt is_off) read own n = adopt_taken number n own
 network_by number text (line.Rule permits begun) read own n = rule_taken n permits begun own
+network_by number text (line.Route begun) read own n = route_taken number n begun own
+network_by number text (line.Service begun) read own n = service_taken number n begun own
 network_by number text other read own n = (n, None)
 
 -- what a network is behind a line that says more of it, and what is wrong with that line

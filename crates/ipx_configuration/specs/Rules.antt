@@ -104,6 +104,8 @@ with_rules n rules = record {
   sockets = n.sockets;
   adopt_line = n.adopt_line;
   rules = rules;
+  static_routes = n.static_routes;
+  static_services = n.static_services;
 }
 
 -- a network behind the line of a rule, and what is wrong with that

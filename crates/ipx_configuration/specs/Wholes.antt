@@ -52,6 +52,16 @@ abbrev pub is_of_rule : Line → Bool
 is_of_rule (line.Rule permits begun) = true
 is_of_rule other = false
 
+-- a line that begins with route
+abbrev pub is_of_route : Line → Bool
+is_of_route (line.Route begun) = true
+is_of_route other = false
+
+-- a line that begins with service
+abbrev pub is_of_service : Line → Bool
+is_of_service (line.Service begun) = true
+is_of_service other = false
+
 -- a line that begins with nodes
 abbrev pub is_of_nodes : Line → Bool
 is_of_nodes (line.Nodes by_address) = true

@@ -85,7 +85,7 @@ fn place_name(place: Place) -> [u8; 254]
     }
 }
 
-fn has_same_bytes(a: &[u8], b: &[u8]) -> bool
+pub(crate) fn has_same_bytes(a: &[u8], b: &[u8]) -> bool
     ensures { result ≡ bytes_eq a.now b.now }
 {
     a == b

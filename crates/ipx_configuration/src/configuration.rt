@@ -1,10 +1,8 @@
 //! A configuration, line by line.
 ghost use Rattle.std.specs.Prelude.{◌≡◌};
-ghost use Rattle.std.specs.List.{position};
 ghost use Rattle.ipx_configuration.specs.Internals.{is_full, told_internal};
-ghost use Rattle.ipx_configuration.specs.Said.{new_link};
 ghost use Rattle.ipx_configuration.specs.Wholes.{IsBlank};
-ghost use Rattle.ipx_configuration.specs.Configurations.{unlinked, is_below_tunnel, head_or_none, names_link, network_of, has_number, number_fault, more_links, network_fault, add_network, after_network, internal_fault, after_internal, network_above, link_line_fault, add_link, link_line, extended, link_extended, tunnel_fault, below_network, below_link, taken_below, taken, told, after};
+ghost use Rattle.ipx_configuration.specs.Configurations.{unlinked, is_below_tunnel, head_or_none, names_link, network_of, more_links, network_fault, add_network, after_network, internal_fault, after_internal, network_above, link_line_fault, add_link, link_line, extended, route_clash, routed, link_extended, tunnel_fault, below_network, below_link, taken_below, taken, told, after};
 
 use crate::carrier::{Carrier, TUNNEL};
 use crate::clash::{carrier_in, line_fault, link_fault};
@@ -12,13 +10,13 @@ use crate::fault::Fault;
 use crate::internal::{internal_clash, internal_said};
 use crate::lines::link_taken;
 use crate::memory::{LinkList, MOST_LINKS, MOST_NETWORKS, NetworkList};
+use crate::numbers::{number_fault, routed_fault};
 use crate::rules::Rules;
-use crate::said::{
-    ClientsSaid, InternalSaid, LinkSetting, NetworkSetting, NumberSaid, Ranges, RateSaid, Sockets,
-};
+use crate::said::{InternalSaid, NetworkSetting, Sockets, new_link};
 use crate::sockets::network_taken;
+use crate::statics::{StaticRoutes, StaticServices};
 use ipx_settings::{
-    Context, Expected, Head, InternalBegun, Line, LinkBegun, NetworkBegun, Reading,
+    Context, Expected, Head, InternalBegun, Line, LinkBegun, NetworkBegun, Reading, RouteBegun,
 };
 
 /// What a line stands below: nothing, or the router's own network,
@@ -122,36 +120,6 @@ fn names_link(begun: NetworkBegun, own: Option<Expected>) -> bool
     }
 }
 
-fn has_number(number: u32, network: NetworkSetting) -> bool
-    ensures { result ≡ has_number number network }
-{
-    network.has_link && network.number == number
-}
-
-fn number_place(number: u32, networks: &[NetworkSetting]) -> Option<usize>
-    ensures { result ≡ position (has_number number) networks.now }
-{
-    networks
-        .iter()
-        .position(|network| has_number(number, *network))
-}
-
-/// What was expected where another network has the number.
-fn number_fault(number: Option<u32>, networks: &[NetworkSetting]) -> Option<Fault>
-    ensures { result ≡ number_fault number networks.now }
-{
-    match number {
-        Some(number) => match number_place(number, networks) {
-            Some(place) => match networks.get(place) {
-                Some(network) => Some(Fault::OtherNetwork(network.line)),
-                None => None,
-            },
-            None => None,
-        },
-        None => None,
-    }
-}
-
 /// What is wrong with one more link.
 fn more_links(
     begun: LinkBegun,
@@ -192,32 +160,8 @@ fn network_of(line: usize, first: usize, begun: NetworkBegun, is_of_several: boo
         sockets: Sockets::none(),
         adopt_line: 0,
         rules: Rules::none(),
-    }
-}
-
-fn new_link(line: usize, network: usize, carrier: Carrier) -> LinkSetting
-    ensures { result ≡ new_link line network carrier }
-{
-    LinkSetting {
-        line,
-        network,
-        carrier,
-        clients: ClientsSaid {
-            line: 0,
-            all: 0,
-            of_address: 0,
-        },
-        rate: RateSaid {
-            line: 0,
-            rate: 0,
-            share: 0,
-            household: 0,
-        },
-        strangers: NumberSaid { line: 0, number: 0 },
-        kilobits: NumberSaid { line: 0, number: 0 },
-        allowed: Ranges::none(),
-        trusted: Ranges::none(),
-        nodes_line: 0,
+        static_routes: StaticRoutes::none(),
+        static_services: StaticServices::none(),
     }
 }
 
@@ -304,6 +248,10 @@ impl Configuration {
         if own_network.is_some() {
             return own_network;
         }
+        let routed = routed_fault(begun.number(), self.networks.listed());
+        if routed.is_some() {
+            return routed;
+        }
         if names_link(begun, own) {
             more_links(begun.link(), head_or_none(begun).longest, &self.links, own)
         } else {
@@ -364,6 +312,10 @@ impl Configuration {
         let other = number_fault(begun.number(), self.networks.listed());
         if other.is_some() {
             return other;
+        }
+        let routed = routed_fault(begun.number(), self.networks.listed());
+        if routed.is_some() {
+            return routed;
         }
         line_fault(own)
     }
@@ -478,6 +430,35 @@ impl Configuration {
         }
     }
 
+    /// What was expected where a route leads to a network that has a line.
+    fn route_clash(&self, begun: RouteBegun) -> Option<Fault>
+        ensures { result ≡ route_clash begun self.now }
+    {
+        let other = number_fault(begun.network(), self.networks.listed());
+        if other.is_some() {
+            return other;
+        }
+        internal_clash(begun.network(), self.internal)
+    }
+
+    /// Takes the line of a route by way of a node on the last network.
+    fn take_route(
+        &mut self,
+        line: usize,
+        text: &[u8],
+        reading: Reading,
+        begun: RouteBegun,
+    ) -> Option<Fault>
+        ensures fault { result ≡ (routed line text.now reading begun self.old).1 }
+        ensures after { self.new ≡ (routed line text.now reading begun self.old).0 }
+    {
+        let clash = self.route_clash(begun);
+        if clash.is_some() {
+            return clash;
+        }
+        self.take_of_network(line, text, reading)
+    }
+
     /// Takes what a line says of the last link.
     fn take_of_link(&mut self, line: usize, text: &[u8], reading: Reading) -> Option<Fault>
         ensures fault { result ≡ (link_extended line text.now reading self.old).1 }
@@ -511,6 +492,8 @@ impl Configuration {
             Line::Extend(_) => self.take_of_network(line, text, reading),
             Line::Adopt(_) => self.take_of_network(line, text, reading),
             Line::Rule(_, _) => self.take_of_network(line, text, reading),
+            Line::Route(begun) => self.take_route(line, text, reading, begun),
+            Line::Service(_) => self.take_of_network(line, text, reading),
             Line::Rate(_) => Some(Fault::BelowLink),
             _ => Some(Fault::BelowTunnelLink),
         }
@@ -524,6 +507,8 @@ impl Configuration {
             Line::Extend(_) => self.take_of_network(line, text, reading),
             Line::Adopt(_) => self.take_of_network(line, text, reading),
             Line::Rule(_, _) => self.take_of_network(line, text, reading),
+            Line::Route(begun) => self.take_route(line, text, reading, begun),
+            Line::Service(_) => self.take_of_network(line, text, reading),
             Line::Rate(_) => self.take_of_link(line, text, reading),
             _ => {
                 if self.is_below_tunnel() {

@@ -10,6 +10,7 @@ use crate::rules::Rules;
 use crate::said::{
     ClientsSaid, LinkSetting, NetworkSetting, NumberSaid, Ranges, RateSaid, Sockets,
 };
+use crate::statics::{StaticRoutes, StaticServices};
 
 /// How many clients a network has where no line says it,
 const USUAL_CLIENTS: u16 = 256;
@@ -71,6 +72,10 @@ pub struct LinkConfigured {
     /// What comes from the cable gets the network's number where it says none, and what routers carried there is held.
     pub adopts: bool,
     pub rules: Rules,
+    /// Routes by way of nodes on the network that say nothing themselves,
+    pub static_routes: StaticRoutes,
+    /// and services.
+    pub static_services: StaticServices,
 }
 
 fn is_tunnel_of(port: usize, link: LinkSetting) -> bool
@@ -177,6 +182,8 @@ fn configured_at(
         nodes_by_address: link.nodes_line > 0,
         adopts: network.adopt_line == 0,
         rules: network.rules,
+        static_routes: network.static_routes,
+        static_services: network.static_services,
     }
 }
 

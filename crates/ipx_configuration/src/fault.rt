@@ -21,7 +21,7 @@ pub enum Fault {
     ManyNetworks,
     ManyLinks,
     ManyLinksOfNetwork,
-    /// Another network has the number.
+    /// Another network has the number, or a route leads to it.
     OtherNetwork(usize),
     /// Another link has all frames of the carrier.
     OtherCarrier(usize),
@@ -47,4 +47,10 @@ pub enum Fault {
     ManyRanges(usize),
     /// A network has no room for one more rule.
     ManyRules,
+    /// It has no room for one more route,
+    ManyRoutes,
+    /// or service.
+    ManyServices,
+    /// A line says a service of the type with the name.
+    OtherService(usize),
 }

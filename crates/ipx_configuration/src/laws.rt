@@ -1,25 +1,37 @@
 //! What follows from the definitions alone, for all lines.
 ghost use Rattle.std.specs.Prelude.{◌≡◌, ℕ, ◌<◌, ◌≤◌, ◌==◌, true, false, Bool, List, [], ◌∷◌, ◌++◌, length, Option, None, Some, slice_get};
+ghost use Rattle.std.specs.List.{list_any};
 ghost use Rattle.std.specs.Option.{is_some};
+ghost use Rattle.ipx_settings.specs.Internals.{internal_number};
 ghost use Rattle.ipx_settings.specs.Networks.{number_in};
+ghost use Rattle.ipx_settings.specs.Statics.{route_to, service_named};
 ghost use Rattle.ipx_settings.specs.declared.expected.Expected.{Expected};
+ghost use Rattle.ipx_settings.specs.declared.internal.InternalBegun.{InternalBegun};
 ghost use Rattle.ipx_settings.specs.declared.network.NetworkBegun.{NetworkBegun};
-ghost use Rattle.ipx_settings.specs.declared.line.Line.TheVariants.{Rule};
+ghost use Rattle.ipx_settings.specs.declared.line.Line.TheVariants.{Rule, Route, Service};
 ghost use Rattle.ipx_settings.specs.declared.reading.Reading.{Reading};
 ghost use Rattle.ipx_settings.specs.declared.rule.RuleBegun.TheVariants.{Whole};
 ghost use Rattle.ipx_settings.specs.declared.rule.What.{What};
+ghost use Rattle.ipx_settings.specs.declared.statics.RouteBegun.{RouteBegun};
+ghost use Rattle.ipx_settings.specs.declared.statics.RouteBegun.TheVariants.{Whole as WholeRoute};
+ghost use Rattle.ipx_settings.specs.declared.statics.ServiceBegun.{ServiceBegun};
+ghost use Rattle.ipx_settings.specs.declared.statics.ServiceBegun.TheVariants.{Whole as WholeService};
+ghost use Rattle.ipx_settings.specs.declared.statics.StaticRoute.{StaticRoute};
+ghost use Rattle.ipx_settings.specs.declared.statics.StaticService.{StaticService};
 ghost use Rattle.ipx_configuration.specs.Carriers.{tunnel, any_frames, same_carrier, take_the_same};
 ghost use Rattle.ipx_configuration.specs.Clashes.{clash};
-ghost use Rattle.ipx_configuration.specs.Configurations.{read_in, told, after, network_fault};
+ghost use Rattle.ipx_configuration.specs.Configurations.{read_in, told, after, network_fault, internal_fault, route_clash};
 ghost use Rattle.ipx_configuration.specs.Configured.{configured, rate_or_usual};
 ghost use Rattle.ipx_configuration.specs.Extends.{with_adopt, network_taken};
 ghost use Rattle.ipx_configuration.specs.Rules.{most_rules, rules_in, rule_said};
 ghost use Rattle.ipx_configuration.specs.Lines.{rate_of, with_nodes, link_taken};
-ghost use Rattle.ipx_configuration.specs.Memory.{most_networks, links_in};
-ghost use Rattle.ipx_configuration.specs.Wholes.{after_lines, IsBlank, AreApart, AreOrdered, is_of_network_or_link, is_of_internal, is_of_adopt, is_of_rule, is_of_nodes};
+ghost use Rattle.ipx_configuration.specs.Memory.{most_networks, networks_in, links_in};
+ghost use Rattle.ipx_configuration.specs.Numbers.{has_number, has_route};
+ghost use Rattle.ipx_configuration.specs.Statics.{most_routes, routes_in, route_said, leads_to, most_services, services_in, service_said, is_named};
+ghost use Rattle.ipx_configuration.specs.Wholes.{after_lines, IsBlank, AreApart, AreOrdered, is_of_network_or_link, is_of_internal, is_of_adopt, is_of_rule, is_of_route, is_of_service, is_of_nodes};
 ghost use Rattle.ipx_configuration.specs.declared.carrier.Carrier.{Carrier};
 ghost use Rattle.ipx_configuration.specs.declared.fault.Fault.{Fault};
-ghost use Rattle.ipx_configuration.specs.declared.fault.Fault.TheVariants.{Once, ManyRules};
+ghost use Rattle.ipx_configuration.specs.declared.fault.Fault.TheVariants.{Once, ManyRules, ManyRoutes, ManyServices};
 ghost use Rattle.ipx_configuration.specs.declared.said.LinkSetting.{LinkSetting};
 ghost use Rattle.ipx_configuration.specs.declared.said.NetworkSetting.{NetworkSetting};
 ghost use Rattle.ipx_configuration.specs.declared.configuration.Capacity.{Capacity};
@@ -87,6 +99,51 @@ pub fn rules_stand_in_order()
         → network_taken n text r network ≡ (network, Some ManyRules) }
     ensures others { (n : ℕ) (text : List ℕ) (r : Reading) (network : NetworkSetting) → is_of_rule r.line ≡ false
         → (network_taken n text r network).0.rules ≡ network.rules }
+{}
+
+/// A right route by way of a node stands behind all others of its network. One that leads where another does, or to the network itself, is
+/// wrong and changes nothing; so is one more where there are 64. No other line changes routes.
+pub fn routes_stand_in_order()
+    ensures last { (n : ℕ) (text : List ℕ) (r : Reading) (network : NetworkSetting) (route : StaticRoute) → r.line ≡ Route (WholeRoute route) → r.fault ≡ None
+        → network.static_routes.count < most_routes → length network.static_routes.list ≡ most_routes
+        → (network.number == route.network) ≡ false → list_any (leads_to route.network) (routes_in network.static_routes) ≡ false
+        → routes_in (network_taken n text r network).0.static_routes ≡ routes_in network.static_routes ++ route_said n route ∷ [] }
+    ensures again { (n : ℕ) (text : List ℕ) (r : Reading) (network : NetworkSetting) (b : RouteBegun) (to : ℕ) → r.line ≡ Route b → route_to b ≡ Some to
+        → list_any (leads_to to) (routes_in network.static_routes) ≡ true
+        → ((network_taken n text r network).0 ≡ network) × (is_some (network_taken n text r network).1 ≡ true) }
+    ensures itself { (n : ℕ) (text : List ℕ) (r : Reading) (network : NetworkSetting) (b : RouteBegun) → r.line ≡ Route b → route_to b ≡ Some network.number
+        → ((network_taken n text r network).0 ≡ network) × (is_some (network_taken n text r network).1 ≡ true) }
+    ensures full { (n : ℕ) (text : List ℕ) (r : Reading) (network : NetworkSetting) → is_of_route r.line ≡ true → most_routes ≤ network.static_routes.count
+        → network_taken n text r network ≡ (network, Some ManyRoutes) }
+    ensures others { (n : ℕ) (text : List ℕ) (r : Reading) (network : NetworkSetting) → is_of_route r.line ≡ false
+        → (network_taken n text r network).0.static_routes ≡ network.static_routes }
+{}
+
+/// So does a right service by way of a node. One of the type and with the name of another is wrong and changes nothing; so is one more where
+/// there are 64. No other line changes services.
+pub fn services_stand_in_order()
+    ensures last { (n : ℕ) (text : List ℕ) (r : Reading) (network : NetworkSetting) (service : StaticService) → r.line ≡ Service (WholeService service) → r.fault ≡ None
+        → network.static_services.count < most_services → length network.static_services.list ≡ most_services
+        → list_any (is_named service.kind service.name) (services_in network.static_services) ≡ false
+        → services_in (network_taken n text r network).0.static_services ≡ services_in network.static_services ++ service_said n service ∷ [] }
+    ensures again { (n : ℕ) (text : List ℕ) (r : Reading) (network : NetworkSetting) (b : ServiceBegun) (kind : ℕ) (name : List ℕ) → r.line ≡ Service b
+        → service_named b ≡ Some (kind, name) → list_any (is_named kind name) (services_in network.static_services) ≡ true
+        → ((network_taken n text r network).0 ≡ network) × (is_some (network_taken n text r network).1 ≡ true) }
+    ensures full { (n : ℕ) (text : List ℕ) (r : Reading) (network : NetworkSetting) → is_of_service r.line ≡ true → most_services ≤ network.static_services.count
+        → network_taken n text r network ≡ (network, Some ManyServices) }
+    ensures others { (n : ℕ) (text : List ℕ) (r : Reading) (network : NetworkSetting) → is_of_service r.line ≡ false
+        → (network_taken n text r network).0.static_services ≡ network.static_services }
+{}
+
+/// A route leads to no network of the configuration, and no network is said where a route leads.
+pub fn routes_lead_elsewhere()
+    ensures network { (b : RouteBegun) (c : Configuration) (to : ℕ) → route_to b ≡ Some to → list_any (has_number to) (networks_in c.networks) ≡ true
+        → is_some (route_clash b c) ≡ true }
+    ensures internal { (b : RouteBegun) (c : Configuration) → 0 < c.internal.line → route_to b ≡ Some c.internal.number → is_some (route_clash b c) ≡ true }
+    ensures routed { (capacity : Capacity) (b : NetworkBegun) (own : Option Expected) (c : Configuration) (number : ℕ) → number_in b ≡ Some number
+        → list_any (has_route number) (networks_in c.networks) ≡ true → is_some (network_fault capacity b own c) ≡ true }
+    ensures routed_internal { (capacity : Capacity) (b : InternalBegun) (own : Option Expected) (c : Configuration) (number : ℕ) → internal_number b ≡ Some number
+        → list_any (has_route number) (networks_in c.networks) ≡ true → is_some (internal_fault capacity b own c) ≡ true }
 {}
 
 /// Two links on one carrier, which is no tunnel's, receive at one rate.

@@ -21,9 +21,11 @@ mod internal;
 pub mod laws;
 mod lines;
 mod memory;
+mod numbers;
 mod rules;
 mod said;
 mod sockets;
+mod statics;
 
 pub use crate::carrier::Carrier;
 pub use crate::configuration::{Capacity, Configuration, Told};
@@ -34,4 +36,7 @@ pub use crate::memory::{LinkList, NetworkList};
 pub use crate::rules::{RuleSaid, Rules};
 pub use crate::said::{
     ClientsSaid, InternalSaid, LinkSetting, NetworkSetting, NumberSaid, Ranges, RateSaid, Sockets,
+};
+pub use crate::statics::{
+    RouteSaid, ServiceSaid, StaticRouteSaid, StaticRoutes, StaticServiceSaid, StaticServices,
 };

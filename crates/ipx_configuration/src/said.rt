@@ -1,10 +1,11 @@
 //! What lines say of networks and links, as memory of C has it.
 ghost use Rattle.std.specs.Prelude.{◌≡◌, take};
-ghost use Rattle.ipx_configuration.specs.Said.{has_socket, with_socket, with_range, no_sockets, no_ranges, no_internal};
+ghost use Rattle.ipx_configuration.specs.Said.{has_socket, with_socket, with_range, no_sockets, no_ranges, no_internal, new_link};
 ghost use Rattle.std.specs.List.{list_any};
 
 use crate::carrier::Carrier;
 use crate::rules::Rules;
+use crate::statics::{StaticRoutes, StaticServices};
 use ipx_settings::HostRange;
 
 /// The most sockets that a network extends.
@@ -118,6 +119,10 @@ pub struct NetworkSetting {
     /// The number of the line that says that the router takes what comes from the cable as it is, or 0.
     pub adopt_line: usize,
     pub rules: Rules,
+    /// Routes by way of nodes there that say nothing themselves,
+    pub static_routes: StaticRoutes,
+    /// and services.
+    pub static_services: StaticServices,
 }
 
 /// A link, as its line says it, and the lines below.
@@ -220,5 +225,32 @@ impl Ranges {
             it.count += 1;
         }
         it
+    }
+}
+
+/// A link of which its own line alone says something.
+pub(crate) fn new_link(line: usize, network: usize, carrier: Carrier) -> LinkSetting
+    ensures { result ≡ new_link line network carrier }
+{
+    LinkSetting {
+        line,
+        network,
+        carrier,
+        clients: ClientsSaid {
+            line: 0,
+            all: 0,
+            of_address: 0,
+        },
+        rate: RateSaid {
+            line: 0,
+            rate: 0,
+            share: 0,
+            household: 0,
+        },
+        strangers: NumberSaid { line: 0, number: 0 },
+        kilobits: NumberSaid { line: 0, number: 0 },
+        allowed: Ranges::none(),
+        trusted: Ranges::none(),
+        nodes_line: 0,
     }
 }

@@ -8,6 +8,7 @@ use crate::fault::Fault;
 use crate::lines::once;
 use crate::rules::rule_taken;
 use crate::said::{MOST_SOCKETS, NetworkSetting, Sockets};
+use crate::statics::{route_taken, service_taken};
 use ipx_settings::{Expected, Line, Reading, socket, word};
 
 /// What was expected in place of one more socket, which the word with that number is.
@@ -95,6 +96,8 @@ pub(crate) fn network_taken(
         Line::Extend(_) => sockets_taken(network, text, reading.read, own),
         Line::Adopt(_) => adopt_taken(line, network, own),
         Line::Rule(permits, begun) => rule_taken(network, permits, begun, own),
+        Line::Route(begun) => route_taken(line, network, begun, own),
+        Line::Service(begun) => service_taken(line, network, begun, own),
         _ => (network, None),
     }
 }
