@@ -1,6 +1,6 @@
 //! A line, word by word.
 ghost use Rattle.std.specs.Prelude.{◌≡◌};
-ghost use Rattle.ipx_settings.specs.Lines.{rate_or_none, socket_of, share_behind, line_first, clients_step, rate_step, strangers_step, kilobits_step, nodes_step, adopt_step, socket_step, range_step, line_step, line_ends, ended};
+ghost use Rattle.ipx_settings.specs.Lines.{rate_or_none, socket_of, share_behind, line_first, clients_step, rate_step, strangers_step, kilobits_step, nodes_step, adopt_step, socket_step, range_step, with_route, with_service, line_step, line_ends, ended};
 
 use crate::addresses::{HostRange, read_range};
 use crate::expected::Expected;
@@ -278,6 +278,26 @@ fn range_step(line: Line, word: &[u8]) -> Result<Line, Expected>
     }
 }
 
+/// The line that goes on with a route,
+fn with_route(step: Result<RouteBegun, Expected>) -> Result<Line, Expected>
+    ensures { result ≡ with_route step }
+{
+    match step {
+        Ok(next) => Ok(Line::Route(next)),
+        Err(expected) => Err(expected),
+    }
+}
+
+/// or with a service.
+fn with_service(step: Result<ServiceBegun, Expected>) -> Result<Line, Expected>
+    ensures { result ≡ with_service step }
+{
+    match step {
+        Ok(next) => Ok(Line::Service(next)),
+        Err(expected) => Err(expected),
+    }
+}
+
 impl Line {
     /// A word more.
     pub(crate) fn step(self, context: Context, word: &[u8]) -> Result<Line, Expected>
@@ -310,14 +330,8 @@ impl Line {
                 Ok(next) => Ok(Line::Rule(permits, next)),
                 Err(expected) => Err(expected),
             },
-            Line::Route(begun) => match begun.step(word) {
-                Ok(next) => Ok(Line::Route(next)),
-                Err(expected) => Err(expected),
-            },
-            Line::Service(begun) => match begun.step(word) {
-                Ok(next) => Ok(Line::Service(next)),
-                Err(expected) => Err(expected),
-            },
+            Line::Route(begun) => with_route(begun.step(word)),
+            Line::Service(begun) => with_service(begun.step(word)),
         }
     }
 

@@ -1,7 +1,7 @@
 //! What a line says of a route or a service by way of a node that says nothing itself.
 ghost use Rattle.std.specs.Prelude.{◌≡◌, ◌==◌};
 ghost use Rattle.std.specs.List.{list_all};
-ghost use Rattle.ipx_settings.specs.Statics.{is_plain_byte, plain_name_of, host_node_of, service_address_of, one_type_of, route_step, route_ends, route_to, service_step, service_ends, service_named};
+ghost use Rattle.ipx_settings.specs.Statics.{is_plain_byte, plain_name_of, host_node_of, service_address_of, one_type_of, route_at, service_at, route_step, route_ends, route_to, service_step, service_ends, service_named};
 
 use crate::cutting::cut_at;
 use crate::expected::Expected;
@@ -161,6 +161,35 @@ fn one_type(word: &[u8]) -> Option<u16>
     }
 }
 
+fn route_at(network: u32, hops: u16, ticks: u16, via: [u8; 6]) -> StaticRoute
+    ensures { result ≡ route_at network hops ticks via }
+{
+    StaticRoute {
+        network,
+        hops,
+        ticks,
+        via,
+    }
+}
+
+fn service_at(
+    kind: u16,
+    name: [u8; 48],
+    address: ServiceAddress,
+    hops: u16,
+    via: [u8; 6],
+) -> StaticService
+    ensures { result ≡ service_at kind name address hops via }
+{
+    StaticService {
+        kind,
+        name,
+        address,
+        hops,
+        via,
+    }
+}
+
 impl RouteBegun {
     /// A word more.
     pub(crate) fn step(self, word: &[u8]) -> Result<RouteBegun, Expected>
@@ -187,12 +216,7 @@ impl RouteBegun {
                 }
             }
             RouteBegun::Via(to, hops, ticks) => match node(word) {
-                Some(via) => Ok(RouteBegun::Whole(StaticRoute {
-                    network: to,
-                    hops,
-                    ticks,
-                    via,
-                })),
+                Some(via) => Ok(RouteBegun::Whole(route_at(to, hops, ticks, via))),
                 None => Err(Expected::Node),
             },
             RouteBegun::Whole(_) => Err(Expected::Nothing),
@@ -254,13 +278,7 @@ impl ServiceBegun {
                 }
             }
             ServiceBegun::Via(kind, name, address, hops) => match node(word) {
-                Some(via) => Ok(ServiceBegun::Whole(StaticService {
-                    kind,
-                    name,
-                    address,
-                    hops,
-                    via,
-                })),
+                Some(via) => Ok(ServiceBegun::Whole(service_at(kind, name, address, hops, via))),
                 None => Err(Expected::Node),
             },
             ServiceBegun::Whole(_) => Err(Expected::Nothing),
