@@ -39,6 +39,8 @@ extern "C" {
 #define IPXR_ALL_SOCKETS 16  /* the most sockets that a network extends */
 #define IPXR_ALL_RANGES 16   /* the most ranges of a list */
 #define IPXR_ALL_RULES 64    /* the most rules of a network, as many as a filter has */
+#define IPXR_ALL_STATIC_ROUTES 64   /* the most routes by way of nodes on a network, */
+#define IPXR_ALL_STATIC_SERVICES 64 /* and services */
 
 /* ---- What was expected where lines are wrong together, beside the numbers of ipxr_settings.h. These numbers have no words. ---- */
 
@@ -50,7 +52,7 @@ extern "C" {
 #define IPXR_EXPECTED_FEWER_NETWORKS 37          /* at most IPXR_MOST_PORTS networks, with the router's own */
 #define IPXR_EXPECTED_FEWER_LINKS 38             /* at most IPXR_ALL_LINKS links */
 #define IPXR_EXPECTED_FEWER_LINKS_OF_NETWORK 39  /* at most IPXR_MOST_LINKS links of the network */
-#define IPXR_EXPECTED_OTHER_NETWORK 40           /* another network than that of `line` */
+#define IPXR_EXPECTED_OTHER_NETWORK 40           /* another network than that of `line`, which is a network's or leads there by a route */
 #define IPXR_EXPECTED_OTHER_LINK 41              /* another link: `line` has all kinds of frames there */
 #define IPXR_EXPECTED_ONE_KIND 42                /* one kind of frames: `line` has another there */
 #define IPXR_EXPECTED_OTHER_KIND 43              /* another kind of frames: `line` has this one there */
@@ -63,6 +65,9 @@ extern "C" {
 #define IPXR_EXPECTED_FEWER_SOCKETS 50           /* at most IPXR_ALL_SOCKETS sockets */
 #define IPXR_EXPECTED_FEWER_RANGES 51            /* at most IPXR_ALL_RANGES ranges */
 #define IPXR_EXPECTED_FEWER_RULES 60             /* at most IPXR_ALL_RULES rules */
+#define IPXR_EXPECTED_FEWER_ROUTES 68            /* at most IPXR_ALL_STATIC_ROUTES routes (61 to 67 are in ipxr_settings.h) */
+#define IPXR_EXPECTED_FEWER_SERVICES 69          /* at most IPXR_ALL_STATIC_SERVICES services */
+#define IPXR_EXPECTED_OTHER_SERVICE 70           /* another name of a service: `line` has one of the type with this one */
 
 /* ---- What is kept of a configuration. It is the library's to write; ipxr_configuration_link says what comes of it. ---- */
 
@@ -92,6 +97,18 @@ typedef struct ipxr_rules {
     ipxr_rule list[64];
     size_t count;
 } ipxr_rules;
+
+/* Routes and services by way of nodes on a network, in the order of their lines. No two routes lead to one network, and no two services of
+ * one type have one name. */
+typedef struct ipxr_static_routes {
+    ipxr_static_route list[64];
+    size_t count;
+} ipxr_static_routes;
+
+typedef struct ipxr_static_services {
+    ipxr_static_service list[64];
+    size_t count;
+} ipxr_static_services;
 
 /* What lines below a link say. `line` is the number of the line, or 0 where none says it. */
 typedef struct ipxr_clients_said {
@@ -129,6 +146,8 @@ typedef struct ipxr_network_setting {
     ipxr_sockets sockets;
     size_t adopt_line;       /* the number of the line that says that what comes from the cable is taken as it is, or 0 */
     ipxr_rules rules;
+    ipxr_static_routes static_routes;
+    ipxr_static_services static_services;
 } ipxr_network_setting;
 
 /* What a link's own line says, and those below it. */
@@ -208,6 +227,8 @@ typedef struct ipxr_configured {
     ipxr_flag nodes_by_address;  /* clients' nodes may be their addresses */
     ipxr_flag adopts;            /* what comes from the cable goes through ipxr_edge_enter */
     ipxr_rules rules;            /* of the network's filter */
+    ipxr_static_routes static_routes;     /* by way of nodes on the network that say nothing themselves, */
+    ipxr_static_services static_services; /* and services */
 } ipxr_configured;
 
 /* ---- Calls ---- */

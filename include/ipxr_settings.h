@@ -41,6 +41,8 @@ extern "C" {
 #define IPXR_SETTING_ADOPT 12    /* adopt: what comes from the cable is taken as it is */
 #define IPXR_SETTING_PERMIT 13   /* permit: `rule` */
 #define IPXR_SETTING_DENY 14     /* deny: the same */
+#define IPXR_SETTING_ROUTE 15    /* route: `route` */
+#define IPXR_SETTING_SERVICE 16  /* service: `service` */
 
 /* ---- What carries a link. These numbers have no words. ---- */
 
@@ -96,6 +98,13 @@ extern "C" {
 #define IPXR_EXPECTED_WAY 57             /* in or out */
 #define IPXR_EXPECTED_SERVICE_TYPE 58    /* a type of services, 0 to FFFF, or * */
 #define IPXR_EXPECTED_SERVICE_NAMES 59   /* a name of at most 47 bytes, the beginning of one and *, or * */
+#define IPXR_EXPECTED_DESTINATION 61     /* the network where a route leads, 1 to FFFFFFFE (60 is in ipxr_configuration.h) */
+#define IPXR_EXPECTED_HOPS 62            /* the hops of a route or to a service, 1 to 15 */
+#define IPXR_EXPECTED_TICKS 63           /* the ticks of a route, 1 to 65535 */
+#define IPXR_EXPECTED_VIA 64             /* via */
+#define IPXR_EXPECTED_ONE_TYPE 65        /* the type of a service, 1 to FFFE */
+#define IPXR_EXPECTED_SERVICE_NAME 66    /* the name of a service: 1 to 47 printable characters of ASCII, without a * */
+#define IPXR_EXPECTED_SERVICE_ADDRESS 67 /* where a service is offered: network, node and socket, with a . between each two */
 
 /* ---- Bytes that are enough for any words. These numbers have no words. ---- */
 
@@ -136,6 +145,20 @@ typedef struct ipxr_setting_network {
     uint8_t node[6];
 } ipxr_setting_network;
 
+/* What a line `route` says: a route by way of a node that says nothing itself. `route` is for ipxr_edge_write_routes. */
+typedef struct ipxr_static_route {
+    size_t line;           /* the number of the line, or 0 in an ipxr_setting */
+    ipxr_route_entry route;
+    uint8_t via[6];        /* the node */
+} ipxr_static_route;
+
+/* What a line `service` says: a service by way of such a node. `service` is for ipxr_edge_write_services. */
+typedef struct ipxr_static_service {
+    size_t line;           /* the number of the line, or 0 in an ipxr_setting */
+    ipxr_service_entry service;
+    uint8_t via[6];        /* the node */
+} ipxr_static_service;
+
 /* What a line says, up to the first word that is wrong. */
 typedef struct ipxr_setting {
     size_t read;               /* so many words could be read */
@@ -144,7 +167,9 @@ typedef struct ipxr_setting {
     ipxr_setting_network network;
     ipxr_setting_link link;       /* of a network's line, or of a link's */
     uint32_t numbers[3];       /* what other lines say */
-    ipxr_rule rule;            /* what a rule says, where all its words were read, and else all bytes 0 */
+    ipxr_rule rule;            /* what a rule says, where all its words were read, and else all bytes 0, */
+    ipxr_static_route route;   /* what a line `route` says, alike, */
+    ipxr_static_service service; /* and a line `service` */
 } ipxr_setting;
 
 /* Addresses of IPv4 that begin with the same bits. */

@@ -45,10 +45,39 @@ static bool has_same_clients(const network_setting *a, const network_setting *b)
            a->nodes_by_address == b->nodes_by_address && same_ranges(&a->allowed, &b->allowed) && same_ranges(&a->trusted, &b->trusted);
 }
 
-/* Whether the same goes between the network and others: broadcasts that are copied, and what passes the edge. */
+/* (another line may say the same) */
+static bool same_route(const ipxr_static_route *a, const ipxr_static_route *b)
+{
+    return a->route.network == b->route.network && a->route.hops == b->route.hops && a->route.ticks == b->route.ticks &&
+           memcmp(a->via, b->via, sizeof a->via) == 0;
+}
+
+static bool same_service(const ipxr_static_service *a, const ipxr_static_service *b)
+{
+    const ipxr_service_entry *one = &a->service, *other = &b->service;
+    return one->type == other->type && memcmp(one->name, other->name, sizeof one->name) == 0 && one->network == other->network &&
+           memcmp(one->node, other->node, sizeof one->node) == 0 && one->socket == other->socket && one->hops == other->hops &&
+           memcmp(a->via, b->via, sizeof a->via) == 0;
+}
+
+/* Whether the same routes and services are by way of nodes on the network, in the same order. */
+static bool has_same_statics(const network_setting *a, const network_setting *b)
+{
+    size_t routes = 0, services = 0;
+    if (a->static_route_count != b->static_route_count || a->static_service_count != b->static_service_count)
+        return false;
+    while (routes < a->static_route_count && same_route(&a->static_routes[routes], &b->static_routes[routes]))
+        routes++;
+    while (services < a->static_service_count && same_service(&a->static_services[services], &b->static_services[services]))
+        services++;
+    return routes == a->static_route_count && services == a->static_service_count;
+}
+
+/* Whether the same goes between the network and others: broadcasts that are copied, what passes the edge, and what is said for nodes there
+ * that say nothing themselves. */
 static bool has_same_sockets(const network_setting *a, const network_setting *b)
 {
-    return a->adopts == b->adopts && a->rule_count == b->rule_count && memcmp(a->rules, b->rules, a->rule_count * sizeof *a->rules) == 0 &&
+    return has_same_statics(a, b) && a->adopts == b->adopts && a->rule_count == b->rule_count && memcmp(a->rules, b->rules, a->rule_count * sizeof *a->rules) == 0 &&
            a->socket_count == b->socket_count && memcmp(a->sockets, b->sockets, a->socket_count * sizeof *a->sockets) == 0;
 }
 

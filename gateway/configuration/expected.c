@@ -8,7 +8,7 @@
 
 /* What is told of each fault in which nothing else is. */
 static const char *const TOLD[] = {
-    [IPXR_EXPECTED_LINE] = "expected network, link, extend, clients, allow, trust, rate, strangers, line, nodes, internal, adopt, permit or deny",
+    [IPXR_EXPECTED_LINE] = "expected network, link, extend, clients, allow, trust, rate, strangers, line, nodes, internal, adopt, permit, deny, route or service",
     [IPXR_EXPECTED_NETWORK] = "expected the number of a network in hexadecimal digits, 1 to FFFFFFFD",
     [IPXR_EXPECTED_COST] = "expected the cost in ticks, 1 to 65535",
     [IPXR_EXPECTED_ROUTES] = "expected the most routes, 0 to 65535",
@@ -34,6 +34,13 @@ static const char *const TOLD[] = {
     [IPXR_EXPECTED_WAY] = "expected in or out",
     [IPXR_EXPECTED_SERVICE_TYPE] = "expected a type of services in hexadecimal digits, 0 to FFFF, or * for every one",
     [IPXR_EXPECTED_SERVICE_NAMES] = "expected the name of a service, how names begin and *, or * for all of them",
+    [IPXR_EXPECTED_DESTINATION] = "expected the number of a network in hexadecimal digits, 1 to FFFFFFFE",
+    [IPXR_EXPECTED_HOPS] = "expected the routers on the way, 1 to 15",
+    [IPXR_EXPECTED_TICKS] = "expected the ticks of the way, 1 to 65535",
+    [IPXR_EXPECTED_VIA] = "expected via",
+    [IPXR_EXPECTED_ONE_TYPE] = "expected the type of a service in hexadecimal digits, 1 to FFFE",
+    [IPXR_EXPECTED_SERVICE_NAME] = "expected the name of a service, of at most 47 printable characters, without *",
+    [IPXR_EXPECTED_SERVICE_ADDRESS] = "expected network, node and socket, such as A1.000000000001.451",
     [IPXR_EXPECTED_BELOW_NETWORK] = "expected below the line of a network",
     [IPXR_EXPECTED_BELOW_LINK] = "expected below the line of a link",
     [IPXR_EXPECTED_BELOW_TUNNEL] = "expected below the line of a network of dosbox",
@@ -115,6 +122,10 @@ static bool tell_too_much(reader *r, const char *word)
         return !reader_fault(r, word, "expected at most %d of them", IPXR_ALL_RANGES);
     case IPXR_EXPECTED_FEWER_RULES:
         return !reader_fault(r, word, "expected at most %d rules of a network", IPXR_ALL_RULES);
+    case IPXR_EXPECTED_FEWER_ROUTES:
+        return !reader_fault(r, word, "expected at most %d routes of a network", IPXR_ALL_STATIC_ROUTES);
+    case IPXR_EXPECTED_FEWER_SERVICES:
+        return !reader_fault(r, word, "expected at most %d services of a network", IPXR_ALL_STATIC_SERVICES);
     default:
         return false;
     }
@@ -127,6 +138,8 @@ static bool tell_other_line(reader *r, const char *word)
     switch (r->expected) {
     case IPXR_EXPECTED_OTHER_NETWORK:
         return !reader_fault(r, word, "expected another network, this one is that of line %zu", line);
+    case IPXR_EXPECTED_OTHER_SERVICE:
+        return !reader_fault(r, word, "expected another name, line %zu says a service of this type that has it", line);
     case IPXR_EXPECTED_ONCE:
         return !reader_fault(r, word, "expected only once: line %zu has it", line);
     case IPXR_EXPECTED_SAME_KILOBITS:

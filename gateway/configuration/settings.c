@@ -16,7 +16,8 @@ static const char KINDS[][KIND_ROOM] = {"", "ethernet2", "raw", "llc", "snap", "
 /* (one more kind of the library needs its word, and each of its lists has room here) */
 typedef char has_word_for_each_kind[sizeof KINDS / sizeof *KINDS == ANY_KIND + 1 ? 1 : -1];
 typedef char has_room_for_all[IPXR_ALL_LINKS <= MOST_LINKS && IPXR_ALL_SOCKETS <= MOST_SOCKETS && IPXR_ALL_RANGES <= MOST_RANGES &&
-                              IPXR_ALL_RULES <= MOST_RULES ? 1 : -1];
+                              IPXR_ALL_RULES <= MOST_RULES && IPXR_ALL_STATIC_ROUTES <= MOST_STATICS &&
+                              IPXR_ALL_STATIC_SERVICES <= MOST_STATICS ? 1 : -1];
 
 const char *kind_word(uint8_t kind)
 {
@@ -58,6 +59,14 @@ static void take_ranges(ranges *into, const ipxr_setting_ranges *said)
     }
 }
 
+static void take_statics(network_setting *it, const ipxr_configured *said)
+{
+    it->static_route_count = said->static_routes.count;
+    memcpy(it->static_routes, said->static_routes.list, said->static_routes.count * sizeof *it->static_routes);
+    it->static_service_count = said->static_services.count;
+    memcpy(it->static_services, said->static_services.list, said->static_services.count * sizeof *it->static_services);
+}
+
 static void take_link(network_setting *it, const ipxr_configured *said)
 {
     it->line = said->line;
@@ -76,6 +85,7 @@ static void take_link(network_setting *it, const ipxr_configured *said)
     it->adopts = said->adopts;
     it->rule_count = said->rules.count;
     memcpy(it->rules, said->rules.list, said->rules.count * sizeof *it->rules);
+    take_statics(it, said);
     it->clients = said->clients;
     it->per_address = said->of_address;
     it->rate = said->rate;

@@ -22,6 +22,7 @@ enum {
     MOST_KILOBITS = 10000000, /* alike: ten gigabits */
     MOST_SOCKETS = 16, /* that a network's `extend` may name */
     MOST_RULES = 64,   /* that lines below a network may say */
+    MOST_STATICS = 64, /* routes by way of nodes on a network that lines below it may say, and services */
     SHORTEST_LONGEST = 576, /* bytes that the longest packet of a network has at least */
     NAME_ROOM = 16,    /* bytes of the name of a TAP or an interface, with the 0 behind */
     MOST_LINKS = IPXR_MOST_PORTS + IPXR_MOST_LINKS, /* of all networks together */
@@ -59,6 +60,10 @@ typedef struct network_setting {
     bool adopts;               /* whether what comes from the cable is numbered, and held where a router carried it there */
     ipxr_rule rules[MOST_RULES]; /* of the network's filter: the first that names something decides */
     size_t rule_count;
+    ipxr_static_route static_routes[MOST_STATICS]; /* by way of nodes on the network that say nothing themselves, */
+    size_t static_route_count;
+    ipxr_static_service static_services[MOST_STATICS]; /* and services */
+    size_t static_service_count;
     uint16_t clients;          /* most clients of DOSBox' */
     uint16_t per_address;      /* and most of one address */
     uint32_t rate;             /* packets a second that a client receives, or a link with frames of clients; 0 for any number */

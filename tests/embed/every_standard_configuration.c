@@ -18,12 +18,14 @@ int main(void)
     ipxr_configured link;
     ipxr_internal own;
     int is_right = reads("network 10 1 1424 dosbox 2130", 1, &wrong) == 0 && reads("extend 4003", 2, &wrong) == 0;
+    is_right = is_right && reads("service 4 AB A1.000000000001.451 1 via 00001B0204AA", 7, &wrong) == 0;
     is_right = is_right && reads("network 20 1 1424 dosbox 2130", 3, &wrong) == IPXR_EXPECTED_OTHER_PORT && wrong.line == 1;
     is_right = is_right && reads("network 20 1 1424", 4, &wrong) == 0 && ipxr_configuration_unlinked(&all) == 4;
     is_right = is_right && reads("link tap ipx0 raw", 5, &wrong) == 0 && ipxr_configuration_unlinked(&all) == 0;
     is_right = is_right && ipxr_configuration_internal(&all, &own) == 0 && reads("internal 30", 6, &wrong) == 0;
     is_right = is_right && ipxr_configuration_internal(&all, &own) == 1 && own.line == 6 && own.number == 0x30 && own.node[5] == 1;
     is_right = is_right && ipxr_configuration_link(&all, 0, &link) == 1 && link.number == 0x10 && link.sockets.list[0] == 0x4003;
+    is_right = is_right && link.static_routes.count == 0 && link.static_services.count == 1 && link.static_services.list[0].service.type == 4;
     is_right = is_right && ipxr_configuration_link(&all, 1, &link) == 1 && link.number == 0x20 && link.port == 1 && link.adopts == 1 && link.rules.count == 0;
     return is_right && ipxr_configuration_link(&all, 2, &link) == 0 ? 0 : 1;
 }

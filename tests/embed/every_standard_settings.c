@@ -4,7 +4,7 @@
 
 #include <string.h>
 
-static const char RIGHT[] = "network 10 1 1424 dosbox 2130 # a remark", WRONG[] = "clients 10 11", OWN[] = "internal 1F node 020000000007", ADOPT[] = "adopt no", RULE[] = "deny nearest", RANGE[] = "192.168.1.0/24";
+static const char RIGHT[] = "network 10 1 1424 dosbox 2130 # a remark", WRONG[] = "clients 10 11", OWN[] = "internal 1F node 020000000007", ADOPT[] = "adopt no", RULE[] = "deny nearest", ROUTE[] = "route A1 2 3 via 00001B0204AA", RANGE[] = "192.168.1.0/24";
 
 static uint8_t reads(const char *text, ipxr_setting *said)
 {
@@ -21,6 +21,7 @@ int main(void)
     is_right = is_right && reads(OWN, &said) == 0 && said.kind == IPXR_SETTING_INTERNAL && said.network.number == 0x1F && said.network.node[5] == 7;
     is_right = is_right && reads(ADOPT, &said) == 0 && said.kind == IPXR_SETTING_ADOPT;
     is_right = is_right && reads(RULE, &said) == 0 && said.kind == IPXR_SETTING_DENY && said.rule.what == IPXR_RULE_NEAREST;
+    is_right = is_right && reads(ROUTE, &said) == 0 && said.kind == IPXR_SETTING_ROUTE && said.route.route.hops == 2 && said.route.via[5] == 0xAA;
     is_right = is_right && reads(WRONG, &said) == IPXR_EXPECTED_OF_ADDRESS && said.read == 2 && said.numbers[0] == 10;
     is_right = is_right && ipxr_settings_word((const uint8_t *)WRONG, strlen(WRONG), said.read, &start) == 2 && start == 11;
     is_right = is_right && ipxr_settings_range((const uint8_t *)RANGE, strlen(RANGE), &range) == 1 && range.bits == 24;

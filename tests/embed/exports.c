@@ -1708,6 +1708,44 @@ static void words_of_a_link(void)
     WROTE_TEXT(TAP, room);
 }
 
+/* A route and a service by way of a node. */
+static void a_static_line(void)
+{
+    ipxr_setting said;
+    memset(&said, 0xAA, sizeof said);
+    ANSWERS(0, ipxr_settings_line(READS("route A1 2 3 via 00001B0204AA"), 0, 0, 99, &said));
+    WROTE(IPXR_SETTING_ROUTE, said.kind);
+    WROTE(6, said.read);
+    WROTE(0, said.route.line);
+    WROTE(0xA1, said.route.route.network);
+    WROTE(2, said.route.route.hops);
+    WROTE(3, said.route.route.ticks);
+    WROTE_BYTES("00001B0204AA", said.route.via);
+    WROTE(0, said.service.service.type);
+    WROTE_BYTES("000000000000", said.service.via);
+    ANSWERS(0, ipxr_settings_line(READS("service 4 AB A1.000000000001.451 5 via 00001B0204BB"), 0, 0, 99, &said));
+    WROTE(IPXR_SETTING_SERVICE, said.kind);
+    WROTE(7, said.read);
+    WROTE(0, said.service.line);
+    WROTE(4, said.service.service.type);
+    WROTE_BYTES("4142 0000", said.service.service.name);
+    WROTE(0xA1, said.service.service.network);
+    WROTE_BYTES("000000000001", said.service.service.node);
+    WROTE(0x451, said.service.service.socket);
+    WROTE(5, said.service.service.hops);
+    WROTE_BYTES("00001B0204BB", said.service.via);
+    WROTE(0, said.route.route.hops);
+    ANSWERS(IPXR_EXPECTED_DESTINATION, ipxr_settings_line(READS("route FFFFFFFF"), 0, 0, 99, &said));
+    ANSWERS(IPXR_EXPECTED_HOPS, ipxr_settings_line(READS("route A1 16"), 0, 0, 99, &said));
+    ANSWERS(IPXR_EXPECTED_TICKS, ipxr_settings_line(READS("route A1 15 0"), 0, 0, 99, &said));
+    ANSWERS(IPXR_EXPECTED_VIA, ipxr_settings_line(READS("route A1 15 1"), 0, 0, 99, &said));
+    WROTE(0, said.route.route.network);
+    ANSWERS(IPXR_EXPECTED_NODE, ipxr_settings_line(READS("route A1 15 1 via FFFFFFFFFFFF"), 0, 0, 99, &said));
+    ANSWERS(IPXR_EXPECTED_ONE_TYPE, ipxr_settings_line(READS("service FFFF"), 0, 0, 99, &said));
+    ANSWERS(IPXR_EXPECTED_SERVICE_NAME, ipxr_settings_line(READS("service 4 A*"), 0, 0, 99, &said));
+    ANSWERS(IPXR_EXPECTED_SERVICE_ADDRESS, ipxr_settings_line(READS("service 4 AB A1.000000000000.451"), 0, 0, 99, &said));
+}
+
 static void a_line(void)
 {
     size_t start = 77;
@@ -1756,6 +1794,7 @@ static void a_line(void)
     ANSWERS(0, ipxr_settings_line(READS("deny socket 0457"), 0, 0, 99, &said));
     WROTE(IPXR_RULE_SOCKET, said.rule.what);
     WROTE(0x457, said.rule.socket);
+    a_static_line();
     ANSWERS(IPXR_EXPECTED_NO, ipxr_settings_line(READS("adopt yes"), 0, 0, 99, &said));
     WROTE(IPXR_SETTING_ADOPT, said.kind);
     ANSWERS(IPXR_EXPECTED_NODE_WORD, ipxr_settings_line(READS("internal 2F nodes"), 0, 0, 99, &said));
@@ -1821,6 +1860,12 @@ static void all_is_kept(void)
     WROTE(1, all.networks.list[1].rules.count);
     WROTE(20, all.networks.list[1].rules.list[0].type);
     WROTE(0, all.networks.list[2].rules.count);
+    WROTE(2, all.networks.list[1].static_routes.count);
+    WROTE(25, all.networks.list[1].static_routes.list[1].line);
+    WROTE(0, all.networks.list[2].static_routes.count);
+    WROTE(1, all.networks.list[1].static_services.count);
+    WROTE(26, all.networks.list[1].static_services.list[0].line);
+    WROTE(0, all.networks.list[2].static_services.count);
     WROTE(11, link->line);
     WROTE(0, link->network);
     WROTE(12, link->clients.line);
@@ -1873,6 +1918,21 @@ static void all_is_told(void)
     WROTE(1, link.rules.count);
     WROTE(IPXR_RULE_TYPE, link.rules.list[0].what);
     WROTE(20, link.rules.list[0].type);
+    WROTE(2, link.static_routes.count);
+    WROTE(24, link.static_routes.list[0].line);
+    WROTE(0xFFFFFFFE, link.static_routes.list[1].route.network);
+    WROTE(15, link.static_routes.list[1].route.hops);
+    WROTE(4, link.static_routes.list[1].route.ticks);
+    WROTE_BYTES("00001B0204BB", link.static_routes.list[1].via);
+    WROTE(1, link.static_services.count);
+    WROTE(26, link.static_services.list[0].line);
+    WROTE_BYTES("4142 0000", link.static_services.list[0].service.name);
+    WROTE(0xA1, link.static_services.list[0].service.network);
+    WROTE_BYTES("000000000001", link.static_services.list[0].service.node);
+    WROTE(0x451, link.static_services.list[0].service.socket);
+    WROTE(6, link.static_services.list[0].service.type);
+    WROTE(7, link.static_services.list[0].service.hops);
+    WROTE_BYTES("00001B0204AA", link.static_services.list[0].via);
     WROTE_BYTES("020000000007", link.node);
     WROTE(IPXR_OVER_UDP, link.carrier.number);
     WROTE(IPXR_FRAME_LLC, link.carrier.frames);
@@ -1964,6 +2024,17 @@ static void a_configuration(void)
     ANSWERS(0, SAYS(21, "network B 4 1300 40 41 qemu-udp 1.2.3.4:52 6.7.8.9:53 llc node 02:00:00:00:00:07"));
     ANSWERS(0, SAYS(22, "adopt no"));
     ANSWERS(0, SAYS(23, "deny type 20"));
+    ANSWERS(0, SAYS(24, "route A1 2 3 via 00001B0204AA"));
+    ANSWERS(0, SAYS(25, "route FFFFFFFE 15 4 via 00001B0204BB"));
+    ANSWERS(0, SAYS(26, "service 6 AB A1.000000000001.451 7 via 00001B0204AA"));
+    ANSWERS(IPXR_EXPECTED_OTHER_NETWORK, SAYS(27, "route A1 5 6 via 00001B0204BB"));
+    WROTE(24, wrong.line);
+    WROTE(1, wrong.word);
+    ANSWERS(IPXR_EXPECTED_OTHER_SERVICE, SAYS(28, "service 6 AB A2.000000000001.451 7 via 00001B0204BB"));
+    WROTE(26, wrong.line);
+    WROTE(2, wrong.word);
+    ANSWERS(IPXR_EXPECTED_OTHER_NETWORK, SAYS(29, "route A 5 6 via 00001B0204BB"));
+    WROTE(11, wrong.line);
     ANSWERS(0, SAYS(31, "network C 5 1200 42 43"));
     ANSWERS(31, ipxr_configuration_unlinked(&all));
     ANSWERS(0, SAYS(32, "link tap Aa raw"));

@@ -166,6 +166,8 @@ def what_is_right():
     for text in (b"\t network  FFFFFFFD 65535 1424 0 65535 dosbox :0 # a comment\r\n\n#\nextend FFFF 1",
                  b"network 20 1 1424 dosbox 0\nstrangers none\nnodes by-address\nadopt no",
                  b"network 20 1 1424 dosbox 0\ndeny type 20\npermit route 1-FFFFFFFE in\ndeny service FFFF A* out\n" + b"deny nearest\n" * 61,
+                 b"network 20 1 1424 dosbox 0\nroute 1 1 1 via 02:00:00:00:00:01\nroute FFFFFFFE 15 65535 via 020000000001\n"
+                 b"service FFFE " + b"A" * 47 + b" FFFFFFFD.FFFFFFFFFFFE.FFFF 15 via 020000000001\n",
                  b"network 20 1 1500 qemu-udp 0.0.0.0:5001 192.0.2.7:5001 raw",
                  b"network 20 1 1500 qemu-udp [::]:5001 [2001:db8::7]:5001 raw"):
         assert asked("--check", "/dev/stdin", stdin=text)[:2] == (0, "/dev/stdin: 1 network, nothing wrong\n"), text
@@ -193,6 +195,14 @@ def as_many_rules():
     assert status == 2 and complaint == f"{STDIN}:66: 'deny': expected at most 64 rules of a network\n", complaint
 
 
+def as_many_statics():
+    """So do 64 routes by way of nodes, and 64 services."""
+    for kind, many in (("route", [f"route {k:X} 1 1 via 020000000001\n" for k in range(0x100, 0x141)]),
+                       ("service", [f"service {k:X} LAB A1.000000000001.451 1 via 020000000001\n" for k in range(1, 66)])):
+        status, _, complaint = asked("--check", STDIN, stdin=("network 20 1 1424 dosbox 0\n" + "".join(many)).encode())
+        assert status == 2 and complaint == f"{STDIN}:66: '{kind}': expected at most 64 {kind}s of a network\n", complaint
+
+
 def one_rate_a_link():
     """Networks on one link share a rate: below one of them it is right, below a second it is told where the first is."""
     frames = [f"network {number} 1 1492 qemu-udp 5001 192.0.2.7:5001 {kind}\n" for number, kind in ((20, "raw"), (30, "llc"))]
@@ -208,7 +218,7 @@ def names_and_marks():
         for text, status, told in (
             (tunnels(2).replace("\n", "\r\n"), 0, ": 2 networks, nothing wrong\n"),
             (tunnels(1) + "\x1a\nnetwork", 2,
-             ":2: '\\x1A': expected network, link, extend, clients, allow, trust, rate, strangers, line, nodes, internal, adopt, permit or deny\n"),
+             ":2: '\\x1A': expected network, link, extend, clients, allow, trust, rate, strangers, line, nodes, internal, adopt, permit, deny, route or service\n"),
         ):
             name = "Müller Ωμέγα.conf"
             with open(os.path.join(folder, name), "w", encoding="utf-8", newline="") as it:
@@ -235,7 +245,7 @@ def what_cannot_be_opened():
 
 def main():
     counts = tried(each_wrong_line, nothing_is_opened, no_configuration, a_long_word, too_much, what_editors_write, the_command_line,
-                   the_version, no_words, the_example, what_is_right, as_many_links, as_many_rules, one_rate_a_link, names_and_marks, what_cannot_be_opened)
+                   the_version, no_words, the_example, what_is_right, as_many_links, as_many_rules, as_many_statics, one_rate_a_link, names_and_marks, what_cannot_be_opened)
     counts.run(status_on_windows if SYSTEM is Windows else what_cannot_be_written)
     return counts
 

@@ -4,3 +4,4 @@ pub mod FilterRules
 pub mod RoomKept
 pub mod WrittenPackets
 pub mod ConfiguredRules
+pub mod ConfiguredStatics

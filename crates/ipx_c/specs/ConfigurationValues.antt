@@ -50,6 +50,9 @@ fault_number (Some (fault.OtherSocket word)) = 49
 fault_number (Some (fault.ManySockets word)) = 50
 fault_number (Some (fault.ManyRanges word)) = 51
 fault_number (Some fault.ManyRules) = 60
+fault_number (Some fault.ManyRoutes) = 68
+fault_number (Some fault.ManyServices) = 69
+fault_number (Some (fault.OtherService line)) = 70
 
 -- the word that is wrong; of a line that is wrong by itself, the first that couldn't be read
 abbrev pub fault_word : Option Fault → ℕ → ℕ
@@ -59,6 +62,7 @@ fault_word (Some (fault.OtherKilobits kilobits line)) read = 1
 fault_word (Some (fault.OtherSocket word)) read = word
 fault_word (Some (fault.ManySockets word)) read = word
 fault_word (Some (fault.ManyRanges word)) read = word
+fault_word (Some (fault.OtherService line)) read = 2
 fault_word other read = 0
 
 -- the line that says something else
@@ -70,6 +74,7 @@ fault_line (Some (fault.OtherKind line)) = line
 fault_line (Some (fault.OtherPort line)) = line
 fault_line (Some (fault.Once line)) = line
 fault_line (Some (fault.OtherKilobits kilobits line)) = line
+fault_line (Some (fault.OtherService line)) = line
 fault_line other = 0
 
 abbrev pub fault_numbers : Option Fault → List ℕ

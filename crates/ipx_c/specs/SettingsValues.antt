@@ -29,7 +29,10 @@ use Rattle.ipx_settings.specs.declared.network.NetworkBegun.TheVariants as netwo
 use Rattle.ipx_settings.specs.declared.network.Shares.{Shares}
 use Rattle.ipx_settings.specs.declared.reading.Reading.{Reading}
 use Rattle.ipx_configuration.specs.Rules.{no_rule, rule_in}
+use Rattle.ipx_configuration.specs.Statics.{no_route, route_in, no_service, service_in}
 use Rattle.ipx_configuration.specs.declared.rules.RuleSaid.{RuleSaid}
+use Rattle.ipx_configuration.specs.declared.statics.StaticRouteSaid.{StaticRouteSaid}
+use Rattle.ipx_configuration.specs.declared.statics.StaticServiceSaid.{StaticServiceSaid}
 use Rattle.ipx_c.specs.declared.settings_values.HostValues.{HostValues}
 use Rattle.ipx_c.specs.declared.settings_values.LineSaid.{LineSaid}
 use Rattle.ipx_c.specs.declared.settings_values.LinkSaid.{LinkSaid}
@@ -160,6 +163,8 @@ line_number (line.Internal begun) = 11
 line_number (line.Adopt is_off) = 12
 line_number (line.Rule true begun) = 13
 line_number (line.Rule false begun) = 14
+line_number (line.Route begun) = 15
+line_number (line.Service begun) = 16
 
 abbrev pub three : ℕ → ℕ → ℕ → List ℕ
 three a b c = a ∷ b ∷ c ∷ []
@@ -189,6 +194,15 @@ abbrev pub rule_of_line : Line → RuleSaid
 rule_of_line (line.Rule permits begun) = rule_in permits begun
 rule_of_line other = no_rule
 
+-- a route and a service have the number of no line here
+abbrev pub route_of_line : Line → StaticRouteSaid
+route_of_line (line.Route begun) = route_in 0 begun
+route_of_line other = no_route
+
+abbrev pub service_of_line : Line → StaticServiceSaid
+service_of_line (line.Service begun) = service_in 0 begun
+service_of_line other = no_service
+
 -- what was expected in lines that came later
 abbrev pub later_number : Option Expected → ℕ
 later_number (Some expected.ByAddress) = 52
@@ -199,6 +213,13 @@ later_number (Some expected.Networks) = 56
 later_number (Some expected.Way) = 57
 later_number (Some expected.ServiceType) = 58
 later_number (Some expected.ServiceNames) = 59
+later_number (Some expected.Destination) = 61
+later_number (Some expected.Hops) = 62
+later_number (Some expected.Ticks) = 63
+later_number (Some expected.Via) = 64
+later_number (Some expected.OneType) = 65
+later_number (Some expected.ServiceName) = 66
+later_number (Some expected.ServiceAddress) = 67
 later_number other = 0
 
 -- what was expected; 0 where nothing is wrong (32 to 51 are those of lines together)
@@ -251,4 +272,6 @@ line_said r = record {
   link = link_of_line r.line;
   numbers = numbers_of r.line;
   rule = rule_of_line r.line;
+  route = route_of_line r.line;
+  service = service_of_line r.line;
 }

@@ -10,7 +10,7 @@ ghost use Rattle.ipx_c.specs.Writes.{is_yes};
 
 use crate::settings_values::{
     LineSaid, bits_of, expected_number, line_number, link_of_line, network_of_line, numbers_of,
-    rule_of_line,
+    route_of_line, rule_of_line, service_of_line,
 };
 use crate::sizes::{MOST_CLIENTS, MOST_LINKS, MOST_PORTS, MOST_ROUTES, MOST_SERVICES};
 use ipx_configuration::{Capacity, Configuration, Fault, InternalSaid, LinkConfigured};
@@ -73,6 +73,9 @@ fn fault_number(fault: Option<Fault>) -> u8
         Some(Fault::ManySockets(_)) => 50,
         Some(Fault::ManyRanges(_)) => 51,
         Some(Fault::ManyRules) => 60,
+        Some(Fault::ManyRoutes) => 68,
+        Some(Fault::ManyServices) => 69,
+        Some(Fault::OtherService(_)) => 70,
     }
 }
 
@@ -87,6 +90,7 @@ fn fault_word(fault: Option<Fault>, read: usize) -> usize
         Some(Fault::OtherSocket(word)) => word,
         Some(Fault::ManySockets(word)) => word,
         Some(Fault::ManyRanges(word)) => word,
+        Some(Fault::OtherService(_)) => 2,
         _ => 0,
     }
 }
@@ -103,6 +107,7 @@ fn fault_line(fault: Option<Fault>) -> usize
         Some(Fault::OtherPort(line)) => line,
         Some(Fault::Once(line)) => line,
         Some(Fault::OtherKilobits(_, line)) => line,
+        Some(Fault::OtherService(line)) => line,
         _ => 0,
     }
 }
@@ -128,6 +133,8 @@ fn line_said(reading: Reading) -> LineSaid
         link: link_of_line(reading.line),
         numbers: numbers_of(reading.line),
         rule: rule_of_line(reading.line),
+        route: route_of_line(reading.line),
+        service: service_of_line(reading.line),
     }
 }
 

@@ -11,7 +11,7 @@ ghost use Rattle.ipx_c.specs.Writes.{is_yes};
 
 use crate::settings_values::{
     LineSaid, bits_of, expected_number, line_number, link_of_line, network_of_line, numbers_of,
-    rule_of_line,
+    route_of_line, rule_of_line, service_of_line,
 };
 use ipx_settings::{
     Context, HostRange, Reading, hexadecimal, node_bytes, read_range, socket, word_of,
@@ -45,6 +45,8 @@ pub extern "C" fn ipxr_settings_line(
         link: link_of_line(reading.line),
         numbers: numbers_of(reading.line),
         rule: rule_of_line(reading.line),
+        route: route_of_line(reading.line),
+        service: service_of_line(reading.line),
     };
     expected_number(reading.fault)
 }

@@ -1,11 +1,11 @@
 //! The structs of a configuration's line that cross to C, as its header has them, and its numbers.
 ghost use Rattle.std.specs.Prelude.{◌≡◌};
-ghost use Rattle.ipx_c.specs.SettingsValues.{no_host, host_values, no_link, place_name, place_values, frames_number, end_values, link_values, network_values, internal_values, line_number, numbers_of, link_of_line, network_of_line, rule_of_line, later_number, expected_number, bits_of};
+ghost use Rattle.ipx_c.specs.SettingsValues.{no_host, host_values, no_link, place_name, place_values, frames_number, end_values, link_values, network_values, internal_values, line_number, numbers_of, link_of_line, network_of_line, rule_of_line, route_of_line, service_of_line, later_number, expected_number, bits_of};
 
-use ipx_configuration::RuleSaid;
+use ipx_configuration::{RuleSaid, StaticRouteSaid, StaticServiceSaid};
 use ipx_settings::{
     Address, ClientsBegun, End, Expected, Frames, Head, Host, InternalBegun, Line, Link, LinkBegun,
-    NetworkBegun, Place, RateBegun, RuleBegun,
+    NetworkBegun, Place, RateBegun, RouteBegun, RuleBegun, ServiceBegun,
 };
 
 /// An address with its port.
@@ -69,6 +69,10 @@ pub struct LineSaid {
     pub numbers: [u32; 3],
     /// The rule of a line that says one.
     pub rule: RuleSaid,
+    /// The route of a line that says one, without the number of the line,
+    pub route: StaticRouteSaid,
+    /// and the service.
+    pub service: StaticServiceSaid,
 }
 
 fn no_host() -> HostValues
@@ -263,6 +267,8 @@ pub(crate) fn line_number(line: Line) -> u8
         Line::Adopt(_) => 12,
         Line::Rule(true, _) => 13,
         Line::Rule(false, _) => 14,
+        Line::Route(_) => 15,
+        Line::Service(_) => 16,
     }
 }
 
@@ -314,6 +320,26 @@ pub(crate) fn rule_of_line(line: Line) -> RuleSaid
     }
 }
 
+/// The route of a line; all 0 where it says none.
+pub(crate) fn route_of_line(line: Line) -> StaticRouteSaid
+    ensures { result ≡ route_of_line line }
+{
+    match line {
+        Line::Route(begun) => StaticRouteSaid::of(0, begun),
+        _ => StaticRouteSaid::of(0, RouteBegun::Nothing),
+    }
+}
+
+/// The service of a line; all 0 where it says none.
+pub(crate) fn service_of_line(line: Line) -> StaticServiceSaid
+    ensures { result ≡ service_of_line line }
+{
+    match line {
+        Line::Service(begun) => StaticServiceSaid::of(0, begun),
+        _ => StaticServiceSaid::of(0, ServiceBegun::Nothing),
+    }
+}
+
 /// The numbers of what was expected that came behind those of lines together.
 fn later_number(fault: Option<Expected>) -> u8
     ensures { result ≡ later_number fault }
@@ -327,6 +353,13 @@ fn later_number(fault: Option<Expected>) -> u8
         Some(Expected::Way) => 57,
         Some(Expected::ServiceType) => 58,
         Some(Expected::ServiceNames) => 59,
+        Some(Expected::Destination) => 61,
+        Some(Expected::Hops) => 62,
+        Some(Expected::Ticks) => 63,
+        Some(Expected::Via) => 64,
+        Some(Expected::OneType) => 65,
+        Some(Expected::ServiceName) => 66,
+        Some(Expected::ServiceAddress) => 67,
         _ => 0,
     }
 }
