@@ -10,9 +10,8 @@
 /* The socket of registrations, pings and their answers. */
 #define TUNNEL_SOCKET 2
 
-/* Seconds for which a registration is remembered; and how many are left when its answer goes out again, and the first ping. (the second goes
- * when none is left) */
-enum { REMEMBERED = 9, ANSWERED_AT = 8, PINGED_AT = 2 };
+/* Seconds for which a registration is remembered; and how many are left when its answer goes out again. */
+enum { REMEMBERED = 9, ANSWERED_AT = 8 };
 
 /* The new tunnel hears a packet without data from somebody, who names a node and says it to another. */
 static void hear(network *on, const ipxr_keyed_sender *sender, const uint8_t node[NODE], const uint8_t to_node[NODE])

@@ -5,9 +5,6 @@
 
 #include "ipx.h"
 
-/* Seconds that are left for a registration when the library pings him who registered, for the first time. */
-enum { PINGED_AT = 2 };
-
 bool roster_make(roster *it, size_t room)
 {
     memset(it, 0, sizeof *it);

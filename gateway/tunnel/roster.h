@@ -11,6 +11,9 @@
 #include "limits/speaker.h"
 #include "tunnel/asked.h"
 
+/* Seconds that are left for a registration when the library pings him who registered, for the first time. (the second goes when none is left) */
+enum { PINGED_AT = 2 };
+
 /* What was dropped of a client. */
 typedef enum {
     DROPPED_FOR_IT,     /* packets for it, since it received too many */

@@ -264,6 +264,23 @@ static void send_again(network *on, const ipxr_own *own)
         counts_lose(&on->counts, TOO_MANY_STRANGERS);
 }
 
+/* Whether somebody at a place registered lately, and waits for his answer: he would take a ping for it. */
+static bool waits_for_answer(network *on, const uint8_t place[NODE])
+{
+    ipxr_keyed_member waiter;
+    for (size_t k = 0; ipxr_keyed_waiter(&on->tunnel, k, &waiter) == 0; k++)
+        if (same_node(waiter.place, place))
+            return waiter.seconds_left > PINGED_AT;
+    return false;
+}
+
+/* Whether what waited for who registered is still for him: a client is pinged as such, and who registered anew later. */
+static bool is_still_due(network *on, const ipxr_own *own)
+{
+    bool is_ping = is_broadcast(own->bytes + AT_TO_NODE);
+    return roster_find(&on->roster, own->place) == NULL && !(is_ping && waits_for_answer(on, own->place));
+}
+
 /* The same datagram as the tunnel would say it now: an answer comes from the gateway's node, which may be another than before. */
 static ipxr_own of_now(const network *on, const ipxr_own *own)
 {
@@ -278,7 +295,7 @@ void tunnel_take_waiting(network *on, network *old)
     const ipxr_own *next;
     while ((next = pings_first(&old->again)) != NULL) {
         ipxr_own now = of_now(on, next);
-        if (!are_by_line(on) || !line_is_narrower())
+        if (is_still_due(on, &now) && (!are_by_line(on) || !line_is_narrower()))
             send_again(on, &now);
         pings_end_first(&old->again);
     }
@@ -330,12 +347,12 @@ static void ping_next(const gateway *it, network *on, const ipxr_own *next)
         ping_one(on, next);
 }
 
-/* What waits for who registered goes out as far as the line has room. (who is a client by now is pinged as such) */
+/* What waits for who registered goes out as far as the line has room. */
 static void send_waiting(network *on)
 {
     const ipxr_own *next;
     while ((next = pings_first(&on->again)) != NULL && line_lets_more()) {
-        if (roster_find(&on->roster, next->place) == NULL) {
+        if (is_still_due(on, next)) {
             line_send_more(sizeof next->bytes);
             send_counted(on, next, false);
         }

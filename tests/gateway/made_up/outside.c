@@ -13,7 +13,7 @@
 #include "tunnel/nodes.h"
 #include "world.h"
 
-enum { PING = 2, PINGED_AT = 2 /* seconds that are left then */, SILENT_HOST = 10, SLOW_HOST = 8, MILLION = 1000000, COME_AND_GO = 99, FIRST_PORT = 40000 };
+enum { PING = 2, SILENT_HOST = 10, SLOW_HOST = 8, MILLION = 1000000, COME_AND_GO = 99, FIRST_PORT = 40000 };
 
 /* What a player knows: its node, and the source of its last ping; zeros where it was told none. */
 typedef struct player {
