@@ -35,6 +35,7 @@ import segments
 import siphash
 import six
 import slow_pc
+import statics
 import staying
 import status
 import troubles
@@ -45,8 +46,8 @@ import words
 from systems import SYSTEM, Windows
 from trying import Counts, left_out
 
-ALL = (counting, words, siphash, queues, unit, orders, status, events, probes, reloading, staying, tunnel, nodes, links, edge, internal, paced,
-       six, names, segments, kinds, made_up, troubles, reload_memory, wires, refused, houses, attacks, forged, limits, complaints, asked,
+ALL = (counting, words, siphash, queues, unit, orders, status, events, probes, reloading, staying, tunnel, nodes, links, edge, statics, internal,
+       paced, six, names, segments, kinds, made_up, troubles, reload_memory, wires, refused, houses, attacks, forged, limits, complaints, asked,
        fair, slow_pc, narrow, lossy, dosbox, pc, bochs)
 TESTS = {it.__name__: it for it in ALL}
 
