@@ -272,10 +272,6 @@ IPXR_CALL void ipxr_queues_give_back(ipxr_queues *queues, uint8_t queue);
  * of what may go to all such places. */
 IPXR_CALL uint8_t ipxr_strangers_send(const ipxr_strangers_limits *limits, uint32_t count, ipxr_meter *address, ipxr_meter *all);
 
-/* The same of a ping to somebody who speaks, but is no client: it goes only where a registration has room behind it, so that who speaks on and
- * never answers keeps nobody out. */
-IPXR_CALL uint8_t ipxr_strangers_ping(const ipxr_strangers_limits *limits, ipxr_meter *address, ipxr_meter *all);
-
 /* ---- A narrow line ---- */
 
 /* An address has one more client there, or one fewer. */
@@ -311,10 +307,8 @@ IPXR_CALL void ipxr_line_send_answer(ipxr_line *line, uint64_t now, size_t bytes
 /* A ping goes out, for which there is always room: by it clients stay. */
 IPXR_CALL void ipxr_line_send_ping(ipxr_line *line, uint64_t now, size_t bytes);
 
-/* The same of what you say to one who is no client, and of the part which his address has of that. A ping of so many bytes to one who speaks goes
- * only where there is room for one more behind it. */
+/* The same of what you say to one who is no client, and of the part which his address has of that. */
 IPXR_CALL ipxr_flag ipxr_line_lets_stranger(ipxr_line *line, uint64_t now, uint64_t *address);
-IPXR_CALL ipxr_flag ipxr_line_lets_ping(ipxr_line *line, uint64_t now, size_t bytes, uint64_t *address);
 IPXR_CALL void ipxr_line_send_to_stranger(ipxr_line *line, uint64_t now, size_t bytes, uint64_t *address);
 
 /* Makes limits of what goes to all who are no clients by a line of that width, on all networks, for ipxr_strangers_send: count four datagrams

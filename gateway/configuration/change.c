@@ -6,6 +6,7 @@
 #include "configuration/plan.h"
 #include "configuration/readmit.h"
 #include "configuration/words.h"
+#include "links/ether.h"
 #include "links/links.h"
 #include "links/segment.h"
 #include "links/statics.h"
@@ -240,6 +241,7 @@ static void remove_networks(gateway *it, changed *what)
         network *on = &it->networks[k];
         if (next.fates[k].becomes != IPXR_NO_ONE)
             continue;
+        ether_send_waiting(on);
         if (on->set->type == LINK_DOSBOX)
             tunnel_end(on);
         line_end(&on->speaks.line);
@@ -257,7 +259,7 @@ static bool takes_leave(gateway *it)
     if (status_is_followed())
         events_second(it); /* (of what is forgotten it is told by which network it was known) */
     gateway_send_all(it);
-    gateway_end_waiting(it);
+    gateway_flush(it);
     return true;
 }
 

@@ -7,11 +7,11 @@
 /* Addresses of strangers that are told apart, and bytes of a place that are its address. */
 enum { MOST_ADDRESSES = 4096, HOST = 4 };
 
-/* What goes to strangers, or may follow: of all networks, and to each address. */
+/* What goes to strangers, or may follow, for registrations and for words: of all networks, and to each address. */
 static struct {
     ipxr_strangers_limits limits;
     meter sent, hosts[MOST_ADDRESSES];
-} newcomers;
+} newcomers[STRANGERS_PARTS];
 
 static ipxr_line line;
 
@@ -33,6 +33,26 @@ static struct {
 /* What is used of nobody's part. */
 static uint64_t nobody;
 
+/* Who speaks is pinged so often at once. (else pings would use up for seconds what registrations wait for) */
+enum { PINGS_AT_ONCE = 4 };
+
+static void limit_pings(ipxr_limit *limit)
+{
+    limit->burst = PINGS_AT_ONCE * limit->each;
+}
+
+/* Each of both has the limits of a line that is as much narrower. */
+static void set_limits(strangers_part what)
+{
+    ipxr_line part = line;
+    part.kilobits = strangers_share(what, line.kilobits);
+    ipxr_line_strangers(&part, &newcomers[what].limits);
+    if (what == FOR_WORDS) {
+        limit_pings(&newcomers[what].limits.all);
+        limit_pings(&newcomers[what].limits.one);
+    }
+}
+
 /* (by a line of another width other limits hold, from now on) */
 void line_set(const settings *set)
 {
@@ -43,8 +63,9 @@ void line_set(const settings *set)
             line.kilobits = set->networks[k].kilobits;
     is_narrower = line.kilobits > 0 && (before == 0 || line.kilobits < before);
     if (line.kilobits != before)
-        memset(&newcomers, 0, sizeof newcomers);
-    ipxr_line_strangers(&line, &newcomers.limits);
+        memset(newcomers, 0, sizeof newcomers);
+    set_limits(FOR_REGISTRATIONS);
+    set_limits(FOR_WORDS);
 }
 
 bool line_is_narrower(void)
@@ -165,22 +186,11 @@ void line_send_more(size_t length)
     ipxr_line_send_to_stranger(&line, limit_clock(), length, &none);
 }
 
-/* What an address of strangers uses of what newcomers may. */
-static ipxr_meter *newcomer(const uint8_t key[SIPHASH_KEY], const uint8_t place[6])
+bool line_lets_newcomer(strangers_part what, const uint8_t key[SIPHASH_KEY], const uint8_t place[6], uint32_t count)
 {
-    return meter_now(&newcomers.hosts[place_among(key, place)]);
-}
-
-bool line_lets_newcomer(const uint8_t key[SIPHASH_KEY], const uint8_t place[6], uint32_t count)
-{
+    ipxr_meter *host = meter_now(&newcomers[what].hosts[place_among(key, place)]);
     return ipxr_line_lets_stranger(&line, limit_clock(), stranger(key, place)) &&
-           ipxr_strangers_send(&newcomers.limits, count, newcomer(key, place), meter_now(&newcomers.sent)) == IPXR_PASSES;
-}
-
-bool line_lets_ping(const uint8_t key[SIPHASH_KEY], const uint8_t place[6], size_t length)
-{
-    return ipxr_line_lets_ping(&line, limit_clock(), length, stranger(key, place)) &&
-           ipxr_strangers_ping(&newcomers.limits, newcomer(key, place), meter_now(&newcomers.sent)) == IPXR_PASSES;
+           ipxr_strangers_send(&newcomers[what].limits, count, host, meter_now(&newcomers[what].sent)) == IPXR_PASSES;
 }
 
 void line_send_to_stranger(const uint8_t key[SIPHASH_KEY], const uint8_t place[6], size_t length)

@@ -9,6 +9,7 @@
 
 #include "configuration/settings.h"
 #include "ipxr_limits.h"
+#include "limits/strangers.h"
 #include "siphash.h"
 
 /* What an address uses of the line, or a network of another kind, or the router. */
@@ -56,9 +57,8 @@ void line_send_again(size_t length);
 
 /* Whether there is room for what the gateway says to a stranger, of whatever network; and a datagram of so many bytes goes out to him. The key
  * is of the hash by which addresses are told apart. Where more follows later, so many datagrams are counted at once, also of his address; what
- * follows is then asked of the line alone. A ping to one who speaks goes only where a registration has room behind it. */
-bool line_lets_newcomer(const uint8_t key[SIPHASH_KEY], const uint8_t place[6], uint32_t count);
-bool line_lets_ping(const uint8_t key[SIPHASH_KEY], const uint8_t place[6], size_t length);
+ * follows is then asked of the line alone. */
+bool line_lets_newcomer(strangers_part what, const uint8_t key[SIPHASH_KEY], const uint8_t place[6], uint32_t count);
 bool line_lets_more(void);
 void line_send_more(size_t length);
 void line_send_to_stranger(const uint8_t key[SIPHASH_KEY], const uint8_t place[6], size_t length);

@@ -83,9 +83,10 @@ static void send_now(network *on, const uint8_t *from, const uint8_t *node, cons
         gateway_lose(on, NOT_SENT);
 }
 
+/* (it goes nowhere where the link was lost since, or another configuration makes it one of DOSBox') */
 static void send_paced(network *on, const paced_packet *next)
 {
-    if (on->is_up) /* (else the router said it before it heard that the link is lost) */
+    if (on->is_up && on->set->type != LINK_DOSBOX)
         send_now(on, next->from, ALL_NODES, next->bytes, next->length);
 }
 

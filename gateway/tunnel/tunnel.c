@@ -203,16 +203,17 @@ void tunnel_tell_leaves(network *on, const uint8_t place[NODE], const uint8_t no
 
 /* ---- Pings, and second answers ---- */
 
-/* (what the network's limit holds back uses nothing of the line, which others share) */
-bool tunnel_lets_newcomer(network *on, const uint8_t place[NODE], uint32_t count)
+/* Whether so many datagrams for something may go to a stranger now, or soon. (what the network's limit holds back uses nothing of the line, which
+ * others share) */
+static bool lets_stranger(network *on, strangers_part what, const uint8_t place[NODE], uint32_t count)
 {
-    return strangers_let(&on->strangers, place, count) && (!are_by_line(on) || line_lets_newcomer(on->strangers.key, place, count));
+    return strangers_let(&on->strangers, what, place, count) &&
+           (!are_by_line(on) || line_lets_newcomer(what, on->strangers.key, place, count));
 }
 
-/* Whether a stranger who speaks is pinged. */
-static bool lets_ping(network *on, const uint8_t place[NODE])
+bool tunnel_lets_newcomer(network *on, const uint8_t place[NODE], uint32_t count)
 {
-    return strangers_let_ping(&on->strangers, place) && (!are_by_line(on) || line_lets_ping(on->strangers.key, place, HEADER));
+    return lets_stranger(on, FOR_REGISTRATIONS, place, count);
 }
 
 /* Whether a client's registration or ping is answered now. (somebody may ask in its name, so that it would hear nothing else) */
@@ -610,7 +611,7 @@ static uint16_t answer(incoming *in, uint8_t next)
     case IPXR_NEXT_DATAGRAM_LETS_STRANGER:
         return !in->is_held_back;
     case IPXR_NEXT_DATAGRAM_LETS_PING:
-        return lets_ping(on, in->sender.place);
+        return lets_stranger(on, FOR_WORDS, in->sender.place, 1);
     case IPXR_NEXT_DATAGRAM_ANSWER_STRANGER:
     case IPXR_NEXT_DATAGRAM_PING:
         send_own(on, NULL);

@@ -65,7 +65,7 @@ static int is_sent(void)
                ipxr_line_lets_answer(&line, 0, &answered);
     ipxr_line_send_answer(&line, 0, 30, &answered);
     ipxr_line_send_ping(&line, 0, 30);
-    is_right = is_right && ipxr_line_lets_stranger(&line, line.own, &stranger) && ipxr_line_lets_ping(&line, line.own, 30, &stranger);
+    is_right = is_right && ipxr_line_lets_stranger(&line, line.own, &stranger);
     ipxr_line_send_to_stranger(&line, line.own, 30, &stranger);
     ipxr_line_between_pings(&line, 30, &between);
     ipxr_line_strangers(&line, &newcomers);
@@ -84,7 +84,6 @@ int main(void)
     ipxr_meter one = {0}, all = {0};
     int is_right = are_made(&limits, &household, &strangers) && is_received(&limits, &household) && is_said(&limits) && is_sent() &&
                    ipxr_kind_of(bytes, sizeof bytes) == IPXR_KIND_OTHER && ipxr_strangers_send(&strangers, 2, &one, &all) == IPXR_PASSES &&
-                   ipxr_strangers_send(&strangers, 1000, &one, &all) == IPXR_TOO_MUCH_FOR_STRANGERS &&
-                   ipxr_strangers_ping(&strangers, &one, &all) == IPXR_PASSES;
+                   ipxr_strangers_send(&strangers, 1000, &one, &all) == IPXR_TOO_MUCH_FOR_STRANGERS;
     return is_right ? 0 : 1;
 }

@@ -1080,23 +1080,6 @@ static void queues(void)
     ANSWERS(22, ipxr_queues_unshare(&given, 23, 21, 24));
 }
 
-/* (a registration has room behind it) */
-static void strangers_are_pinged(void)
-{
-    static const ipxr_strangers_limits limits = {.all = {.each = 3, .burst = 16}, .one = {.each = 5, .burst = 27}};
-    ipxr_meter address = {2}, all = {1};
-    ANSWERS(IPXR_PASSES, ipxr_strangers_ping(&limits, &address, &all));
-    WROTE(7, address.used);
-    WROTE(4, all.used);
-    all.used = 1;
-    ANSWERS(IPXR_TOO_MUCH_FOR_STRANGERS, ipxr_strangers_ping(&limits, &address, &all));
-    address.used = 2;
-    all.used = 2;
-    ANSWERS(IPXR_TOO_MUCH_FOR_STRANGERS, ipxr_strangers_ping(&limits, &address, &all));
-    WROTE(2, address.used);
-    WROTE(2, all.used);
-}
-
 static void strangers(void)
 {
     ipxr_meter address = {1}, all = {2};
@@ -1109,7 +1092,6 @@ static void strangers(void)
     ANSWERS(IPXR_TOO_MUCH_FOR_STRANGERS, ipxr_strangers_send(&STRANGERS, 3, &address, &all));
     WROTE(0, address.used);
     WROTE(8, all.used);
-    strangers_are_pinged();
 }
 
 /* Each clock is looked at once, and time passes for all that it is the clock of. */
@@ -1241,23 +1223,6 @@ static void line_itself(void)
     ANSWERS(IPXR_LINE_WITHIN, ipxr_line_room(&line, NOW, SPOKE, SHORT_BYTES, &said, &to));
 }
 
-/* (there is room for one more behind it) */
-static void line_pings(ipxr_line line)
-{
-    uint64_t address = 795201000;
-    line.to_strangers = 974401000;
-    ANSWERS(1, ipxr_line_lets_ping(&line, NOW, SHORT_BYTES, &address));
-    line.to_strangers++;
-    ANSWERS(0, ipxr_line_lets_ping(&line, NOW, SHORT_BYTES, &address));
-    line.to_strangers--;
-    address++;
-    ANSWERS(0, ipxr_line_lets_ping(&line, NOW, SHORT_BYTES, &address));
-    WROTE(795201001, address);
-    address = 0;
-    line.used = 1000000000;
-    ANSWERS(0, ipxr_line_lets_ping(&line, NOW, SHORT_BYTES, &address));
-}
-
 static void line_own(void)
 {
     ipxr_line line = LINE;
@@ -1300,7 +1265,6 @@ static void line_own(void)
     WROTE(4518009832, answered);
     line.used = 20001000;
     ANSWERS(1, ipxr_line_lets_answer(&line, NOW, &answered));
-    line_pings(line);
 }
 
 static void limits(void)

@@ -40,6 +40,7 @@ STRANGERS_A_SECOND = 100
 ALIKE = ("10.79.0.5", "10.79.16.5")  # two addresses with the same last twelve bits
 PORTS_THAT_REGISTER = 64  # more than are answered at once at one address
 MUTE, FILLED, PINGED = 9, 4, 11  # addresses; seconds after which their pings are too many; and after which who registered was pinged
+BACK, LONG = 4, 18  # who come back; and seconds that strangers register
 PINGS_LOST = 10  # or questions, of a flood, on their way to the gateway
 MOST_AHEAD = 1.5  # seconds by which a look at the clock may be late here
 
@@ -330,6 +331,28 @@ def who_never_answers(kilobits=None):
             assert player.network and it.gate.counted(NETWORK, "clients") == number + 1, "who registers is kept out"
 
 
+@played_anew
+def who_comes_back(rate, kilobits=None):
+    """Strangers register again and again from forged addresses; four who say something without having registered are pinged, and come in."""
+    line = f"line {kilobits}\n" if kilobits else ""
+    with Playground(f"{TUNNEL_LINE}{line}nodes by-address\n", numbers=(0, 0, 0), more=BACK) as it:
+        if kilobits:
+            narrow(it, kilobits)
+        sent = flood(it.gate, "forged", "register", rate, count=rate * LONG, host=STRANGERS, hosts=60000, first=3000)
+        it.party.until(lambda: False, FILLED)
+        for host in it.free:
+            it.party.put_in("comes back", Player(host, GATEWAY, 1 / 35))
+
+        def speak():
+            for player in it.party.all:
+                player.speak(time.monotonic())
+
+        came = it.party.until(lambda: speak() or all(player.pings for player in it.party.all), PINGED)
+        came = came and it.party.until(lambda: it.gate.counted(NETWORK, "clients") == BACK, QUIET)
+        figures(sent.end())
+        assert came, "who says something is kept out"
+
+
 def narrow(it, kilobits=1000):
     """The gateway's cards have a line of 1 Mbit/s from now on, or of so many kilobits a second."""
     for card in "g0", "g1":
@@ -540,6 +563,8 @@ TESTS = [
     an_address_like_a_newcomers,
     who_never_answers,
     named("the same by a line of 64 kbit/s", who_never_answers, 64),
+    named("strangers register 100 times a second, and four come back who only say something", who_comes_back, 100),
+    named("the same by a line of 64 kbit/s, twice a second", who_comes_back, 2, 64),
     a_narrow_line,
     named("by a line of 1 Mbit/s that the gateway knows a client says 22 long packets a second", a_line_is_shared, "chat", 22, LONGEST, 0),
     named("by such a line somebody has 16 clients that only listen", a_line_is_shared, "chat", SHARE, 46, 16),

@@ -895,12 +895,21 @@ static uint64_t router_answers(void *of, uint64_t count)
     return passed;
 }
 
-/* Strangers at one address, or at one after the other. */
+/* Strangers who speak, at one address after the other. */
+static uint64_t speak(void *of, uint64_t count)
+{
+    uint64_t passed = 0;
+    for (uint64_t k = 0; k < count; k++)
+        passed += strangers_let(of, FOR_WORDS, (uint8_t[6]){10, 5, (uint8_t)(k >> 8), (uint8_t)k}, 1);
+    return passed;
+}
+
+/* Strangers who register at one address, or at one after the other. */
 static uint64_t at_one(void *of, uint64_t count)
 {
     uint64_t passed = 0;
     for (uint64_t k = 0; k < count; k++)
-        passed += strangers_let(of, (uint8_t[6]){10, 3, 0, 0, (uint8_t)k}, 1);
+        passed += strangers_let(of, FOR_REGISTRATIONS, (uint8_t[6]){10, 3, 0, 0, (uint8_t)k}, 1);
     return passed;
 }
 
@@ -908,7 +917,7 @@ static uint64_t at_all(void *of, uint64_t count)
 {
     uint64_t passed = 0;
     for (uint64_t k = 0; k < count; k++)
-        passed += strangers_let(of, (uint8_t[6]){10, 4, (uint8_t)(k >> 8), (uint8_t)k}, 1);
+        passed += strangers_let(of, FOR_REGISTRATIONS, (uint8_t[6]){10, 4, (uint8_t)(k >> 8), (uint8_t)k}, 1);
     return passed;
 }
 
@@ -923,7 +932,7 @@ static void gateway(void)
     one.clients[0] = client_at(5);
     for (size_t k = 0; k < MOST_CLIENTS; k++)
         all.clients[k] = client_at(6);
-    if (!strangers_make(&strangers, 100, key))
+    if (!strangers_make(&strangers, 128, key))
         abort();
     drive("pings of a client", pings, &one, 2, 10);
     drive("pings of all clients", pings, &all, 8, 40);
@@ -931,8 +940,9 @@ static void gateway(void)
     drive("answers to an address", answers, &all, 32, 80);
     drive("answers of the router to a client", router_answers, &one, 188, 200);
     drive("answers of the router to an address", router_answers, &all, 752, 800);
-    drive("strangers at an address", at_one, &strangers, 100, 125);
-    drive("all strangers", at_all, &strangers, 200, 1000);
+    drive("strangers who register at an address", at_one, &strangers, 96, 120);
+    drive("all strangers who register", at_all, &strangers, 192, 960);
+    drive("all strangers who speak", speak, &strangers, 64, 320);
     strangers_free(&strangers);
     free(one.clients[0].queues);
     for (size_t k = 0; k < MOST_CLIENTS; k++)

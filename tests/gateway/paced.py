@@ -96,6 +96,7 @@ def none_overtakes():
         for first in range(0, MANY, OF_ONE):
             services = [(SERVER, name, CABLE, STATION, 0x451, 1) for name in names[first:first + OF_ONE]]
             wires[0].send(frame("raw", EVERYONE, STATION, sap_response(CABLE, STATION, services)))
+            gate.report()
         wires[0].send(frame("raw", EVERYONE, STATION, sap_response(CABLE, STATION, [(SERVER, names[-1], CABLE, STATION, 0x451, 16)])))
         assert f"services: {MANY - 1}\n" in gate.report()
         heard = [[] for _ in wires]

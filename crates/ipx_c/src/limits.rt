@@ -11,7 +11,7 @@ ghost use Rattle.ipx_limits.specs.Limits.{limits_at, household_at, told_on_links
 ghost use Rattle.ipx_limits.specs.Numbers.{most_rate};
 ghost use Rattle.ipx_limits.specs.Queues.{Taken, GivenBack, Unshared};
 ghost use Rattle.ipx_limits.specs.Receiving.{reads_of, Received, ReceivedAtAddress, HeardOfRouter, ReceivedOfRouter, Carried};
-ghost use Rattle.ipx_limits.specs.Strangers.{strangers_at, Sent, PingedStranger};
+ghost use Rattle.ipx_limits.specs.Strangers.{strangers_at, Sent};
 ghost use Rattle.ipx_c.specs.LimitValues.{setting_of, kind_at, kind_number, decision_number};
 
 use crate::limit_values::{decision_number, kind_at, kind_number, link_of};
@@ -326,16 +326,4 @@ pub extern "C" fn ipxr_strangers_send(
     ensures { (decision : Decision) × ((result ≡ decision_number decision) × Sent limits.now count decision address.old address.new all.old all.new) }
 {
     decision_number(limits.sends(count, address, all))
-}
-
-/// Whether a ping goes to somebody who speaks, but is no client: only where a registration has room behind it.
-#[unsafe(no_mangle)]
-pub extern "C" fn ipxr_strangers_ping(
-    limits: &StrangersLimits,
-    address: &mut Meter,
-    all: &mut Meter,
-) -> u8
-    ensures { (decision : Decision) × ((result ≡ decision_number decision) × PingedStranger limits.now decision address.old address.new all.old all.new) }
-{
-    decision_number(limits.pings(address, all))
 }

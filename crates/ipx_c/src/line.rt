@@ -1,7 +1,7 @@
 //! A narrow line, as C asks for it. It and its addresses lie in memory of C's own, and need no handle.
 ghost use Rattle.std.specs.Prelude.{◌≡◌, true};
 ghost use Rattle.ipx_limits.specs.LineMembers.{LineJoined, LineLeft, LineSpoken, LineSilent, LineSecond, is_silent};
-ghost use Rattle.ipx_limits.specs.LineRoom.{LineAsked, LineSent, lets_beyond, own_after, taken, own_cost, one_cost, one_owed, lets_answer, lets_stranger, lets_ping, strangers_owed, stranger_after};
+ghost use Rattle.ipx_limits.specs.LineRoom.{LineAsked, LineSent, lets_beyond, own_after, taken, own_cost, one_cost, one_owed, lets_answer, lets_stranger, strangers_owed, stranger_after};
 ghost use Rattle.ipx_limits.specs.declared.rank.Rank.{Rank};
 ghost use Rattle.std.specs.Prelude.{Option};
 ghost use Rattle.ipx_limits.specs.Strangers.{strangers_of_line};
@@ -130,21 +130,6 @@ pub extern "C" fn ipxr_line_lets_stranger(line: &mut Line, now: u64, address: &m
     ensures address { address.new ≡ one_owed now line.old address.old }
 {
     line.lets_stranger(now, address)
-}
-
-/// Whether a ping of so many bytes goes to one who speaks.
-#[unsafe(no_mangle)]
-pub extern "C" fn ipxr_line_lets_ping(
-    line: &mut Line,
-    now: u64,
-    bytes: usize,
-    address: &mut u64,
-) -> bool
-    ensures room { result ≡ lets_ping now line.new bytes address.new }
-    ensures line { line.new ≡ strangers_owed now line.old }
-    ensures address { address.new ≡ one_owed now line.old address.old }
-{
-    line.lets_ping(now, bytes, address)
 }
 
 /// It goes out.

@@ -6,7 +6,6 @@ pub mod OneClient
 pub mod OfFrames
 pub mod Settings
 pub mod ToStrangers
-pub mod PingsToStrangers
 pub mod NarrowLine
 pub mod WithinParts
 pub mod SentParts

@@ -12,7 +12,7 @@ use Rattle.ipx_limits.specs.Numbers.{second, most_rate}
 use Rattle.ipx_limits.specs.Deciding.{passes}
 use Rattle.ipx_limits.specs.Receiving.{in_word}
 use Rattle.ipx_limits.specs.Limits.{each_of}
-use Rattle.ipx_limits.specs.Strangers.{seconds_at_once, registration, at_once, one_each, strangers_at, weigh, may_go, Sent, Event, Passing, Sends, time_of, sent, AllRuns, OneRuns}
+use Rattle.ipx_limits.specs.Strangers.{seconds_at_once, registration, one_each, strangers_at, weigh, may_go, Sent, Event, Passing, Sends, time_of, sent, AllRuns, OneRuns}
 
 -- ---- one limit
 
@@ -20,7 +20,7 @@ more : (count others each : ℕ) → (count + others) * each ≡ count * each + 
 more count others each = omega arith
 
 -- what goes out fits, so it weighs what it is
-pub weighs : (used burst weight : ℕ) → used + in_word weight ≤ burst → burst < 2 ^ 64 - 1 → used + weight ≤ burst
+weighs : (used burst weight : ℕ) → used + in_word weight ≤ burst → burst < 2 ^ 64 - 1 → used + weight ≤ burst
 weighs used burst weight fits small = omega (arith, fits, small)
 
 -- what is used after some datagrams, and what it was before
@@ -41,7 +41,7 @@ step count others each old next new time is rest = omega (arith, is, rest, more 
 
 -- ---- what passes found room
 
-pub both : (a b : Bool) → passes (if a && b then Passes else TooMuchForStrangers) ≡ true → (a ≡ true) × (b ≡ true)
+both : (a b : Bool) → passes (if a && b then Passes else TooMuchForStrangers) ≡ true → (a ≡ true) × (b ≡ true)
 both true true e = (refl, refl)
 both true false e = (refl, e)
 both false true e = (e, refl)
@@ -97,13 +97,13 @@ module _ (limits : StrangersLimits) where
 
 -- ---- the limits of a setting
 
-at_most : (each rate : ℕ) → each * max (seconds_at_once * rate) at_once ≤ each * (seconds_at_once * rate + at_once)
+at_most : (each rate : ℕ) → each * max (seconds_at_once * rate) registration ≤ each * (seconds_at_once * rate + registration)
 at_most each rate = mul-le-mul_left each (omega arith)
 
-spread : (each rate : ℕ) → each * (seconds_at_once * rate + at_once) ≡ seconds_at_once * (each * rate) + at_once * each
+spread : (each rate : ℕ) → each * (seconds_at_once * rate + registration) ≡ seconds_at_once * (each * rate) + registration * each
 spread each rate = omega arith
 
-all_fits : (each rate : ℕ) → each * rate ≤ second → each ≤ second → each * max (seconds_at_once * rate) at_once < 2 ^ 64 - 1
+all_fits : (each rate : ℕ) → each * rate ≤ second → each ≤ second → each * max (seconds_at_once * rate) registration < 2 ^ 64 - 1
 all_fits each rate all one = omega (arith, at_most each rate, spread each rate, all, one)
 
 -- nanoseconds for each, and as many as there are in a second, are a second
@@ -113,14 +113,14 @@ all_small rate = all_fits (each_of rate) rate (div-mul-le_self second rate) (div
 pub one_small : (rate : ℕ) → rate ≤ most_rate → (strangers_at rate).one.burst < 2 ^ 64 - 1
 one_small rate few =
     let each : one_each rate ≤ 8 * second = div-le_self (8 * second) rate in
-    let count : max rate at_once ≤ most_rate = omega (arith, few) in
+    let count : max rate registration ≤ most_rate = omega (arith, few) in
     omega (arith, mul-le-mul_left (one_each rate) count, each)
 
 pub answered : (rate : ℕ) (decision : Decision) (address address' all all' : Meter) → Sent (strangers_at rate) registration decision address address' all all'
     → address.used ≡ 0 → all.used + registration * (strangers_at rate).all.each ≤ (strangers_at rate).all.burst → decision ≡ Passes
 answered rate decision address address' all all' s none fits =
     let limits = strangers_at rate in
-    let least : registration ≤ max rate at_once = omega arith in
+    let least : registration ≤ max rate registration = omega arith in
     let enough : one_each rate * registration ≤ limits.one.burst = mul-le-mul_left (one_each rate) least in
     let one : may_go limits.one registration address ≡ true = le-leb (address.used + weigh limits.one registration) limits.one.burst (omega (arith, none, enough)) in
     let every : may_go limits.all registration all ≡ true = le-leb (all.used + weigh limits.all registration) limits.all.burst (omega (arith, fits)) in

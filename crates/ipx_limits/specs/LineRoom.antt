@@ -166,12 +166,6 @@ lets_answer now line address = lets_one now line line.own address || lets_beyond
 abbrev pub lets_stranger : ℕ → Line → ℕ → Bool
 lets_stranger now line address = lets_one now line line.to_strangers address
 
--- a ping goes to one who speaks where the address' part has room for one more behind it, and so has that of all, unless each takes that whole
-abbrev pub lets_ping : ℕ → Line → (bytes address : ℕ) → Bool
-lets_ping now line bytes address =
-    lets_stranger now line address && nat_le (ahead now line.to_strangers + own_cost line bytes) (max own_at_once (own_cost line bytes))
-    && nat_le (ahead now address + one_cost line bytes) (most_of_one line)
-
 abbrev pub strangers_owed : ℕ → Line → Line
 strangers_owed now line = record line { to_strangers = owed now own_at_once (own_cost line line_longest) line.to_strangers }
 

@@ -17,16 +17,13 @@ use Rattle.ipx_limits.specs.Deciding.{passes, later}
 abbrev pub address_part : ℕ
 address_part = 8
 
--- the datagrams of a registration: its answer, that again, and two pings
-abbrev pub registration : ℕ
-registration = 4
-
--- seconds of what goes to all, that may go at once; of one address half of that; and never fewer than the datagrams of a registration, and a ping
+-- seconds of what goes to all, that may go at once; of one address half of that; and never fewer than the datagrams of a registration: its
+-- answer, that again, and two pings
 abbrev pub seconds_at_once : ℕ
 seconds_at_once = 2
 
-abbrev pub at_once : ℕ
-at_once = 1 + registration
+abbrev pub registration : ℕ
+registration = 4
 
 abbrev pub one_each : ℕ → ℕ
 one_each rate = address_part * second / rate
@@ -34,8 +31,8 @@ one_each rate = address_part * second / rate
 -- the limits for so many datagrams a second
 abbrev pub strangers_at : ℕ → StrangersLimits
 strangers_at rate = record {
-  all = record { each = each_of rate; burst = each_of rate * max (seconds_at_once * rate) at_once };
-  one = record { each = one_each rate; burst = one_each rate * max rate at_once };
+  all = record { each = each_of rate; burst = each_of rate * max (seconds_at_once * rate) registration };
+  one = record { each = one_each rate; burst = one_each rate * max rate registration };
 }
 
 abbrev pub strangers_of : ℕ → Option StrangersLimits
@@ -79,17 +76,6 @@ pub record Sent (limits : StrangersLimits) (count : ℕ) (decision : Decision) (
   pub decided : decision ≡ sends limits count address all
   pub of_address : address_then ≡ used_after address (weigh limits.one count) (passes decision)
   pub of_all : all_then ≡ used_after all (weigh limits.all count) (passes decision)
-
--- ---- a ping goes to who speaks without being a client, time and again while he doesn't answer: it leaves room for somebody's registration
-
-abbrev pub pings : StrangersLimits → Meter → Meter → Decision
-pings limits address all =
-    if may_go limits.one (1 + registration) address && may_go limits.all (1 + registration) all then Passes else TooMuchForStrangers
-
-pub record PingedStranger (limits : StrangersLimits) (decision : Decision) (address address_then all all_then : Meter) : Type 0 where
-  pub decided : decision ≡ pings limits address all
-  pub of_address : address_then ≡ used_after address limits.one.each (passes decision)
-  pub of_all : all_then ≡ used_after all limits.all.each (passes decision)
 
 -- ---- one after the other
 

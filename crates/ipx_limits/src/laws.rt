@@ -33,7 +33,7 @@ ghost use Rattle.ipx_limits.specs.declared.decision.Decision.{Decision};
 ghost use Rattle.ipx_limits.specs.declared.decision.Decision.TheVariants.{Passes};
 ghost use Rattle.ipx_limits.specs.declared.strangers.StrangersLimits.{StrangersLimits};
 ghost use Rattle.ipx_limits.specs.Numbers.{most_rate, own_at_once, line_short};
-ghost use Rattle.ipx_limits.specs.Strangers.{registration, strangers_at, may_go, Sent, PingedStranger, Event as ToStrangers, AllRuns, OneRuns, sent, time_of as time_to_strangers};
+ghost use Rattle.ipx_limits.specs.Strangers.{registration, strangers_at, Sent, Event as ToStrangers, AllRuns, OneRuns, sent, time_of as time_to_strangers};
 
 /// What happens to one of several receivers that all have to hear a packet is what happens to a receiver, so all that `ipx_fair` promises
 /// holds of it.
@@ -212,22 +212,6 @@ pub fn newcomer_is_answered()
     ensures { (rate : ℕ) (decision : Decision) (address address_then all all_then : Meter)
         → Sent (strangers_at rate) registration decision address address_then all all_then → address.used ≡ 0
         → all.used + registration * (strangers_at rate).all.each ≤ (strangers_at rate).all.burst → decision ≡ Passes }
-{}
-
-/// A ping to who isn't a client leaves room for a registration, at his address and of what goes to all, where there was; it is a datagram like
-/// any other; and where nothing else was sent lately it goes out.
-pub fn pings_leave_room()
-    ensures one { (limits : StrangersLimits) (decision : Decision) (address address_then all all_then : Meter)
-        → PingedStranger limits decision address address_then all all_then → limits.one.burst < 2 ^ 64 - 1
-        → may_go limits.one registration address ≡ true → may_go limits.one registration address_then ≡ true }
-    ensures all { (limits : StrangersLimits) (decision : Decision) (address address_then all all_then : Meter)
-        → PingedStranger limits decision address address_then all all_then → limits.all.burst < 2 ^ 64 - 1
-        → may_go limits.all registration all ≡ true → may_go limits.all registration all_then ≡ true }
-    ensures sent { (limits : StrangersLimits) (address address_then all all_then : Meter)
-        → PingedStranger limits Passes address address_then all all_then → limits.one.burst < 2 ^ 64 - 1 → limits.all.burst < 2 ^ 64 - 1
-        → Sent limits 1 Passes address address_then all all_then }
-    ensures goes { (rate : ℕ) (decision : Decision) (address address_then all all_then : Meter) → 0 < rate → rate ≤ most_rate
-        → PingedStranger (strangers_at rate) decision address address_then all all_then → address.used ≡ 0 → all.used ≡ 0 → decision ≡ Passes }
 {}
 
 /// A rank that comes first finds room wherever one behind it does.

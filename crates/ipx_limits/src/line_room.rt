@@ -1,13 +1,12 @@
 //! Which copies find room on a narrow line.
 ghost use Rattle.std.specs.Prelude.{◌≡◌, ◌≤◌, ◌^◌, true};
 ghost use Rattle.ipx_limits.specs.LineParts.{owed};
-ghost use Rattle.ipx_limits.specs.LineRoom.{place_of, use_at, is_alone, speaks_to_itself, is_within, has_part, says_little, rank_of, most_room, room_of, address_owed, LineAsked, most_used, line_after, LineSent, lets_beyond, taken, is_little, is_of_part, is_spoken, is_received, own_cost, own_after, one_cost, most_of_one, one_owed, lets_one, lets_answer, lets_stranger, lets_ping, strangers_owed, stranger_after};
+ghost use Rattle.ipx_limits.specs.LineRoom.{place_of, use_at, is_alone, speaks_to_itself, is_within, has_part, says_little, rank_of, most_room, room_of, address_owed, LineAsked, most_used, line_after, LineSent, lets_beyond, taken, is_little, is_of_part, is_spoken, is_received, own_cost, own_after, one_cost, most_of_one, one_owed, lets_one, lets_answer, lets_stranger, strangers_owed, stranger_after};
 
 use crate::limits::SECOND;
 use crate::line::{Line, LineAddress};
 use crate::line_parts::{LONGEST, MILLISECOND, SHORT, ahead, from_now, owed, times};
 use crate::rank::Rank;
-use ipx_fair::Meter;
 
 /// For how long the line may be busy when a copy goes out, by its rank.
 const BEYOND: u64 = 20 * MILLISECOND;
@@ -144,27 +143,6 @@ impl Line {
         *address = self.one_owed(now, *address);
         self.to_strangers = owed(now, SECOND, self.own_cost(LONGEST), self.to_strangers);
         self.lets_one(now, self.to_strangers, *address)
-    }
-
-    /// Whether a ping of so many bytes goes to somebody who speaks, but is no client: only where his address and all who are no clients have
-    /// room for one more behind it, so that who speaks on and never answers keeps no newcomer out. (below 22 kilobits a second one takes all
-    /// that may go at once, and goes where nothing else did)
-    pub fn lets_ping(&mut self, now: u64, bytes: usize, address: &mut u64) -> bool
-        ensures room { result ≡ lets_ping now self.new bytes address.new }
-        ensures line { self.new ≡ strangers_owed now self.old }
-        ensures address { address.new ≡ one_owed now self.old address.old }
-    {
-        let has_room = self.lets_stranger(now, address);
-        let (cost, of_one) = (self.own_cost(bytes), self.one_cost(bytes));
-        let part = Meter {
-            used: ahead(now, self.to_strangers),
-        };
-        let of_address = Meter {
-            used: ahead(now, *address),
-        };
-        has_room
-            && part.has_room(SECOND.max(cost), cost)
-            && of_address.has_room(self.most_of_one(), of_one)
     }
 
     /// It goes out.

@@ -1,7 +1,7 @@
 //! What a tunnel sends to places that have no client.
 ghost use Rattle.std.specs.Prelude.{◌≡◌, ◌≤◌, ◌<◌, ◌*◌, ◌^◌};
 ghost use Rattle.ipx_limits.specs.Numbers.{second};
-ghost use Rattle.ipx_limits.specs.Strangers.{one_each, strangers_of, with_spare, line_limit, strangers_of_line, Sent, PingedStranger};
+ghost use Rattle.ipx_limits.specs.Strangers.{one_each, strangers_of, with_spare, line_limit, strangers_of_line, Sent};
 
 use crate::decision::Decision;
 use crate::limits::{Limit, MOST_RATE, SECOND, each_of, times};
@@ -15,11 +15,8 @@ const ADDRESS_PART: u64 = 8;
 /// Seconds of what goes to all, that may go at once.
 const SECONDS_AT_ONCE: u64 = 2;
 
-/// The datagrams of a registration: its answer, that again, and two pings.
+/// The datagrams of a registration, which may go to one address at once in any case: its answer, that again, and two pings.
 const REGISTRATION: u64 = 4;
-
-/// Datagrams that may go to one address at once in any case: those of a registration, and a ping.
-const AT_ONCE: u64 = 1 + REGISTRATION;
 
 /// Registrations by a narrow line at once.
 const LINE_REGISTRATIONS: u64 = 4;
@@ -56,11 +53,11 @@ impl StrangersLimits {
         Some(StrangersLimits {
             all: Limit {
                 each,
-                burst: times(each, (SECONDS_AT_ONCE * rate).max(AT_ONCE)),
+                burst: times(each, (SECONDS_AT_ONCE * rate).max(REGISTRATION)),
             },
             one: Limit {
                 each: one,
-                burst: times(one, rate.max(AT_ONCE)),
+                burst: times(one, rate.max(REGISTRATION)),
             },
         })
     }
@@ -85,22 +82,6 @@ impl StrangersLimits {
         let to_one = count.saturating_mul(self.one.each);
         let to_all = count.saturating_mul(self.all.each);
         if address.both_let(self.one.burst, to_one, all, self.all.burst, to_all) {
-            Decision::Passes
-        } else {
-            Decision::TooMuchForStrangers
-        }
-    }
-
-    /// Whether a ping goes to somebody who speaks, but is no client: only where a registration has room behind it, at his address and of what
-    /// goes to all. So who speaks on and never answers keeps nobody out.
-    pub fn pings(&self, address: &mut Meter, all: &mut Meter) -> Decision
-        ensures { PingedStranger self.now result address.old address.new all.old all.new }
-    {
-        let of_one = AT_ONCE.saturating_mul(self.one.each);
-        let of_all = AT_ONCE.saturating_mul(self.all.each);
-        if address.has_room(self.one.burst, of_one) && all.has_room(self.all.burst, of_all) {
-            address.used += self.one.each;
-            all.used += self.all.each;
             Decision::Passes
         } else {
             Decision::TooMuchForStrangers

@@ -239,7 +239,7 @@ static void say_within_limits(void)
                ipxr_limits_answers(&limits, 1, &client, &address) | ipxr_limits_router_answers(&limits, 1, &client, &address) |
                ipxr_limits_hands(&limits, 1, kind, &client, &address, &handed, &advertised) |
                ipxr_limits_frames_hand(&limits, 0, IPXR_KIND_TOLD, &handed, &advertised, &fair) |
-               ipxr_strangers_send(&strangers, 1, &handed, &advertised) | ipxr_strangers_ping(&strangers, &handed, &advertised));
+               ipxr_strangers_send(&strangers, 1, &handed, &advertised));
 }
 
 /* Everybody says so much that each queue has some of it. */

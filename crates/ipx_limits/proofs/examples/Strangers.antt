@@ -3,7 +3,7 @@ use Rattle.std.proofs.Common.{◌≡◌, refl, ◌*◌, ◌/◌, None, replicate
 use Rattle.ipx_limits.specs.declared.decision.Decision.TheVariants.{Passes, TooMuchForStrangers}
 use Rattle.ipx_limits.specs.declared.strangers.StrangersLimits.{StrangersLimits}
 use Rattle.ipx_limits.specs.Numbers.{second}
-use Rattle.ipx_limits.specs.Strangers.{strangers_at, strangers_of, strangers_of_line, sends, pings, Sent, PingedStranger}
+use Rattle.ipx_limits.specs.Strangers.{strangers_at, strangers_of, strangers_of_line, sends, Sent}
 
 abbrev limits : StrangersLimits
 limits = strangers_at 100
@@ -20,11 +20,11 @@ one_in_a_second = refl
 pub one_at_once : limits.one.burst / limits.one.each ≡ 100
 one_at_once = refl
 
--- however few there may be, a registration is answered, and somebody pinged beside it
-pub few_at_once : (strangers_at 1).one.burst / (strangers_at 1).one.each ≡ 5
+-- however few there may be, a registration is answered
+pub few_at_once : (strangers_at 1).one.burst / (strangers_at 1).one.each ≡ 4
 few_at_once = refl
 
-pub few_at_once_of_all : (strangers_at 1).all.burst / (strangers_at 1).all.each ≡ 5
+pub few_at_once_of_all : (strangers_at 1).all.burst / (strangers_at 1).all.each ≡ 4
 few_at_once_of_all = refl
 
 pub is_answered : Sent limits 2 Passes (record { used = 0 }) (record { used = 160000000 }) (record { used = 1980000000 }) (record { used = 2000000000 })
@@ -35,17 +35,6 @@ all_were_sent_enough = record { decided = refl; of_address = refl; of_all = refl
 
 pub one_was_sent_enough : sends limits 1 (record { used = 8000000000 }) (record { used = 0 }) ≡ TooMuchForStrangers
 one_was_sent_enough = refl
-
--- who speaks without being a client is pinged while a registration has room behind it: at his address, where a datagram takes 80 milliseconds, until
--- 7.6 seconds are used, and of what goes to all until 1.95 are
-pub is_pinged : PingedStranger limits Passes (record { used = 7600000000 }) (record { used = 7680000000 }) (record { used = 1950000000 }) (record { used = 1960000000 })
-is_pinged = record { decided = refl; of_address = refl; of_all = refl }
-
-pub leaves_room_at_an_address : pings limits (record { used = 7600000001 }) (record { used = 0 }) ≡ TooMuchForStrangers
-leaves_room_at_an_address = refl
-
-pub leaves_room_of_all : pings limits (record { used = 0 }) (record { used = 1950000001 }) ≡ TooMuchForStrangers
-leaves_room_of_all = refl
 
 -- by a line of 64 kilobits a second a datagram takes 10.6 milliseconds, of which strangers have one part in 32, and a fifth of that is spare: so
 -- somebody may register every 1.7 seconds, and four may at once
