@@ -33,8 +33,8 @@ static struct {
 /* What is used of nobody's part. */
 static uint64_t nobody;
 
-/* Who speaks is pinged so often at once. (else pings would use up for seconds what registrations wait for) */
-enum { PINGS_AT_ONCE = 4 };
+/* So many pings go at once to those who speak. (more would use up for a moment what a registration finds of the line) */
+enum { PINGS_AT_ONCE = 2 };
 
 static void limit_pings(ipxr_limit *limit)
 {
