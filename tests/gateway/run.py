@@ -7,6 +7,7 @@ import asked
 import attacks
 import bochs
 import complaints
+import conformance
 import counting
 import dosbox
 import edge
@@ -47,8 +48,8 @@ from systems import SYSTEM, Windows
 from trying import Counts, left_out
 
 ALL = (counting, words, siphash, queues, unit, orders, status, events, probes, reloading, staying, tunnel, nodes, links, edge, statics, internal,
-       paced, six, names, segments, kinds, made_up, troubles, reload_memory, wires, refused, houses, attacks, forged, limits, complaints, asked,
-       fair, slow_pc, narrow, lossy, dosbox, pc, bochs)
+       paced, six, names, segments, kinds, made_up, troubles, reload_memory, wires, conformance, refused, houses, attacks, forged, limits,
+       complaints, asked, fair, slow_pc, narrow, lossy, dosbox, pc, bochs)
 TESTS = {it.__name__: it for it in ALL}
 
 
