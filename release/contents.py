@@ -21,6 +21,8 @@ MODULES = [f"page/{it}.mjs" for it in [*DRAWING, *READING, "file_kinds", "wrong_
 WRITING = ["packet", "packet.mjs", "packet_data.mjs", "packet_scripts.mjs", "packet_words.mjs"]
 OTHERS = "explain explain.mjs files.mjs json output_lines.py pcap.py picture picture.mjs program.mjs to-pcap".split()
 TOOLS = [f"tools/{it}" for it in [*WRITING, *OTHERS]] + MODULES
+# What tries other routers, on Linux alone: with its scenarios.
+SUITE = ["tools/conformance", *(f"tools/lib/{it}.py" for it in ("scenarios", "ipx_packets", "conformance_links", "conformance_play")), "tests/conformance"]
 LINK = re.compile(r"(?<!!)\[([^]]*)\]\(([^)#\s]+)(#[^)]*)?\)")
 
 

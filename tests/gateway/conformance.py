@@ -30,6 +30,7 @@ OF_A_BRIDGE = {
     "type-20/to-all-others": "content data=C0FFEE (not crossed=10 data=C0FFEE)",
     "learning/route": "hops=1 ticks=2 (not network=CD01 hops=2 ticks=3)",
 }
+CHANGED = ("answers/all-routes", "learning/route", "type-20/eight-networks")
 SLOW = [it for it in scenarios.files() if f"/{scenarios.SLOW}/" in it]
 # Seconds of a clock that the test sets: in which the gateway opens its links, and how long each lasts; and a frame that is no packet.
 FIRST, BETWEEN_SECONDS = 3, 0.02
@@ -177,7 +178,7 @@ def inside():
     ip("link", "set", "lo", "up")
     counts = Counts()
     if has_taps():
-        seen = [named(f"A changed answer of {it} is seen", what_is_changed, it) for it in ("answers/all-routes", "learning/route", "type-20/eight-networks")]
+        seen = [named(f"A changed answer of {it} is seen", what_is_changed, it) for it in CHANGED]
         counts += tried(the_gateway, in_raw_frames, somebodys_router, slow_ones, *seen)
     else:
         left_out("the suite of conformance, of the gateway", "no TAP can be made")

@@ -30,7 +30,7 @@ IN_C = ("include/ipxr.h include/ipxr_tunnel.h include/ipxr_keyed.h include/ipxr_
         "include/ipxr_fates.h include/ipxr_edge.h")
 ON_LINUX = f"""bin/ipxr sbin/ipxr-gateway {IN_C} lib/libipxr.a lib/libipxr.so lib/libipxr.so.{{first}} lib/libipxr.so.{{version}}
     lib/pkgconfig/ipxr.pc share/man/man1/ipxr.1 share/man/man8/ipxr-gateway.8 share/ipxr/ipxr-gateway.conf
-    share/ipxr/ipxr-gateway.service share/bash-completion/completions/ipxr share/zsh/site-functions/_ipxr"""
+    tools/conformance tools/lib/scenarios.py tests/conformance/answers/all-routes.out share/ipxr/ipxr-gateway.service share/bash-completion/completions/ipxr share/zsh/site-functions/_ipxr"""
 ON_WINDOWS = f"ipxr.exe ipxr-gateway.exe ipxr.dll {IN_C} lib/libipxr.a lib/libipxr.dll.a lib/ipxr.lib gateway.conf"
 AS_C = "ipxr.c README NOTICE man/man1/ipxr.1 man/man5/ipxr-script.5"
 HOLDS = {

@@ -1,5 +1,6 @@
 """Links for the conformance suite: packets in frames, on the cards or TAPs that lead to a router; and what can stand behind them: the gateway,
 which is started anew for each scenario, somebody's router, or a bridge, which is none."""
+import contextlib
 import os
 import socket
 import struct
@@ -59,15 +60,25 @@ class Link:
     def __init__(self, name, kind):
         self.name, self.kind = name, kind
         self.socket = socket.socket(socket.AF_PACKET, socket.SOCK_RAW, socket.htons(ALL_PROTOCOLS))
-        self.socket.setsockopt(socket.SOL_SOCKET, socket.SO_RCVBUF, ROOM)
-        self.socket.bind((name, ALL_PROTOCOLS))
-        # (the router writes to the nodes of the scenario, and not to the card's)
-        member = struct.pack("iHH8s", socket.if_nametoindex(name), PROMISCUOUS, 0, b"")
-        self.socket.setsockopt(SOL_PACKET, ADD_MEMBERSHIP, member)
+        with self.named():
+            self.socket.setsockopt(socket.SOL_SOCKET, socket.SO_RCVBUF, ROOM)
+            self.socket.bind((name, ALL_PROTOCOLS))
+            # (the router writes to the nodes of the scenario, and not to the card's)
+            member = struct.pack("iHH8s", socket.if_nametoindex(name), PROMISCUOUS, 0, b"")
+            self.socket.setsockopt(SOL_PACKET, ADD_MEMBERSHIP, member)
         self.socket.setblocking(False)
 
+    @contextlib.contextmanager
+    def named(self):
+        """A fault of the system names the card."""
+        try:
+            yield
+        except OSError as why:
+            raise NoRouter(f"{self.name}: {why.strerror}") from why
+
     def send(self, to, source, bytes_):
-        self.socket.send(frame(self.kind, to, source, bytes_))
+        with self.named():
+            self.socket.send(frame(self.kind, to, source, bytes_))
 
     def receive(self):
         """All packets that came by now."""
@@ -77,6 +88,8 @@ class Link:
                 bytes_, place = self.socket.recvfrom(65536)
             except BlockingIOError:
                 return found
+            except OSError as why:
+                raise NoRouter(f"{self.name}: {why.strerror}") from why
             packet = unframed(self.kind, bytes_) if place[2] != OUTGOING else None
             if packet is not None:
                 found.append(Heard(bytes_[6:12], bytes_[:6], packet))
@@ -111,9 +124,9 @@ class Links:
         """Gets it ready for a scenario. Afterwards `nodes` has its node on each link, or None where nobody was heard."""
         if len(self.nodes) < len(scenario.ports):
             self.nodes = self.asked(scenario, networks)
-            silent = [name for name, node in zip(self.names, self.nodes) if node is None]
-            if silent:
-                print(f"no router was heard on {', '.join(silent)}: what is for its node goes to that of the scenario", flush=True)
+            for name, port, node in zip(self.names, scenario.ports, self.nodes):
+                who = f"a router at node {ipx.number(node)}" if node else "no router is heard; what is for it goes to the node of the scenario"
+                print(f"{name}, network {ipx.number(networks.get(port.network, port.network))}: {who}", flush=True)
         self.drain()
 
     def asked(self, scenario, networks):

@@ -181,7 +181,8 @@ def merged(packets):
         is_part = it.to != ipx.EVERYONE and ipx.is_response(it.bytes)
         key = (it.port, it.source, it.to, front) if is_part else (len(found), it)
         other = found.get(key)
-        found[key] = it if other is None else it._replace(bytes=in_order(ipx.with_entries(it.bytes, ipx.entries(other.bytes) + ipx.entries(it.bytes))))
+        both = [] if other is None else ipx.entries(other.bytes) + ipx.entries(it.bytes)
+        found[key] = it._replace(bytes=in_order(ipx.with_entries(it.bytes, both))) if both else it
     return list(found.values())
 
 

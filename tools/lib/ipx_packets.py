@@ -138,7 +138,8 @@ def words(bytes_):
 def fields(bytes_):
     """What a packet has, by name, for a comparison."""
     kind, rest = body(bytes_)
-    return {"checksum": bytes_[:2].hex().upper(), "length": str(int.from_bytes(bytes_[2:4], "big")), "control": str(bytes_[4]), "type": str(bytes_[5]),
+    length = str(int.from_bytes(bytes_[2:4], "big"))
+    return {"checksum": bytes_[:2].hex().upper(), "length": length, "control": str(bytes_[4]), "type": str(bytes_[5]),
             "to": address(bytes_[6:18]), "from": address(bytes_[18:30]), "kind": kind, "content": " ".join(rest)}
 
 
