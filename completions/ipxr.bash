@@ -49,7 +49,7 @@ _ipxr_gateway() {
         mapfile -t COMPREPLY < <(compgen -W "--check --example --help --log --pcap --status --version" -- "$word")
     else
         _ipxr_files "$word" '*.conf'
-        [ "$COMP_CWORD" != 1 ] || mapfile -t -O ${#COMPREPLY[@]} COMPREPLY < <(compgen -W "show ping trace reload" -- "$word")
+        [ "$COMP_CWORD" != 1 ] || mapfile -t -O ${#COMPREPLY[@]} COMPREPLY < <(compgen -W "show ping trace reload try" -- "$word")
     fi
 }
 

@@ -14,6 +14,7 @@
 #include "monitoring/capture.h"
 #include "monitoring/note.h"
 #include "monitoring/status.h"
+#include "monitoring/trial.h"
 #include "systems/clock.h"
 #include "tunnel/tunnel.h"
 
@@ -198,6 +199,7 @@ uint16_t gateway_answer(gateway *it, arrived *what, uint8_t next)
 void gateway_settle(gateway *it, const arrived *what, const ipxr_course *way)
 {
     ipxr_counts_count(&what->on->counts.packets, way);
+    trial_hears(what, way);
     if (way->fate == IPXR_FATE_LOST && way->number != TOO_MANY_ANSWERS)
         tell_lost(what->on, (reason)way->number);
     if (way->fate == IPXR_FATE_HANDED_ON)

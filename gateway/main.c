@@ -11,6 +11,7 @@
 #include "monitoring/note.h"
 #include "monitoring/output.h"
 #include "monitoring/status.h"
+#include "monitoring/trial.h"
 #include "systems/local.h"
 #include "systems/orders.h"
 #include "systems/system.h"
@@ -24,6 +25,7 @@ typedef struct {
     const char *capture;
     const char *status;
     const char *configuration;
+    unsigned trial; /* minutes, or 0 */
 } options;
 
 /* Tells what is wrong with a word of the command line, or with its end where the word is NULL. */
@@ -56,8 +58,24 @@ static const char **named_by(options *it, const char *word)
     return strcmp(word, "--pcap") == 0 ? &it->capture : strcmp(word, "--status") == 0 ? &it->status : NULL;
 }
 
+/* Reads the words of a trial. */
+static bool read_trial(options *it, int count, char **words)
+{
+    char end = '\0';
+    it->trial = USUAL_TRIAL;
+    it->capture = TRIAL_CAPTURE;
+    it->configuration = count > 2 ? words[2] : NULL;
+    if (count < 3)
+        return use_fault(NULL, "a configuration behind try");
+    if (count > 3 && (sscanf(words[3], "%5u%c", &it->trial, &end) != 1 || it->trial < 1 || it->trial > LONGEST_TRIAL))
+        return use_fault(words[3], "minutes, 1 to 1440");
+    return count < 5 || use_fault(words[4], "nothing more");
+}
+
 static bool read_options(options *it, int count, char **words)
 {
+    if (count > 1 && strcmp(words[1], "try") == 0)
+        return read_trial(it, count, words);
     for (int k = 1; k < count; k++) {
         const char **name = named_by(it, words[k]);
         if (name != NULL && k + 1 == count)
@@ -79,6 +97,7 @@ static bool read_options(options *it, int count, char **words)
 static void show_use(FILE *file)
 {
     fprintf(file, "ipxr-gateway [--log] [--pcap FILE] [--status SOCKET] CONFIG   routes until it is told to stop\n"
+                  "ipxr-gateway try CONFIG [MINUTES]   does so beside other routers, for 10 minutes, and writes what they say\n"
                   "ipxr-gateway --check CONFIG   says what is wrong with a configuration\n"
                   "ipxr-gateway --example        prints one\n"
                   "ipxr-gateway --version        prints its version\n"
@@ -141,9 +160,13 @@ static int route(const options *it, const settings *set)
     }
     if (it->status != NULL && !open_status(it->status))
         return CANNOT_OPEN;
+    if (it->trial > 0 && !trial_begin(it->trial)) {
+        complain("ipxr-gateway: %s: can't be opened: %s", TRIAL_TEXT, fault_words());
+        return CANNOT_OPEN;
+    }
     if (!gateway_start(&gate))
         return CANNOT_OPEN;
-    while (!is_told_to_end()) {
+    while (!is_told_to_end() && !trial_is_over()) {
         /* (what came before somebody asked is in the report) */
         bool was_asked = is_asked_to_report();
         gateway_turn(&gate, !was_asked);
@@ -151,10 +174,14 @@ static int route(const options *it, const settings *set)
             reload(&gate);
         if (was_asked)
             gateway_report(&gate);
+        trial_turn(&gate);
     }
     gateway_report(&gate);
+    bool is_told = trial_end(&gate, it->configuration);
+    if (!is_told)
+        complain("ipxr-gateway: %s: can't be written: %s", TRIAL_TEXT, fault_words());
     gateway_stop(&gate);
-    return 0;
+    return is_told ? 0 : CANNOT_OPEN;
 }
 
 static int route_and_say(const options *it, const settings *set)

@@ -5,6 +5,7 @@ import sys
 
 import asked
 import attacks
+import beside
 import bochs
 import complaints
 import conformance
@@ -48,7 +49,7 @@ from systems import SYSTEM, Windows
 from trying import Counts, left_out
 
 ALL = (counting, words, siphash, queues, unit, orders, status, events, probes, reloading, staying, tunnel, nodes, links, edge, statics, internal,
-       paced, six, names, segments, kinds, made_up, troubles, reload_memory, wires, conformance, refused, houses, attacks, forged, limits,
+       paced, beside, six, names, segments, kinds, made_up, troubles, reload_memory, wires, conformance, refused, houses, attacks, forged, limits,
        complaints, asked, fair, slow_pc, narrow, lossy, dosbox, pc, bochs)
 TESTS = {it.__name__: it for it in ALL}
 

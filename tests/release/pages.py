@@ -113,6 +113,7 @@ ASKED = {
     "ipxr-gateway --": "--check --example --help --log --pcap --status --version",
     "ipxr-gateway --check gateway/configuration/ex": "gateway/configuration/example.conf",
     "ipxr-gateway sh": "show",
+    "ipxr-gateway tr": "trace try",
     "ipxr-gateway show l": "links",
     "ipxr-gateway show events --": "--json --prometheus --status",
     "ipxr-gateway ping 10.7F0000010BB8 ": "--status",
