@@ -91,7 +91,7 @@ static void check_tunnel(const gateway *it, network *on)
     bool is_tunnel = on->set->type == LINK_DOSBOX;
     if (is_tunnel || on->roster.count > 0)
         check_clients(it, on);
-    if (!is_tunnel && (on->tunnel.made || on->roster.list != NULL || on->strangers.hosts != NULL))
+    if (!is_tunnel && (on->tunnel.made || on->roster.list != NULL || on->strangers.hosts[0] != NULL))
         wrong("network %X is no tunnel, and has something of one", (unsigned)on->set->network);
     if (is_tunnel && on->roster.room != on->set->clients)
         wrong("network %X may have %u clients, and has room for %zu", (unsigned)on->set->network, on->set->clients, on->roster.room);
