@@ -101,7 +101,7 @@ static void show_use(FILE *file)
                   "ipxr-gateway --check CONFIG   says what is wrong with a configuration\n"
                   "ipxr-gateway --example        prints one\n"
                   "ipxr-gateway --version        prints its version\n"
-                  "ipxr-gateway show [links | clients | stations | routes | services | counts | events] [--json] [--status SOCKET]\n"
+                  "ipxr-gateway show [links | clients | stations | routes | services | edge | counts | events] [--json] [--status SOCKET]\n"
                   "ipxr-gateway show counts --prometheus, ping NETWORK.NODE, trace NETWORK, reload   ask one that runs, by its SOCKET\n"
                   "--log writes a line for each packet, --pcap captures them. The manual page is ipxr-gateway(8).\n");
 }
