@@ -21,7 +21,7 @@ ASKED_AGAIN, WAITS = 5, 4  # seconds after which the library asks who is silent,
 NEWCOMERS = 3  # registrations of one who wants to come in
 HOUSEHOLD, APART = 4, 2.5  # who only listen at one address, and seconds from one to the next
 SLOW, LISTENERS, FEW = 64, 3, 20  # kilobits a second; who only listens there; and strangers who register there in a second
-OFTEN, BEHIND, MOST = 27, 2, 100  # registrations a second; seconds from a reload to the next; clients of a network
+OFTEN, BEHIND, MOST = 27, 3, 100  # registrations a second; seconds from a reload to the next; clients of a network
 QUIET_SPEAKER = 11  # seconds after which who said only its first word isn't one of those who speak
 LITTLE = 10  # parts of what is lost at most of one speaker, of what all may lose
 
