@@ -5,6 +5,7 @@
 
 #include "ipx.h"
 #include "ipxr_edge.h"
+#include "links/statics.h"
 #include "monitoring/note.h"
 #include "systems/clock.h"
 
@@ -93,13 +94,13 @@ static bool names_nearest(const uint8_t *packet, size_t length)
     return length >= TO_SERVICE && get16(packet + AT_FROM_SOCKET) == IPXR_SAP_SOCKET && get16(packet + AT_OPERATION) == NEAREST_RESPONSE;
 }
 
-/* The fewest hops of a server of a type that was heard on a port; IPXR_NO_LIMIT where none was. */
-static uint16_t fewest_hops(gateway *it, uint8_t number, uint16_t type)
+/* The fewest hops of a server of a type that speaks for itself on a network; IPXR_NO_LIMIT where none does. */
+static uint16_t fewest_hops(gateway *it, const network *on, uint16_t type)
 {
     uint16_t fewest = IPXR_NO_LIMIT;
     ipxr_service_record service;
     for (size_t k = 0; ipxr_service(&it->router, k, &service) == 0; k++)
-        if (service.port == number && service.type == type && service.hops < fewest)
+        if (service.port == on->set->port && service.type == type && service.hops < fewest && !statics_have(on->set, &service))
             fewest = service.hops;
     return fewest;
 }
@@ -110,7 +111,7 @@ static bool is_needless(gateway *it, const network *on, const ipxr_port *at, con
     bool has_clients = on->set->type == LINK_DOSBOX || on->set->is_of_several;
     if (has_clients || !on->set->adopts || !names_nearest(packet, length))
         return false;
-    uint16_t fewest = fewest_hops(it, (uint8_t)on->set->port, get16(packet + AT_SERVICE));
+    uint16_t fewest = fewest_hops(it, on, get16(packet + AT_SERVICE));
     return fewest != IPXR_NO_LIMIT && ipxr_edge_is_needless(at, fewest, packet, length) == 1;
 }
 

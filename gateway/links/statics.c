@@ -88,6 +88,17 @@ void statics_forget(gateway *it)
         it->networks[k].statics_said = 0;
 }
 
+bool statics_have(const network_setting *set, const ipxr_service_record *service)
+{
+    const ipxr_static_service *list = set->static_services;
+    size_t k = 0;
+    while (k < set->static_service_count &&
+           (list[k].service.type != service->type || memcmp(list[k].service.name, service->name, sizeof service->name) != 0 ||
+            !same_node(list[k].via, service->neighbour)))
+        k++;
+    return k < set->static_service_count;
+}
+
 /* ---- Other lines ---- */
 
 static bool leads_there(const network_setting *set, const ipxr_static_route *line)

@@ -10,6 +10,9 @@ void statics_second(gateway *it);
 /* It has forgotten all of them: it is another router. */
 void statics_forget(gateway *it);
 
+/* Whether a service was heard by a line of the network's: its server says nothing itself. */
+bool statics_have(const network_setting *set, const ipxr_service_record *service);
+
 /* The lines of a network are others now, and its router is the same: what they say no more ends at once. */
 void statics_change(gateway *it, network *on, const network_setting *was);
 

@@ -1,17 +1,15 @@
 """Routes and services by way of nodes that say nothing themselves, as lines of the configuration say them."""
-import struct
-
 from changed import Changed
-from frames import Station, Udp
-from lab import GAME, Client, Clock, Gateway, address, tunnels, until
 from edge import nearest_for, routes_told, services_of, unnumbered
+from frames import Udp
+from lab import GAME, Client, Clock, Gateway, address, free_ports, sap_response, tunnels, until
 from systems import SYSTEM
 from trying import begin, has_linux, tried
 
 NETWORK, CABLE = 0x10, 0x20
 VIA, OTHER = bytes.fromhex("00001B0204AA"), bytes.fromhex("00001B0204BB")
 SERVER, FIRST, MANY = bytes.fromhex("000000000001"), 0x1000, 60  # a server's node; and more routes than a packet has room for
-LIFETIME, DAY = 180, 400  # seconds of a record, and more than two of them
+LONG = 400  # seconds: more than twice a record lasts
 ROUTE, SERVICE = "route A1 2 3 via 00001B0204AA\n", "service 4010 FILES A1.000000000001.451 3 via 00001B0204AA\n"
 
 
@@ -37,11 +35,22 @@ def are_learned():
         assert station.network == 0
 
 
+def it_answers_nobody():
+    """A server that a line names says nothing to who asks for the nearest on its cable: the router names the one elsewhere."""
+    wire = Udp()
+    with Gateway(with_lines(wire, SERVICE + "service 4010 OLD 20.000000000001.451 1 via 00001B0204AA\n")) as gate:
+        station, far = unnumbered(gate, wire), Client(gate.ports[NETWORK])
+        station.network = CABLE
+        far.send(sap_response(NETWORK, far.node, [(0x4010, "FAR", 0x99, far.node, 0x451, 5)]))
+        until(lambda: "services: 3\n" in gate.report(), "all services")
+        assert nearest_for(station, gate.nodes[CABLE]) == ("FAR", 6)
+
+
 def they_stay():
     """By a set clock they stay, however long nobody says them: the gateway does, also after the link was away."""
     wire, clock = Udp(), Clock()
     with Gateway(with_lines(wire, ROUTE + SERVICE), program=SYSTEM.fast, environment=clock.environment()) as gate:
-        for _ in range(DAY):
+        for _ in range(LONG):
             clock.let_pass(1)
             report = gate.report()
         assert "\n  000000A1 hops 2 ticks 3 by 00001B0204AA on 00000020" in report and "services: 1\n" in report, report
@@ -50,8 +59,8 @@ def they_stay():
 def they_end():
     """A reload without a line ends what it said at once, and a line more is heard at once; the router runs on."""
     wire = Udp()
-    (near,) = (Udp().port,)
-    with Changed(with_lines(wire, ROUTE + SERVICE, near).replace(":0\n", ":0\n")) as gate:
+    (near,) = free_ports(1)
+    with Changed(with_lines(wire, ROUTE + SERVICE, near)) as gate:
         far = Client(gate.ports[NETWORK])
         until(lambda: "routes: 1\n" in gate.report() and "services: 1\n" in gate.report(), "both")
         told = gate.reload(with_lines(wire, "route A2 2 3 via 00001B0204BB\n", near))
@@ -63,7 +72,7 @@ def they_end():
 
 
 def main():
-    counts = tried(are_learned)
+    counts = tried(are_learned, it_answers_nobody)
     if has_linux("lines that change, and that stay", "the status socket and the clock that a test sets are Linux' own"):
         counts.run(they_stay)
         counts.run(they_end)
