@@ -35,7 +35,8 @@ build:
 	@tools/build
 
 # Proves the library for C, and puts build/libipxr.a and its header there, for any x86-64, or for later ones as by CPU=x86-64-v3; with
-# tables of other sizes as by PORTS=8 ROUTES=256 SERVICES=128 CLIENTS=64 LINKS=4 STATIONS=100. Needs a C compiler; docs/LIBIPXR.md.
+# tables of other sizes as by PORTS=8 ROUTES=256 SERVICES=128 CLIENTS=64 LINKS=4 STATIONS=100, or another lifetime as by LIFETIME=240. Needs a
+# C compiler; docs/LIBIPXR.md.
 embed:
 	@tools/embed
 

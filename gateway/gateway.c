@@ -26,7 +26,7 @@ enum { MOST_AT_ONCE = 64, MOST_TURNS_FIRST = 512 };
 enum { LOOKS_AGAIN = 20 };
 
 /* Seconds of a record, up to the one in which it ends, and those from one time that a neighbour says it to the next, where he is late. */
-enum { RECORD_LASTS = 180, SAID_AGAIN = 61 };
+enum { RECORD_LASTS = IPXR_LIFETIME, SAID_AGAIN = 61 };
 
 /* How many of the seconds that are late the router hears of. A record that was heard a minute before the gateway stood still, and of which
  * nothing came since, is said again a minute after; it is there until then. */

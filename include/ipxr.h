@@ -60,6 +60,9 @@ extern "C" {
 #define IPXR_MOST_ROUTES 2048
 #define IPXR_MOST_SERVICES 1024
 
+/* For how many seconds a router believes what a neighbour told it, if nothing more is heard of it. */
+#define IPXR_LIFETIME 180
+
 /* The broadcast node is six bytes of this. */
 #define IPXR_BROADCAST_BYTE 0xFF
 
@@ -188,7 +191,7 @@ typedef struct ipxr_route_record {
     uint16_t ticks;   /* ticks for the way, likewise */
     uint8_t node[6];  /* the neighbour that advertised it */
     uint8_t port;     /* the port by which it came */
-    uint8_t age;      /* seconds since it was advertised last: under 180 */
+    uint8_t age;      /* seconds since it was advertised last: under IPXR_LIFETIME */
 } ipxr_route_record;
 
 /* A service that was learned. */
@@ -201,7 +204,7 @@ typedef struct ipxr_service_record {
     uint16_t hops;     /* routers on the way, as the neighbour advertised it: under 16 */
     uint8_t neighbour[6]; /* the neighbour that advertised it */
     uint8_t port;      /* the port by which it came */
-    uint8_t age;       /* seconds since it was advertised last: under 180 */
+    uint8_t age;       /* seconds since it was advertised last: under IPXR_LIFETIME */
 } ipxr_service_record;
 
 /* An address, of a packet that is written: a socket on a node of a network. */

@@ -9,7 +9,7 @@ CC = "cc"
 # (the header that a library was built with stands before the sources' own)
 FLAGS = ["-O2", "-Wall", "-Wextra", "-pedantic", "-Ibuild", "-Iinclude"]
 CALL = re.compile(r"(?m)^IPXR_CALL [a-z0-9_]+ (ipxr_[a-z_]+)\(")
-SIZES = ("PORTS", "ROUTES", "SERVICES", "CLIENTS", "LINKS", "STATIONS")  # words of the environment for a library of other sizes
+SIZES = ("PORTS", "ROUTES", "SERVICES", "CLIENTS", "LINKS", "STATIONS", "LIFETIME")  # words of the environment for a library of other sizes
 
 
 def text_of(name):
