@@ -296,7 +296,8 @@ void tunnel_take_waiting(network *on, network *old)
     const ipxr_own *next;
     while ((next = pings_first(&old->again)) != NULL) {
         ipxr_own now = of_now(on, next);
-        if (is_still_due(on, &now) && (!are_by_line(on) || !line_is_narrower()))
+        address to = address_of(now.place);
+        if (tunnel_lets_in(on->set, &to) && is_still_due(on, &now) && (!are_by_line(on) || !line_is_narrower()))
             send_again(on, &now);
         pings_end_first(&old->again);
     }

@@ -183,8 +183,19 @@ static bool has_room_for_two(const network *on)
     return on->set->clients > 1 && on->set->per_address > 1;
 }
 
+/* Whether newcomers of one house may find no room there: by a narrow line it has some for those of one network. */
+static bool is_one_of_several_by_line(const gateway *it, const network *on)
+{
+    const network *other = it->networks;
+    while (other < on && !(has_tunnel(other) && other->set->kilobits > 0))
+        other++;
+    return on->set->kilobits > 0 && other < on;
+}
+
 static void is_in(gateway *it, network *on)
 {
+    if (is_one_of_several_by_line(it, on))
+        return;
     address player = player_on(it, on), listener = listener_on(it, on);
     if (!is_client(on, &player))
         wrong("nobody is let in on network %X in peace", (unsigned)on->set->network);
@@ -196,7 +207,7 @@ static void is_in(gateway *it, network *on)
 static void has_heard(gateway *it, network *on)
 {
     address listener = listener_on(it, on);
-    if (has_room_for_two(on) && marked_at[listener.port - FIRST_PORT] == 0)
+    if (has_room_for_two(on) && !is_one_of_several_by_line(it, on) && marked_at[listener.port - FIRST_PORT] == 0)
         wrong("who only listens on network %X hears nothing in peace", (unsigned)on->set->network);
 }
 
