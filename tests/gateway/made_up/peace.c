@@ -223,7 +223,7 @@ static bool has_player_beside(gateway *it, const network *on)
     const port *at = port_of(it, on);
     bool has = false;
     for (size_t k = at->first; k < at->first + at->count; k++)
-        has = has || (has_tunnel(&it->networks[k]) && on->segment != NULL);
+        has = has || (has_tunnel(&it->networks[k]) && on->segment != NULL && !is_one_of_several_by_line(it, &it->networks[k]));
     return has;
 }
 
