@@ -22,7 +22,7 @@ TIMES = conformance_play.Times(3, 0.2)
 NETWORKS = (0xA10, 0xA20, 0xA30)  # of the router that is tried as somebody else's
 # What a bridge does otherwise, by the scenario that says so: it answers nothing, raises nothing, holds nothing back and learns nothing.
 OF_A_BRIDGE = {
-    "answers/all-routes": "ticks=2 to=10.200000000AA control=0; came nothing",
+    "answers/all-routes": "network=20 hops=1 ticks=2 control=0; came nothing",
     "forwarding/known-network": "control 0 (not 1)",
     "forwarding/transport-control": "control 14 (not 15)",
     "forwarding/own-network": "expected nothing on network 20, came data",
@@ -85,7 +85,8 @@ def a_bridge():
 
 @played_anew
 def somebodys_router():
-    """A router that nobody starts anew, by cards that lead to it, with numbers of its own; it knows more than the scenarios say."""
+    """A router that nobody starts anew, by cards that lead to it, with numbers of its own; it knows more than the scenarios say. What they told
+    it is taken back, so that they may be played again."""
     names = [f"cr{k}" for k in range(len(NETWORKS))]
     for it in names:
         ip("tuntap", "add", it, "mode", "tap")
@@ -93,7 +94,9 @@ def somebodys_router():
     text = "".join(f"network {number:X} 1 1492 tap {name} llc\n" for number, name in zip(NETWORKS, names))
     try:
         with Gateway(f"{text}internal A77\n"):
-            all_agree("--links", ",".join(names), "--frames", "llc", "--networks", ",".join(f"{it:X}" for it in NETWORKS), "--wait", "0.3")
+            words = ["--links", ",".join(names), "--frames", "llc", "--networks", ",".join(f"{it:X}" for it in NETWORKS), "--wait", "0.3"]
+            all_agree(*words)
+            all_agree(*words, sections=("learning",))
     finally:
         for it in names:
             ip("link", "del", it)

@@ -73,11 +73,14 @@ function tryWritten() {
 
 // ---- All packets that there are ----
 
+// Where the scenarios of conformance lie, by their sections.
+const SCENARIOS = ["answers", "forwarding", "type-20", "learning", "slow"].map((it) => `tests/conformance/${it}`);
+
 // The digits of packets in a text: of lines that are typed in, and of what is answered.
 const DIGITS = /^(?:> )?(?:in|trace|out|copy) .*?((?:[0-9A-Fa-f]{2}){2,})$/gm;
 
 function found() {
-    const folders = ["examples", "tests/replay", "tests/internet"];
+    const folders = ["examples", "tests/replay", "tests/internet", ...SCENARIOS];
     const files = folders.flatMap((folder) => readdirSync(`${TOP}${folder}`).map((it) => `${TOP}${folder}/${it}`));
     const texts = files.filter((it) => /\.(script|internet|out|transcript)$/.test(it)).map((it) => readFileSync(it, "latin1"));
     return [...new Set(texts.flatMap((it) => [...it.matchAll(DIGITS)].map(([, digits]) => digits.toUpperCase())))];
@@ -166,11 +169,11 @@ function lacking(file) {
 }
 
 function tryExamples() {
-    const files = readdirSync(`${TOP}examples`).filter((it) => /\.(script|internet)$/.test(it));
-    const all = files.map((it) => lacking(`${TOP}examples/${it}`));
+    const files = ["examples", ...SCENARIOS].flatMap((folder) => readdirSync(`${TOP}${folder}`).map((it) => `${folder}/${it}`));
+    const all = files.filter((it) => /\.(script|internet)$/.test(it)).map((it) => lacking(`${TOP}${it}`));
     const count = all.reduce((sum, it) => sum + it.count, 0);
     const why = all.flatMap((it) => it.wrong).join("; ") || (count < 50 ? "these are too few" : "");
-    tell(`${count} packets of ${files.length} examples are what their words say`, why);
+    tell(`${count} packets of ${all.length} examples and scenarios are what their words say`, why);
 }
 
 // ---- Wrong words ----

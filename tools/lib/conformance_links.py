@@ -59,8 +59,8 @@ class Link:
 
     def __init__(self, name, kind):
         self.name, self.kind = name, kind
-        self.socket = socket.socket(socket.AF_PACKET, socket.SOCK_RAW, socket.htons(ALL_PROTOCOLS))
         with self.named():
+            self.socket = socket.socket(socket.AF_PACKET, socket.SOCK_RAW, socket.htons(ALL_PROTOCOLS))
             self.socket.setsockopt(socket.SOL_SOCKET, socket.SO_RCVBUF, ROOM)
             self.socket.bind((name, ALL_PROTOCOLS))
             # (the router writes to the nodes of the scenario, and not to the card's)

@@ -32,6 +32,11 @@ def in_order(bytes_):
     return ipx.with_entries(bytes_, sorted(found)) if found else bytes_
 
 
+def is_routing(bytes_):
+    """Whether it is from the sockets of routing or services, or for them."""
+    return ipx.is_of(bytes_, ipx.RIP) or ipx.is_of(bytes_, ipx.SAP)
+
+
 def is_own(bytes_):
     """Whether a router says it from the socket of routers to all others'."""
     to, source = ipx.sockets(bytes_)
@@ -47,6 +52,7 @@ class Play:
         self.nodes = [found or port.node for found, port in zip(bench.nodes, scenario.ports)]
         self.pairs = {(port.network, port.node): node for port, node in zip(scenario.ports, self.nodes)}
         self.stations = {self.real(it)[22:28] for it in scenario.packets() if len(it) >= ipx.HEADER} - set(self.nodes)
+        self.sources = {self.real(it)[18:30] for it in scenario.packets()}
         self.known = {ipx.key(entry) for it in scenario.packets() for entry in ipx.entries(self.real(it))}
         self.known |= {self.network(port) for port in scenario.ports}
         self.told = [set() for _ in scenario.ports]  # what was advertised on each link by now
@@ -74,6 +80,19 @@ class Play:
 
     def run(self):
         """Plays all events. Returns what differs, each with the event."""
+        self.play_events()
+        if self.bench.is_foreign:
+            self.withdraw()
+        return self.wrong
+
+    def withdraw(self):
+        """Takes back what was told to a router that runs on."""
+        came = [it.words for it in self.scenario.events if it.words[0] == "in"]
+        for port, bytes_ in ((int(port), bytes.fromhex(digits)) for _, port, digits in came):
+            if ipx.is_response(bytes_):
+                self.send(port, ipx.withdrawn(bytes_))
+
+    def play_events(self):
         for event in self.scenario.events:
             wanted = self.expected(event)
             if event.words[0] == "in":
@@ -81,8 +100,7 @@ class Play:
                 self.compare(event, wanted, self.collect(wanted, 0))
             elif event.words[0] == "second":
                 came = self.collect([], int(event.words[1]))
-                self.compare(event, unique(wanted), unique(came))
-        return self.wrong
+                self.compare(event, self.of_minutes(wanted), self.of_minutes(came))
 
     def send(self, port, bytes_):
         """A packet as its sender would send it: to the router, to a node of the network, or to all."""
@@ -91,6 +109,11 @@ class Play:
         to = packet[10:16] if is_near else self.nodes[port]
         source = packet[22:28] if packet[18:22] in (own, bytes(4)) else BESIDE
         self.bench.links[port].send(to, source, packet)
+
+    def of_minutes(self, packets):
+        """What comes in a long time, each once: how often a router repeats itself depends on when its minute begins. How somebody's router
+        divides it among packets is left to it."""
+        return list(dict.fromkeys(merged(packets, True) if self.bench.is_foreign else packets))
 
     def collect(self, wanted, seconds):
         """What comes on all links in some seconds, and then until what is wanted is there and it was quiet for a while."""
@@ -120,7 +143,10 @@ class Play:
     # ---- Comparing ----
 
     def is_own_accord(self, it):
-        """Whether a router says it of its own accord: it asks other routers, or tells again what it told before."""
+        """Whether a router says it of its own accord: it asks other routers, or tells again what it told before. A server says other things,
+        too."""
+        if self.bench.is_foreign and it.source == self.nodes[it.port] and it.bytes[18:30] not in self.sources and not is_routing(it.bytes):
+            return True
         if it.source != self.nodes[it.port] or it.to != ipx.EVERYONE or not is_own(it.bytes):
             return False
         return not ipx.is_response(it.bytes) or set(ipx.entries(it.bytes)) <= self.told[it.port]
@@ -173,22 +199,17 @@ def without_packets(packets, others):
     return found
 
 
-def merged(packets):
-    """Answers to one station as one packet: how a router divides what it has among packets is left to it."""
+def merged(packets, all_too=False):
+    """Answers to one station as one packet, or those to all, too: how a router divides what it has among packets is left to it."""
     found = {}
     for it in packets:
         front = it.bytes[:2], it.bytes[4:ipx.HEADER + 2]
-        is_part = it.to != ipx.EVERYONE and ipx.is_response(it.bytes)
+        is_part = (all_too or it.to != ipx.EVERYONE) and ipx.is_response(it.bytes)
         key = (it.port, it.source, it.to, front) if is_part else (len(found), it)
         other = found.get(key)
-        both = [] if other is None else ipx.entries(other.bytes) + ipx.entries(it.bytes)
+        both = {*ipx.entries(other.bytes), *ipx.entries(it.bytes)} if other else ()
         found[key] = it._replace(bytes=in_order(ipx.with_entries(it.bytes, both))) if both else it
     return list(found.values())
-
-
-def unique(packets):
-    """Each packet once: how often a router repeats itself in a time depends on when its minute begins."""
-    return list(dict.fromkeys(packets))
 
 
 def lacks(bench, scenario):

@@ -10,6 +10,7 @@ ROUTE, SERVICE = 8, 64  # bytes of an entry
 RESPONSE, NEAREST_RESPONSE = 2, 4
 RIP_WORDS = {1: "rip request", RESPONSE: "rip response"}
 SAP_WORDS = {1: "sap general-query", RESPONSE: "sap general-response", 3: "sap nearest-query", NEAREST_RESPONSE: "sap nearest-response"}
+UNREACHABLE = 16  # hops
 UNUSED, ALL_ROUTES = 0xFFFF, b"\xff" * 4
 RUN = 8  # equal bytes that are worth being counted
 
@@ -59,6 +60,12 @@ def with_entries(bytes_, kept):
     """The same packet with other entries, and the length that it has then."""
     whole = bytes_[:HEADER + 2] + b"".join(kept)
     return whole[:2] + struct.pack(">H", len(whole)) + whole[4:]
+
+
+def withdrawn(bytes_):
+    """A response that says the opposite: what it tells can't be reached any more."""
+    hops = struct.pack(">H", UNREACHABLE)
+    return with_entries(bytes_, [it[:4] + hops + it[6:] if len(it) == ROUTE else it[:-2] + hops for it in entries(bytes_)])
 
 
 def key(entry):
@@ -132,7 +139,8 @@ def words(bytes_):
     checksum, length = bytes_[:2].hex().upper(), int.from_bytes(bytes_[2:4], "big")
     more = [f"checksum={checksum}"] * (checksum != "FFFF") + [f"length={length}"] * (length != len(bytes_))
     typed = [f"type={bytes_[5]}"] * (kind == "data")
-    return " ".join([kind, address(bytes_[18:30], socket), *typed, *rest, f"to={address(bytes_[6:18], socket)}", f"control={bytes_[4]}", *more])
+    ends = [address(bytes_[18:30], socket), f"to={address(bytes_[6:18], socket)}"]
+    return " ".join([kind, *ends, *typed, *rest, f"control={bytes_[4]}", *more])
 
 
 def fields(bytes_):
