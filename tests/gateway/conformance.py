@@ -18,7 +18,7 @@ import conformance_play  # noqa: E402
 import scenarios  # noqa: E402
 
 TOOL = os.path.join(TOP, "tools", "conformance")
-TIMES = conformance_play.Times(3, 0.2)
+TIMES, SHORT = conformance_play.Times(3, 0.2), conformance_play.Times(1, 0.2)
 NETWORKS = (0xA10, 0xA20, 0xA30)  # of the router that is tried as somebody else's
 # What a bridge does otherwise, by the scenario that says so: it answers nothing, raises nothing, holds nothing back and learns nothing.
 OF_A_BRIDGE = {
@@ -124,13 +124,14 @@ def with_another(scenario):
         yield scenario._replace(events=[*events[:k], events[k]._replace(answers=answers), *events[k + 1:]])
 
 
+@played_anew
 def what_is_changed(title):
     """What is changed in one answer that is kept is seen, and where."""
     scenario = scenarios.load(os.path.join(scenarios.FOLDER, f"{title}.script"))
     bench = conformance_links.Gateway(SYSTEM.program, "ethernet2", len(scenario.ports))
     try:
         for it in with_another(scenario):
-            wrong = conformance_play.Play(bench, it, {}, TIMES).run()
+            wrong = conformance_play.Play(bench, it, {}, SHORT).run()
             bench.end()
             assert len(wrong) == 1 and wrong[0][0].line == next(event.line for event in scenario.events[1:] if event.sent()), wrong
     finally:
