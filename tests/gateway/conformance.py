@@ -34,6 +34,7 @@ CHANGED = ("answers/all-routes", "learning/route", "type-20/eight-networks")
 SLOW = [it for it in scenarios.files() if f"/{scenarios.SLOW}/" in it]
 # Seconds of a clock that the test sets: in which the gateway opens its links, and how long each lasts; and a frame that is no packet.
 FIRST, BETWEEN_SECONDS = 3, 0.02
+PHASES = (13, 29)
 NO_IPX = (b"\xff" * 6 + bytes.fromhex("0200000000EE88B5")).ljust(60, b"\0")
 
 
@@ -177,13 +178,48 @@ def slow_ones():
                 ip("link", "del", name)
 
 
+class RunsOn(ByClock):
+    """The same as somebody's router, which nobody starts anew."""
+
+    is_foreign = True
+
+    def begin(self, scenario, networks):
+        if self.running:
+            self.drain()
+        else:
+            super().begin(scenario, networks)
+
+    def end(self):
+        """(it runs on)"""
+
+    def close(self):
+        super().end()
+        super().close()
+
+
+@played_anew
+def slow_ones_of_a_router_that_runs_on():
+    """So they do of a router that runs on, wherever in its minute they begin."""
+    bench = RunsOn(KINDS[0], 2)
+    try:
+        for phase in PHASES:
+            for scenario in map(scenarios.load, SLOW):
+                wrong = conformance_play.Play(bench, scenario, {}, TIMES).run()
+                assert not wrong, [(phase, event.line, what) for event, what in wrong]
+                bench.let_pass(phase)
+    finally:
+        bench.close()
+        for name in bench.names:
+            ip("link", "del", name)
+
+
 def inside():
     """In the network of its own."""
     ip("link", "set", "lo", "up")
     counts = Counts()
     if has_taps():
         seen = [named(f"A changed answer of {it} is seen", what_is_changed, it) for it in CHANGED]
-        counts += tried(the_gateway, in_raw_frames, somebodys_router, slow_ones, *seen)
+        counts += tried(the_gateway, in_raw_frames, somebodys_router, slow_ones, slow_ones_of_a_router_that_runs_on, *seen)
     else:
         left_out("the suite of conformance, of the gateway", "no TAP can be made")
     if has_bridges():

@@ -113,7 +113,7 @@ class Play:
     def of_minutes(self, packets):
         """What comes in a long time, each once: how often a router repeats itself depends on when its minute begins. How somebody's router
         divides it among packets is left to it."""
-        return list(dict.fromkeys(merged(packets, True) if self.bench.is_foreign else packets))
+        return list(dict.fromkeys(divided(packets) if self.bench.is_foreign else packets))
 
     def collect(self, wanted, seconds):
         """What comes on all links in some seconds, and then until what is wanted is there and it was quiet for a while."""
@@ -199,12 +199,21 @@ def without_packets(packets, others):
     return found
 
 
-def merged(packets, all_too=False):
-    """Answers to one station as one packet, or those to all, too: how a router divides what it has among packets is left to it."""
+def divided(packets):
+    """Each entry of a response as a packet of its own."""
+    for it in packets:
+        if ipx.is_response(it.bytes):
+            yield from (it._replace(bytes=ipx.with_entries(it.bytes, [entry])) for entry in ipx.entries(it.bytes))
+        else:
+            yield it
+
+
+def merged(packets):
+    """Answers to one station as one packet: how a router divides what it has among packets is left to it."""
     found = {}
     for it in packets:
         front = it.bytes[:2], it.bytes[4:ipx.HEADER + 2]
-        is_part = (all_too or it.to != ipx.EVERYONE) and ipx.is_response(it.bytes)
+        is_part = it.to != ipx.EVERYONE and ipx.is_response(it.bytes)
         key = (it.port, it.source, it.to, front) if is_part else (len(found), it)
         other = found.get(key)
         both = {*ipx.entries(other.bytes), *ipx.entries(it.bytes)} if other else ()
