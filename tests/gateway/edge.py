@@ -275,6 +275,21 @@ def rules_change():
         assert comes_next(one, far)
 
 
+def statics_change():
+    """A reload sees each value of a route or a service by way of a node that is another one, and none where only its line is."""
+    words = ["A1", "2", "3", "020000000009", "4", "LAB", "A1", "000000000001", "451", "5", "02000000000A"]
+    others = ["A2", "3", "4", "020000000008", "5", "LAB2", "A2", "000000000002", "452", "6", "02000000000B"]
+    text = tunnels(2).replace(":0\n", ":{}\n").format(*free_ports(2))
+    below = "route {} {} {} via {}\nservice {} {} {}.{}.{} {} via {}\n"
+    with Changed(text + below.format(*words)) as gate:
+        for k, other in enumerate(others):
+            told = gate.reload(text + below.format(*words[:k], other, *words[k + 1:]))
+            assert "1 with other sockets or edge" in told and "afresh" not in told, (other, told)
+            told = gate.reload("# a remark\n" + text + below.format(*words))
+            assert "1 with other sockets or edge" in told, (other, told)
+            assert gate.reload(text + below.format(*words)).endswith(": nothing changed\n"), other
+
+
 def none_is_adopted():
     """Where a network doesn't adopt, the router hears what comes as it comes: 0 stays 0, and what routers carried is heard."""
     wire = Udp()
@@ -342,6 +357,7 @@ def main():
                    nearest_server, nearest_that_is_permitted, rules_come_in, rules_go_out, none_is_adopted)
     if has_linux("rules that change, and what is told once a minute", "the status socket and the clock that a test sets are Linux' own"):
         counts.run(rules_change)
+        counts.run(statics_change)
         counts.run(another_number)
     if SYSTEM is Windows or not os.path.isfile(os.environ.get(CAPTURE, "")):
         left_out("a capture of a real cable", f"{CAPTURE} names none")
