@@ -123,6 +123,8 @@ typedef struct arrived {
     const origin *by;      /* who said it, or NULL where it isn't whole */
     const uint8_t *packet; /* with so many bytes, as it says itself where it is whole */
     size_t length;
+    const uint8_t *came; /* the same as it came in a frame, before its numbers were filled in and rules left out what they deny; or NULL */
+    size_t came_length;
     bool is_heard;  /* the router heard it, */
     int32_t became; /* and said this */
 } arrived;

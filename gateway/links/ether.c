@@ -254,6 +254,8 @@ static reason lets_in(incoming *in)
     in->is_whole = has_length(what->packet, in->rest);
     what->length = in->is_whole ? get16(what->packet + AT_LENGTH) : in->rest;
     what->by = in->is_whole ? &in->by : NULL;
+    what->came = what->packet;
+    what->came_length = what->length;
     return throttle_lets_in(&what->on->throttle, in->by.kind);
 }
 

@@ -112,8 +112,8 @@ static telling told_in(const network *on, const uint8_t *packet)
 /* (what a router carried from elsewhere is no neighbour's) */
 void trial_hears(const arrived *what, const ipxr_course *way)
 {
-    const uint8_t *packet = what->packet;
-    if (trial.text == NULL || what->on->set->type == LINK_DOSBOX || what->length < AT_DATA || !has_length(packet, what->length))
+    const uint8_t *packet = what->came;
+    if (trial.text == NULL || packet == NULL || what->came_length < AT_DATA || !has_length(packet, what->came_length))
         return;
     telling told = told_in(what->on, packet);
     if (told == TELLINGS || packet[AT_CONTROL] != 0 || same_node(packet + AT_FROM_NODE, what->on->node))
@@ -122,7 +122,7 @@ void trial_hears(const arrived *what, const ipxr_course *way)
     if (by == NULL)
         return;
     by->claims = get32(packet + AT_FROM_NETWORK);
-    neighbour_tells(by, told, what->length - AT_DATA, clock_now());
+    neighbour_tells(by, told, what->came_length - AT_DATA, clock_now());
     if (told == TELLS_ROUTES || told == TELLS_SERVICES)
         neighbour_became(by, told, what->is_heard ? what->became : -1, way);
 }

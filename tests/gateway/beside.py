@@ -11,7 +11,7 @@ from systems import SYSTEM
 from trying import begin, has_linux, tried
 
 DOSBOX, CABLE, ELSEWHERE = 0x10, 0x20, 0x99
-ROUTER, SERVER, STRANGER = (bytes.fromhex(f"0200000000{it}") for it in ("AA", "BB", "CC"))
+ROUTER, SERVER, STRANGER, DENIED = (bytes.fromhex(f"0200000000{it}") for it in ("AA", "BB", "CC", "DD"))
 ASKS_FROM = struct.pack(">H", 0x4FD0)
 TEXT, CAPTURE = "ipxr-try.txt", "ipxr-try.pcap"
 MINUTE, MINUTES = 60, 10
@@ -29,6 +29,9 @@ network 00000020, cost 1, node {1}, on {3}
   router 0200000000CC, which calls the network 00000099
     RIP: responses 1, rounds 1; most routes in a round 1; not read 1, the last: drop NoRoute
     answered: requests for all routes 0 of 10; queries for the nearest file server 0 of 10
+  router 0200000000DD
+    RIP: responses 1, rounds 1; most routes in a round 1; not read 1, the last: lost: denied
+    answered: requests for all routes 0 of 10; queries for the nearest file server 0 of 10
 """
 
 
@@ -37,7 +40,7 @@ class Trial(Gateway):
 
     def __init__(self, wire):
         self.clock = Clock()
-        cable = f"network {CABLE:X} 1 1490 qemu-udp 0 {wire.port} raw\n"
+        cable = f"network {CABLE:X} 1 1490 qemu-udp 0 {wire.port} raw\ndeny route 1000 in\n"
         super().__init__(tunnels(1) + cable, SYSTEM.fast, environment=self.clock.environment())
         wire.to = self.ports[CABLE]
 
@@ -94,8 +97,9 @@ def what_is_seen():
         if minute == 3:
             wire.send(framed(told[:2] + struct.pack(">H", len(told) + 3) + told[4:] + b"end"))
             wire.send(framed(rip_response(ELSEWHERE, STRANGER, [(0x53, 1, 2)])))
+            wire.send(framed(rip_response(CABLE, DENIED, [(0x1000, 1, 2)])))
         wire.send(framed(sap_response(CABLE, SERVER, [(FILE_SERVERS, "SERVER", CABLE, SERVER, 0x451, 1)])))
-        sent += 2 + minute % 2 + (minute == 0) + 2 * (minute == 3)
+        sent += 2 + minute % 2 + (minute == 0) + 3 * (minute == 3)
         gate.until_counted(CABLE, "in", sent)
     assert gate.ends().partition("\n")[2] == SEEN.format(*(gate.nodes[it].hex().upper() for it in (DOSBOX, CABLE)), *gate.links())
     assert "  00000053 " not in "\n".join(gate.lines)
