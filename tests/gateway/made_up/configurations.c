@@ -185,6 +185,17 @@ static bool has_node(const made_network *it)
     return it->is_of_several || (strncmp(it->links[0].words, "dosbox", 6) != 0 && strncmp(it->links[0].words, "interface", 9) != 0);
 }
 
+/* Routes and a service by way of nodes, which change with the network's longest packet. */
+static void add_statics(size_t *at, const made_network *it)
+{
+    if (it->number % 3 != 0)
+        return;
+    if (it->longest != 1500)
+        add(at, "route F%X 2 3 via 02005E100003\nroute E%X 1 2 via 02005E100004\n", it->number, it->number);
+    if (it->longest != 1492)
+        add(at, "service 7 STATIC%X F%X.000000000001.451 3 via 02005E100003\n", it->number, it->number);
+}
+
 static void add_network(size_t *at, const made_network *it)
 {
     add(at, "network %X %u %u%s", it->number, it->cost, it->longest, it->shares);
@@ -193,6 +204,7 @@ static void add_network(size_t *at, const made_network *it)
     add(at, "%s\n%s%s", has_node(it) ? it->node : "", it->extend, it->extend[0] != '\0' ? "\n" : "");
     if (it->number % 4 == 0)
         add(at, "deny socket 0455\npermit service 0004 * in\ndeny service * * out\ndeny route 20-2F in\n");
+    add_statics(at, it);
     for (size_t k = 0; k < it->count; k++) {
         if (it->is_of_several)
             add(at, "link %s\n", it->links[k].words);
