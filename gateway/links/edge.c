@@ -105,14 +105,15 @@ static uint16_t fewest_hops(gateway *it, const network *on, uint16_t type)
     return fewest;
 }
 
-/* Whether it is one that a server on the asker's own cable makes needless. (a client of a tunnel could say falsely that there is one) */
+/* Whether it is one that a server on the asker's own cable makes needless, or another router there whose server is nearer: where both are as near,
+ * both answer. (a client of a tunnel could say falsely that there is one) */
 static bool is_needless(gateway *it, const network *on, const ipxr_port *at, const uint8_t *packet, size_t length)
 {
     bool has_clients = on->set->type == LINK_DOSBOX || on->set->is_of_several;
     if (has_clients || !on->set->adopts || !names_nearest(packet, length))
         return false;
     uint16_t fewest = fewest_hops(it, on, get16(packet + AT_SERVICE));
-    return fewest != IPXR_NO_LIMIT && ipxr_edge_is_needless(at, fewest, packet, length) == 1;
+    return fewest != IPXR_NO_LIMIT && ipxr_edge_is_needless(at, (uint16_t)(fewest + 1), packet, length) == 1;
 }
 
 /* Names another service in an answer to a query for the nearest: as the router tells it, one router further. */
