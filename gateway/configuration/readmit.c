@@ -6,6 +6,7 @@
 #include "limits/line.h"
 #include "tunnel/place.h"
 #include "tunnel/tunnel.h"
+#include "tunnel/waiting.h"
 
 /* The socket of registrations, pings and their answers. */
 #define TUNNEL_SOCKET 2
@@ -118,7 +119,7 @@ void tunnel_again(const gateway *it, network *on, const network *made)
     take_tunnel(on, made);
     keep_waiters(it, on, &old);
     keep_clients(it, on, &old);
-    tunnel_take_waiting(on, &old);
+    waiting_take(on, &old);
     tunnel_close(&old);
 }
 

@@ -4,22 +4,18 @@
  * pinged or told of is found by his place, and whom a packet is for by his node. */
 #include "tunnel/tunnel.h"
 
-#include <inttypes.h>
 #include <string.h>
 
-#include "configuration/words.h"
 #include "ipx.h"
 #include "limits/strangers.h"
 #include "limits/throttle.h"
 #include "links/edge.h"
 #include "links/segment.h"
 #include "monitoring/capture.h"
-#include "monitoring/events.h"
-#include "monitoring/note.h"
-#include "systems/clock.h"
 #include "tunnel/cookie.h"
 #include "tunnel/nodes.h"
 #include "tunnel/place.h"
+#include "tunnel/waiting.h"
 
 /* Seconds for which a cookie is a place's own. The one before counts too. */
 enum { MINUTE = 60 };
@@ -32,9 +28,6 @@ enum { FOR_REGISTRATION = 4 };
 
 /* The socket of registrations and pings. */
 #define TUNNEL_SOCKET 2
-
-/* Milliseconds from one line about an address that isn't allowed to the next, and to the next about the same. */
-enum { BETWEEN = 1000, BETWEEN_SAME = 60000 };
 
 /* ---- Beginning and end ---- */
 
@@ -62,14 +55,12 @@ void tunnel_close(network *on)
 
 /* ---- Sending ---- */
 
-/* Whether what goes to strangers of a network is limited by a narrow line. */
-static bool are_by_line(const network *on)
+bool tunnel_strangers_are_by_line(const network *on)
 {
     return on->set->kilobits > 0 && !on->strangers.has_no_limit;
 }
 
-/* Sends a datagram of the gateway's own, which is counted. */
-static void send_counted(network *on, const ipxr_own *own, bool is_client)
+void tunnel_send_counted(network *on, const ipxr_own *own, bool is_client)
 {
     outgoing_own(on, own->place, own->bytes, sizeof own->bytes, is_client);
     capture_packet(own->bytes, sizeof own->bytes, on->node);
@@ -80,11 +71,11 @@ static void send_one(network *on, const ipxr_own *own, member *to)
 {
     if (to != NULL && on->set->kilobits > 0)
         line_send_answer(&to->speaks->line, sizeof own->bytes);
-    else if (are_by_line(on))
+    else if (tunnel_strangers_are_by_line(on))
         line_send_to_stranger(on->strangers.key, own->place, sizeof own->bytes);
     else if (on->set->kilobits > 0)
         line_send_ping(sizeof own->bytes);
-    send_counted(on, own, to != NULL);
+    tunnel_send_counted(on, own, to != NULL);
 }
 
 /* Sends a client, or a stranger, what the tunnel gave. */
@@ -154,53 +145,6 @@ void tunnel_send(network *on, const origin *by, const uint8_t *node, const uint8
     (void)send_carried(on, by, packet, length);
 }
 
-/* ---- Who comes and who leaves ---- */
-
-void tunnel_list(network *on, const uint8_t place[NODE], const uint8_t node[NODE])
-{
-    address at = address_of(place);
-    roster_add(&on->roster, place, node, ranges_have(&on->set->trusted, &at), on->set->kilobits > 0);
-}
-
-/* Tells that a client comes or leaves, with its address: by that the operator may refuse it. */
-static void tell(network *on, const uint8_t place[NODE], const uint8_t node[NODE], bool comes)
-{
-    char words[WORDS], where[ADDRESS_ROOM];
-    address at = address_of(place);
-    event("client %s %s %08" PRIX32 ", %s", node_words(node, words), comes ? "comes to" : "leaves", on->set->network,
-          address_words(&at, where));
-    events_client(on, node, &at, comes);
-}
-
-void tunnel_note_registration(const gateway *it, network *on, member *client)
-{
-    ipxr_keyed_member waiter;
-    for (size_t k = 0; ipxr_keyed_waiter(&on->tunnel, k, &waiter) == 0; k++)
-        if (same_node(waiter.place, client->place))
-            roster_registers(client, it->seconds, waiter.seconds_left);
-}
-
-/* Tells of the client that came last. */
-static void tell_comes(const gateway *it, network *on)
-{
-    ipxr_keyed_member last;
-    if (ipxr_keyed_client(&on->tunnel, ipxr_keyed_clients(&on->tunnel) - 1, &last) != 0)
-        return;
-    tunnel_list(on, last.place, last.node);
-    member *listed = roster_find(&on->roster, last.place);
-    if (listed != NULL)
-        tunnel_note_registration(it, on, listed);
-    segment_client(on, last.node, true);
-    tell(on, last.place, last.node, true);
-}
-
-void tunnel_tell_leaves(network *on, const uint8_t place[NODE], const uint8_t node[NODE])
-{
-    roster_remove(&on->roster, place);
-    segment_client(on, node, false);
-    tell(on, place, node, false);
-}
-
 /* ---- Pings, and second answers ---- */
 
 /* Whether so many datagrams for something may go to a stranger now, or soon. (what the network's limit holds back uses nothing of the line, which
@@ -208,7 +152,7 @@ void tunnel_tell_leaves(network *on, const uint8_t place[NODE], const uint8_t no
 static bool lets_stranger(network *on, strangers_part what, const uint8_t place[NODE], uint32_t count)
 {
     return strangers_let(&on->strangers, what, place, count) &&
-           (!are_by_line(on) || line_lets_newcomer(what, on->strangers.key, place, count));
+           (!tunnel_strangers_are_by_line(on) || line_lets_newcomer(what, on->strangers.key, place, count));
 }
 
 bool tunnel_lets_newcomer(network *on, const uint8_t place[NODE], uint32_t count)
@@ -229,7 +173,7 @@ static void ping_one(network *on, const ipxr_own *own)
     member *to = roster_find(&on->roster, own->place);
     if (on->set->kilobits > 0)
         line_send_ping(sizeof own->bytes);
-    send_counted(on, own, true);
+    tunnel_send_counted(on, own, true);
     if (to != NULL)
         asked_ping(&to->ping, &on->asks, on->strangers.key, own);
 }
@@ -253,54 +197,15 @@ static void send_to_client_again(network *on, const ipxr_own *own, member *to)
         counts_lose(&on->counts, TOO_MANY_ANSWERS);
 }
 
-/* Somebody who registered lately is answered again, or pinged: he was let in for that, so by a narrow line it waits until there is room. */
-static void send_again(network *on, const ipxr_own *own)
+void tunnel_send_again(network *on, const ipxr_own *own)
 {
     member *to = roster_find(&on->roster, own->place);
     if (to != NULL)
         send_to_client_again(on, own, to);
-    else if (!are_by_line(on))
+    else if (!tunnel_strangers_are_by_line(on))
         send_one(on, own, NULL);
     else if (!pings_add(&on->again, own))
         counts_lose(&on->counts, TOO_MANY_STRANGERS);
-}
-
-/* Whether somebody at a place registered lately, and waits for his answer: he would take a ping for it. */
-static bool waits_for_answer(network *on, const uint8_t place[NODE])
-{
-    ipxr_keyed_member waiter;
-    for (size_t k = 0; ipxr_keyed_waiter(&on->tunnel, k, &waiter) == 0; k++)
-        if (same_node(waiter.place, place))
-            return waiter.seconds_left > PINGED_AT;
-    return false;
-}
-
-/* Whether what waited for who registered is still for him: a client is pinged as such, and who registered anew later. */
-static bool is_still_due(network *on, const ipxr_own *own)
-{
-    bool is_ping = is_broadcast(own->bytes + AT_TO_NODE);
-    return roster_find(&on->roster, own->place) == NULL && !(is_ping && waits_for_answer(on, own->place));
-}
-
-/* The same datagram as the tunnel would say it now: an answer comes from the gateway's node, which may be another than before. */
-static ipxr_own of_now(const network *on, const ipxr_own *own)
-{
-    ipxr_own now = *own;
-    if (!is_broadcast(now.bytes + AT_TO_NODE))
-        memcpy(now.bytes + AT_FROM_NODE, on->node, NODE);
-    return now;
-}
-
-void tunnel_take_waiting(network *on, network *old)
-{
-    const ipxr_own *next;
-    while ((next = pings_first(&old->again)) != NULL) {
-        ipxr_own now = of_now(on, next);
-        address to = address_of(now.place);
-        if (tunnel_lets_in(on->set, &to) && is_still_due(on, &now) && (!are_by_line(on) || !line_is_narrower()))
-            send_again(on, &now);
-        pings_end_first(&old->again);
-    }
 }
 
 void tunnel_second(network *on)
@@ -313,7 +218,7 @@ void tunnel_second(network *on)
         tunnel_tell_leaves(on, gone.place, gone.node);
     size_t pings = ipxr_keyed_pings(&on->tunnel);
     for (size_t k = 0; ipxr_keyed_own(&on->tunnel, k, &own) == 0; k++)
-        (k < pings ? ping : send_again)(on, &own);
+        (k < pings ? ping : tunnel_send_again)(on, &own);
     if (on->pings.count > 0)
         pings_pace(&on->pings, line_between_pings(sizeof own.bytes));
 }
@@ -325,7 +230,7 @@ static void ping_once_more(network *on, const ipxr_own *ping)
         return;
     if (on->set->kilobits > 0)
         line_send_again(sizeof ping->bytes);
-    send_counted(on, ping, true);
+    tunnel_send_counted(on, ping, true);
 }
 
 /* (one that waits for the answer to its registration would take a ping for it) */
@@ -349,23 +254,10 @@ static void ping_next(const gateway *it, network *on, const ipxr_own *next)
         ping_one(on, next);
 }
 
-/* What waits for who registered goes out as far as the line has room. */
-static void send_waiting(network *on)
-{
-    const ipxr_own *next;
-    while ((next = pings_first(&on->again)) != NULL && line_lets_more()) {
-        if (is_still_due(on, next)) {
-            line_send_more(sizeof next->bytes);
-            send_counted(on, next, false);
-        }
-        pings_end_first(&on->again);
-    }
-}
-
 void tunnel_ping(const gateway *it, network *on)
 {
     const ipxr_own *next;
-    send_waiting(on);
+    waiting_send(on);
     while ((next = pings_due(&on->pings)) != NULL)
         ping_next(it, on, next);
     if (asks_are_due(&on->asks))
@@ -478,7 +370,7 @@ static void let_tunnel_hear(incoming *in)
     in->is_received = ipxr_keyed_receivers(&on->tunnel) > 0;
     in->is_for_router = ipxr_keyed_is_heard(&on->tunnel) == 1;
     if (ipxr_keyed_clients(&on->tunnel) > before)
-        tell_comes(in->it, on);
+        tunnel_tell_comes(in->it, on);
     in->is_remembered = ipxr_keyed_waiters(&on->tunnel) > remembered;
     in->client = client_of(in);
     if (in->client != NULL)
@@ -621,19 +513,6 @@ static uint16_t answer(incoming *in, uint8_t next)
     return answer_word(in, next);
 }
 
-/* Tells of an address that isn't allowed: it may be a friend's new one. */
-static void tell_refused(network *on, const address *from)
-{
-    char who[ADDRESS_ROOM];
-    uint64_t now = clock_now();
-    bool is_same = memcmp(on->refused, from->host, sizeof on->refused) == 0;
-    if (on->refusal_told != 0 && now - on->refusal_told < (is_same ? BETWEEN_SAME : BETWEEN))
-        return;
-    memcpy(on->refused, from->host, sizeof on->refused);
-    on->refusal_told = now;
-    event("%s is refused on %08" PRIX32 ": %s", address_words(from, who), on->set->network, reason_words(NOT_ALLOWED));
-}
-
 void tunnel_hear(gateway *it, network *on, uint8_t *bytes, size_t length, const address *from)
 {
     ipxr_course way;
@@ -644,5 +523,5 @@ void tunnel_hear(gateway *it, network *on, uint8_t *bytes, size_t length, const 
         ipxr_course_answer(&way, answer(&in, way.next));
     gateway_settle(it, &in.carried, &way);
     if (way.fate == IPXR_FATE_LOST && way.number == NOT_ALLOWED)
-        tell_refused(on, from);
+        tunnel_tell_refused(on, from);
 }

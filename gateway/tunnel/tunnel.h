@@ -35,8 +35,20 @@ void tunnel_list(network *on, const uint8_t place[6], const uint8_t node[6]);
 /* Notes of a client whether its registration is remembered, with how many seconds. */
 void tunnel_note_registration(const gateway *it, network *on, member *client);
 
-/* What waits in an old tunnel for those who registered goes on waiting; by a narrower line not; and without one it goes out. */
-void tunnel_take_waiting(network *on, network *old);
+/* Whether what goes to strangers of a network is limited by a narrow line. */
+bool tunnel_strangers_are_by_line(const network *on);
+
+/* Sends a datagram of the gateway's own, which is counted. */
+void tunnel_send_counted(network *on, const ipxr_own *own, bool is_client);
+
+/* Somebody who registered lately is answered again, or pinged: he was let in for that, so by a narrow line it waits until there is room. */
+void tunnel_send_again(network *on, const ipxr_own *own);
+
+/* Lists the client that came last, and tells of it. */
+void tunnel_tell_comes(const gateway *it, network *on);
+
+/* Tells of an address that isn't allowed: it may be a friend's new one. */
+void tunnel_tell_refused(network *on, const address *from);
 
 /* Tells that a client leaves, and takes it from the list. */
 void tunnel_tell_leaves(network *on, const uint8_t place[6], const uint8_t node[6]);
