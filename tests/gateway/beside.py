@@ -30,7 +30,7 @@ network 00000020, cost 1, node {1}, on {3}
     RIP: responses 1, rounds 1; most routes in a round 1; not read 1, the last: drop NoRoute
     answered: requests for all routes 0 of 10; queries for the nearest file server 0 of 10
   router 0200000000DD
-    RIP: responses 1, rounds 1; most routes in a round 1; not read 1, the last: lost: denied
+    RIP: responses 1, rounds 1; most routes in a round 1; not read 1, the last: denied
     answered: requests for all routes 0 of 10; queries for the nearest file server 0 of 10
 """
 
