@@ -10,7 +10,7 @@ from limits import CHAT, FIRST, FLOOD, LONGEST, SECONDS, Crowd, narrow, stands
 from players import HELLO, MOST_LOST, NETWORK, NUMBERED, Listener, Party, Player
 from spaces import GATEWAY, STRANGERS, build_flood
 from systems import SYSTEM
-from trying import begin, figures, tried, tried_on_own_system
+from trying import begin, figures, named, tried, tried_on_own_system
 
 NARROW = 256  # kilobits a second
 LINES = 4  # networks that share a line
@@ -236,10 +236,10 @@ def reads(it, text):
 
 
 @played_anew
-def a_line_by_a_reload():
+def a_line_by_a_reload(text=TUNNEL_LINE):
     """Strangers register 27 times a second from forged addresses, and then a reload says that the line has 64 kbit/s. Who registers thereafter, and
     never says anything, is pinged, and comes in."""
-    with Playground(numbers=(0, 0, 0), more=1) as it:
+    with Playground(text, numbers=(0, 0, 0), more=1) as it:
         sent = flood(it.gate, "forged", "register", OFTEN, host=STRANGERS, hosts=60000, first=3000, count=OFTEN * LAST_PINGED)
         it.party.until(lambda: not sent.lasts(), 2 * LAST_PINGED)
         figures(sent.end())
@@ -276,7 +276,8 @@ def more_than_are_told_apart():
 
 TESTS = [strangers_share_a_part, a_newcomer_comes_in, many_beside_long_packets, more_than_are_told_apart, few_of_many_speak,
          many_words_at_once, a_flood_from_a_wide_network, pings_of_many, who_registers_again_is_pinged, who_only_listens_comes_in, a_house_comes_in,
-         a_line_by_a_reload, who_listens_beside_reloads]
+         a_line_by_a_reload, named("the same where strangers had no limit there before", a_line_by_a_reload, by_a_line(SLOW)),
+         who_listens_beside_reloads]
 
 
 def inside():
