@@ -202,6 +202,7 @@ bool gateway_start(gateway *it)
     tell_start(it);
     gateway_tell_nodes(it);
     links_look_at_all(it);
+    statics_second(it);
     return true;
 }
 
@@ -240,6 +241,7 @@ void gateway_renew(gateway *it)
             it->ports[k].is_up = ipxr_port_down(&it->router, (uint8_t)k) < 0; /* (then the next look tells the router) */
     gateway_send_all(it);
     links_look_at_all(it);
+    statics_second(it);
 }
 
 void gateway_stop(gateway *it)

@@ -292,6 +292,7 @@ changed gateway_change(gateway *it, const settings *set)
     gateway_tell_nodes(it);
     links_look_at_all(it);
     change_statics(it);
+    statics_second(it); /* (at once, before others fill the network's share) */
     gateway_flush(it);
     return what;
 }

@@ -4,7 +4,7 @@
 
 #include "gateway.h"
 
-/* A second has passed: the router hears what is due, where it is up. */
+/* A second has passed, or the router has begun: it hears what is due, where it is up. */
 void statics_second(gateway *it);
 
 /* It has forgotten all of them: it is another router. */

@@ -57,18 +57,20 @@ def they_stay():
 
 
 def they_end():
-    """A reload without a line ends what it said at once, and a line more is heard at once; the router runs on."""
+    """A reload without a line ends what it said at once, and a line more is heard at once, also by a new router."""
     wire = Udp()
     (near,) = free_ports(1)
     with Changed(with_lines(wire, ROUTE + SERVICE, near)) as gate:
         far = Client(gate.ports[NETWORK])
         until(lambda: "routes: 1\n" in gate.report() and "services: 1\n" in gate.report(), "both")
-        told = gate.reload(with_lines(wire, "route A2 2 3 via 00001B0204BB\n", near))
+        other = with_lines(wire, "route A2 2 3 via 00001B0204BB\n", near)
+        told = gate.reload(other)
         assert "afresh" not in told, told
-        until(lambda: "\n  000000A2 " in gate.report(), "the other route")
         report = gate.report()
-        assert "\n  000000A1 " not in report and "services: 0\n" in report, report
+        assert "\n  000000A2 " in report and "\n  000000A1 " not in report and "services: 0\n" in report, report
         assert routes_told(far, gate, NETWORK) == {CABLE, 0xA2}
+        assert "afresh" in gate.reload(other.replace(f"{CABLE:X} 1 1490", f"{CABLE:X} 2 1490"))
+        assert "\n  000000A2 " in gate.report(), "a new router hears of it at once"
 
 
 def main():
