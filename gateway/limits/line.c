@@ -174,10 +174,23 @@ static uint64_t *stranger(const uint8_t key[SIPHASH_KEY], const uint8_t place[6]
     return &used[place_among(key, place)];
 }
 
-bool line_lets_more(void)
+/* Whether a datagram may go to strangers on a line, whatever their address uses. */
+static bool lets_stranger(ipxr_line *on)
 {
     uint64_t none = 0;
-    return ipxr_line_lets_stranger(&line, limit_clock(), &none);
+    return ipxr_line_lets_stranger(on, limit_clock(), &none);
+}
+
+/* (it leaves room for the answer to somebody who registers meanwhile; where there is none for two, nothing else may have gone lately) */
+bool line_lets_more(size_t length)
+{
+    uint64_t none = 0;
+    ipxr_line then = line;
+    bool is_idle = line.to_strangers <= limit_clock();
+    if (!lets_stranger(&line))
+        return false;
+    ipxr_line_send_to_stranger(&then, limit_clock(), length, &none);
+    return is_idle || lets_stranger(&then);
 }
 
 void line_send_more(size_t length)

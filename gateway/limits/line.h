@@ -57,9 +57,9 @@ void line_send_again(size_t length);
 
 /* Whether there is room for what the gateway says to a stranger, of whatever network; and a datagram of so many bytes goes out to him. The key
  * is of the hash by which addresses are told apart. Where more follows later, so many datagrams are counted at once, also of his address; what
- * follows is then asked of the line alone. */
+ * follows is then asked of the line alone, where it leaves room for another's answer. */
 bool line_lets_newcomer(strangers_part what, const uint8_t key[SIPHASH_KEY], const uint8_t place[6], uint32_t count);
-bool line_lets_more(void);
+bool line_lets_more(size_t length);
 void line_send_more(size_t length);
 void line_send_to_stranger(const uint8_t key[SIPHASH_KEY], const uint8_t place[6], size_t length);
 

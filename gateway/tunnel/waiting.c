@@ -47,7 +47,7 @@ void waiting_take(network *on, network *old)
 void waiting_send(network *on)
 {
     const ipxr_own *next;
-    while ((next = pings_first(&on->again)) != NULL && line_lets_more()) {
+    while ((next = pings_first(&on->again)) != NULL && line_lets_more(sizeof next->bytes)) {
         if (is_still_due(on, next)) {
             line_send_more(sizeof next->bytes);
             tunnel_send_counted(on, next, false);
