@@ -62,11 +62,9 @@ static void say_services(gateway *it, const network *on)
     }
 }
 
-/* Whether they are said now. (a port that was down has forgotten what it heard) */
-static bool is_due(const gateway *it, const port *router_port, network *on)
+/* Whether they are said now. */
+static bool is_due(const gateway *it, const port *router_port, const network *on)
 {
-    if (!router_port->is_up)
-        on->statics_said = 0;
     return router_port->is_up && (on->statics_said == 0 || it->told >= on->statics_said + PERIOD);
 }
 

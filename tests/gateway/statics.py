@@ -1,4 +1,6 @@
 """Routes and services by way of nodes that say nothing themselves, as lines of the configuration say them."""
+import socket
+
 from changed import Changed
 from edge import nearest_for, routes_told, services_of, unnumbered
 from frames import Udp
@@ -56,6 +58,15 @@ def they_stay():
         assert "\n  000000A1 hops 2 ticks 3 by 00001B0204AA on 00000020" in report and "services: 1\n" in report, report
 
 
+def they_come_again():
+    """Where a link is lost and is there again at once, the router hears of its lines again at once, too."""
+    with Gateway(tunnels(1) + f"network {CABLE:X} 1 1490 qemu-tcp listen 127.0.0.1:0 raw\n{ROUTE}") as gate:
+        for _ in range(3):
+            with socket.create_connection(("127.0.0.1", gate.ports[CABLE])):
+                until(lambda: f"network {CABLE:08X} up" in gate.report(), "the link")
+                until(lambda: "\n  000000A1 hops 2 " in gate.report(), "the route")
+
+
 def they_end():
     """A reload without a line ends what it said at once, and a line more is heard at once, also by a new router."""
     wire = Udp()
@@ -74,7 +85,7 @@ def they_end():
 
 
 def main():
-    counts = tried(are_learned, it_answers_nobody)
+    counts = tried(are_learned, it_answers_nobody, they_come_again)
     if has_linux("lines that change, and that stay", "the status socket and the clock that a test sets are Linux' own"):
         counts.run(they_stay)
         counts.run(they_end)
