@@ -18,8 +18,8 @@ enum { BETWEEN = 60000 };
 /* Where a response says that it answers a query for the nearest service, and that service's type; and how many bytes it has to that. */
 enum { AT_OPERATION = HEADER, NEAREST_RESPONSE = 4, AT_SERVICE = HEADER + 2, TO_SERVICE = AT_SERVICE + 2 };
 
-/* Where the service's address begins, behind its name; and hops from which on nothing is reached. */
-enum { AT_PLACE = 48, UNREACHABLE = 16 };
+/* Where the service's address begins, behind its name; the hops of a server on the cable itself; and those from which on nothing is reached. */
+enum { AT_PLACE = 48, ON_CABLE = 1, UNREACHABLE = 16 };
 
 ipxr_port edge_port(const network *on)
 {
@@ -94,26 +94,24 @@ static bool names_nearest(const uint8_t *packet, size_t length)
     return length >= TO_SERVICE && get16(packet + AT_FROM_SOCKET) == IPXR_SAP_SOCKET && get16(packet + AT_OPERATION) == NEAREST_RESPONSE;
 }
 
-/* The fewest hops of a server of a type that speaks for itself on a network; IPXR_NO_LIMIT where none does. */
-static uint16_t fewest_hops(gateway *it, const network *on, uint16_t type)
+/* Whether a server of a type stands on a network's own cable, and speaks for itself. */
+static bool has_server(gateway *it, const network *on, uint16_t type)
 {
-    uint16_t fewest = IPXR_NO_LIMIT;
     ipxr_service_record service;
     for (size_t k = 0; ipxr_service(&it->router, k, &service) == 0; k++)
-        if (service.port == on->set->port && service.type == type && service.hops < fewest && !statics_have(on->set, &service))
-            fewest = service.hops;
-    return fewest;
+        if (service.port == on->set->port && service.type == type && service.hops <= ON_CABLE && !statics_have(on->set, &service))
+            return true;
+    return false;
 }
 
-/* Whether it is one that a server on the asker's own cable makes needless, or another router there whose server is nearer: where both are as near,
- * both answer. (a client of a tunnel could say falsely that there is one) */
+/* Whether it is one that a server on the asker's own cable makes needless. (what another router tells of servers behind it makes none: both would
+ * wait for each other. And a client of a tunnel could say falsely that there is one) */
 static bool is_needless(gateway *it, const network *on, const ipxr_port *at, const uint8_t *packet, size_t length)
 {
     bool has_clients = on->set->type == LINK_DOSBOX || on->set->is_of_several;
     if (has_clients || !on->set->adopts || !names_nearest(packet, length))
         return false;
-    uint16_t fewest = fewest_hops(it, on, get16(packet + AT_SERVICE));
-    return fewest != IPXR_NO_LIMIT && ipxr_edge_is_needless(at, (uint16_t)(fewest + 1), packet, length) == 1;
+    return has_server(it, on, get16(packet + AT_SERVICE)) && ipxr_edge_is_needless(at, ON_CABLE, packet, length) == 1;
 }
 
 /* Names another service in an answer to a query for the nearest: as the router tells it, one router further. */

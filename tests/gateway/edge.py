@@ -173,13 +173,10 @@ def nearest_server():
         far.send(sap_response(NETWORK, far.node, [(SERVER, "FAR", 0x99, STATION, OFFERED, 3)]))
         until(lambda: "services: 1\n" in gate.report(), "one service")
         assert nearest_for(station, gate.nodes[CABLE]) == ("FAR", 4)
-        for number, (hops, named) in enumerate(((4, ("FAR", 4)), (3, None))):
-            router = bytes([2, 0, 0, 0, 0, number])
-            wire.send(framed(sap_response(CABLE, router, [(SERVER, f"BESIDE{number}", 0x98, STATION, OFFERED, hops)])))
-            until(lambda: "services: 2\n" in gate.report(), "a service by another router")
-            assert nearest_for(station, gate.nodes[CABLE]) == named, "where both are as near, both routers answer"
-            wire.send(framed(sap_response(CABLE, router, [(SERVER, f"BESIDE{number}", 0x98, STATION, OFFERED, 16)])))
-            until(lambda: "services: 1\n" in gate.report(), "one service again")
+        for hops in 2, 16:
+            wire.send(framed(sap_response(CABLE, STATION, [(SERVER, "BESIDE", 0x98, STATION, OFFERED, hops)])))
+            until(lambda of=hops: f"services: {2 if of < 16 else 1}\n" in gate.report(), "a service by another router, and none")
+            assert nearest_for(station, gate.nodes[CABLE]) == ("FAR", 4), "what is behind another router keeps nobody from this one"
         wire.send(framed(sap_response(CABLE, STATION, [(SERVER, "LOCAL", CABLE, STATION, OFFERED, 1)])))
         until(lambda: "services: 2\n" in gate.report(), "two services")
         assert nearest_for(station, gate.nodes[CABLE]) is None
