@@ -91,7 +91,7 @@ IPXR_CALL int32_t ipxr_edge_filter(uint8_t way, const ipxr_port *port, const ipx
 IPXR_CALL int32_t ipxr_edge_claim(const ipxr_port *port, const uint8_t *bytes, size_t length, uint32_t *network);
 
 /* Whether a packet that goes out on the port is the router's answer to a query for the nearest service, and names none that is nearer than
- * `hops`: 1 or 0. Leave it out if a server of that type was heard on this port that is `hops` away. */
+ * `hops`: 1 or 0. If a server of that type was heard on this port from the cable itself, which is 1 hop, give 1, and leave it out. */
 IPXR_CALL int32_t ipxr_edge_is_needless(const ipxr_port *port, uint16_t hops, const uint8_t *bytes, size_t length);
 
 /* Writes a response of `count` routes as if the node had sent it to all routers on the port's network, 32 bytes and 8 for each: hand it to
