@@ -61,8 +61,7 @@ typedef struct network {
     paced paced;           /* the router's broadcasts wait for each other where it has frames; */
     ipxr_kinds kinds;      /* of frames, which its stations use, where they may use any; */
     uint64_t kind_told;    /* and where not, when one that used another was told last, or 0; */
-    uint64_t claim_told;   /* and when a router that has another number for the cable was, or 0; */
-    uint64_t statics_said; /* and the second in which the router heard of routes and services that lines say, or 0 */
+    uint64_t claim_told;   /* and when a router that has another number for the cable was, or 0 */
 } network;
 
 /* A port of the router: a network with its links. */

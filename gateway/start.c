@@ -235,7 +235,6 @@ void gateway_renew(gateway *it)
     gateway_send_all(it);
     if (make(it) < 0)
         return; /* (no memory: it is tried again with the next second) */
-    statics_forget(it);
     for (size_t k = 0; k < it->port_count; k++)
         if (!it->ports[k].is_up)
             it->ports[k].is_up = ipxr_port_down(&it->router, (uint8_t)k) < 0; /* (then the next look tells the router) */

@@ -164,7 +164,6 @@ static void take_router(gateway *it)
     ipxr_free(&it->router);
     it->router = next.router;
     next.router = NONE;
-    statics_forget(it);
 }
 
 /* The router hears which of its ports are down now. (where it has no memory for it the port's first link is up until the next look, which

@@ -104,12 +104,20 @@ static bool has_server(gateway *it, const network *on, uint16_t type)
     return false;
 }
 
+/* Whether all stations of a link speak one kind of frames, so that each hears all others. */
+static bool is_of_one_kind(const network *on)
+{
+    static const uint8_t ALL[NODE] = {0xFF, 0xFF, 0xFF, 0xFF, 0xFF, 0xFF};
+    unsigned kinds = on->set->kind == ANY_KIND ? kinds_for(&on->kinds, ALL) : 0;
+    return (kinds & (kinds - 1)) == 0;
+}
+
 /* Whether it is one that a server on the asker's own cable makes needless. (what another router tells of servers behind it makes none: both would
  * wait for each other. And a client of a tunnel could say falsely that there is one) */
 static bool is_needless(gateway *it, const network *on, const ipxr_port *at, const uint8_t *packet, size_t length)
 {
     bool has_clients = on->set->type == LINK_DOSBOX || on->set->is_of_several;
-    if (has_clients || !on->set->adopts || !names_nearest(packet, length))
+    if (has_clients || !on->set->adopts || !names_nearest(packet, length) || !is_of_one_kind(on))
         return false;
     return has_server(it, on, get16(packet + AT_SERVICE)) && ipxr_edge_is_needless(at, ON_CABLE, packet, length) == 1;
 }

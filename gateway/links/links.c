@@ -71,7 +71,6 @@ static bool port_follows(gateway *it, const network *on, bool is_up)
     if ((is_up ? ipxr_port_up(&it->router, on->set->port) : ipxr_port_down(&it->router, on->set->port)) < 0)
         return false;
     router_port->is_up = is_up;
-    first_of(it, router_port)->statics_said = 0; /* (what was heard there is forgotten) */
     return true;
 }
 

@@ -6,8 +6,8 @@
 #include "ipxr_edge.h"
 #include "links/edge.h"
 
-/* Seconds from one time to the next; what a packet has room for; and the hops of what is reached no more. */
-enum { PERIOD = 60, ROUTES_OF_ONE = 50, SERVICES_OF_ONE = 7, UNREACHABLE = 16 };
+/* What a packet has room for; and the hops of what is reached no more. */
+enum { ROUTES_OF_ONE = 50, SERVICES_OF_ONE = 7, UNREACHABLE = 16 };
 
 /* The router hears a packet that was written, and what it says then goes out. (without memory for it, it is heard with the next) */
 static void hear(gateway *it, const network *on, const uint8_t *packet, int32_t length)
@@ -62,28 +62,15 @@ static void say_services(gateway *it, const network *on)
     }
 }
 
-/* Whether they are said now. */
-static bool is_due(const gateway *it, const port *router_port, const network *on)
-{
-    return router_port->is_up && (on->statics_said == 0 || it->told >= on->statics_said + PERIOD);
-}
-
 void statics_second(gateway *it)
 {
     for (size_t k = 0; k < it->port_count; k++) {
-        network *on = first_of(it, &it->ports[k]);
-        if (on->set->static_route_count + on->set->static_service_count == 0 || !is_due(it, &it->ports[k], on))
+        const network *on = first_of(it, &it->ports[k]);
+        if (!it->ports[k].is_up)
             continue;
-        on->statics_said = it->told;
         say_routes(it, on);
         say_services(it, on);
     }
-}
-
-void statics_forget(gateway *it)
-{
-    for (size_t k = 0; k < it->count; k++)
-        it->networks[k].statics_said = 0;
 }
 
 bool statics_have(const network_setting *set, const ipxr_service_record *service)
@@ -117,7 +104,7 @@ static bool offers_it(const network_setting *set, const ipxr_static_service *lin
     return k < set->static_service_count;
 }
 
-void statics_change(gateway *it, network *on, const network_setting *was)
+void statics_change(gateway *it, const network *on, const network_setting *was)
 {
     for (size_t k = 0; k < was->static_route_count; k++) {
         ipxr_route_entry route = was->static_routes[k].route;
@@ -131,5 +118,4 @@ void statics_change(gateway *it, network *on, const network_setting *was)
         if (!offers_it(on->set, &was->static_services[k]))
             hear_services(it, on, was->static_services[k].via, &service, 1);
     }
-    on->statics_said = 0;
 }
