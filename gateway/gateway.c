@@ -116,15 +116,15 @@ uint8_t *gateway_room(gateway *it)
     return it->rooms[it->room_count++];
 }
 
-/* Whether a packet of the router's is one that it heard and hands on, which keeps the node and the socket of its source. (so nobody passes
- * for the router by naming its node) */
-static bool goes_on(const uint8_t *packet, const uint8_t *heard)
+/* Whether a packet of the router's is one that it heard and hands on, whose transport control it raised. (so nobody passes for the router, nor it for
+ * somebody, by whose node a packet names) */
+static bool goes_on(const uint8_t *packet)
 {
-    return memcmp(packet + AT_FROM_NODE, heard + AT_FROM_NODE, HEADER - AT_FROM_NODE) == 0;
+    return packet[AT_CONTROL] > 0;
 }
 
-/* Sends what the router has to send, once it heard what somebody said; or else by itself, where both are NULL. */
-static void send_all(gateway *it, const origin *by, const uint8_t *heard)
+/* Sends what the router has to send, once it heard what somebody said; or else by itself, where that is NULL. */
+static void send_all(gateway *it, const origin *by)
 {
     size_t count = ipxr_sent(&it->router);
     for (size_t k = 0; k < count; k++) {
@@ -133,14 +133,14 @@ static void send_all(gateway *it, const origin *by, const uint8_t *heard)
         bool is_there = ipxr_get(&it->router, k, &sent, packet, LONGEST) == 0 && sent.port < it->port_count; /* (nobody is on its own network) */
         size_t left = is_there ? edge_lets_out(it, first_of(it, &it->ports[sent.port]), packet, sent.length) : 0;
         if (left > 0)
-            gateway_send(it, &it->ports[sent.port], by != NULL && goes_on(packet, heard) ? by : NULL, sent.node, packet, left);
+            gateway_send(it, &it->ports[sent.port], by != NULL && goes_on(packet) ? by : NULL, sent.node, packet, left);
     }
     ipxr_clear(&it->router);
 }
 
 void gateway_send_all(gateway *it)
 {
-    send_all(it, NULL, NULL);
+    send_all(it, NULL);
 }
 
 void gateway_note(const network *on, const uint8_t *packet, size_t length, const char *became)
@@ -205,7 +205,7 @@ void gateway_settle(gateway *it, const arrived *what, const ipxr_course *way)
     if (way->fate == IPXR_FATE_HANDED_ON)
         gateway_note(what->on, what->packet, what->length, "handed on");
     if (what->is_heard)
-        send_all(it, what->by, what->packet);
+        send_all(it, what->by);
 }
 
 /* ---- Turns ---- */

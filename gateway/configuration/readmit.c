@@ -45,11 +45,11 @@ static uint32_t due(uint8_t left)
 }
 
 /* Whether one who registered lately is remembered in the new tunnel. (what goes to him was counted when he registered, by a line that was no
- * narrower, if strangers had a limit then; else what is left of it counts now) */
-static bool stays_remembered(network *on, const network *old, const address *from, const ipxr_keyed_member *waiter)
+ * narrower, if strangers had a limit then; else what is left of it counts now, unless he is a client) */
+static bool stays_remembered(network *on, network *old, const address *from, const ipxr_keyed_member *waiter)
 {
-    bool was_by_line = old->again.room > 0 && !old->strangers.has_no_limit;
-    bool is_counted = !tunnel_strangers_are_by_line(on) || (was_by_line && !line_is_narrower());
+    bool was_by_line = old->again.room > 0 && !old->strangers.has_no_limit, is_client = roster_find(&old->roster, waiter->place) != NULL;
+    bool is_counted = is_client || !tunnel_strangers_are_by_line(on) || (was_by_line && !line_is_narrower());
     return tunnel_lets_in(on->set, from) && (is_counted || tunnel_lets_newcomer(on, waiter->place, due(waiter->seconds_left)));
 }
 
