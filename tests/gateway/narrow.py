@@ -20,7 +20,7 @@ LAST_PINGED, FORGOTTEN, SOON = 9, 10, 0.3  # seconds after which who registered 
 ASKED_AGAIN, WAITS = 5, 4  # seconds after which the library asks who is silent, and for which a ping may wait
 NEWCOMERS = 3  # registrations of one who wants to come in
 HOUSEHOLD, APART = 4, 2.5  # who only listen at one address, and seconds from one to the next
-SLOW, LISTENERS, FEW = 64, 3, 20  # kilobits a second; who only listens there; and strangers who register there in a second
+SLOW, LISTENERS, FEW, COME = 64, 3, 20, 8  # kilobits a second; who only listens there; strangers who register in a second; who are in before
 OFTEN, BEHIND, MOST = 27, 3, 100  # registrations a second; seconds from a reload to the next; clients of a network
 QUIET_SPEAKER = 11  # seconds after which who said only its first word isn't one of those who speak
 LITTLE = 10  # parts of what is lost at most of one speaker, of what all may lose
@@ -252,6 +252,25 @@ def a_line_by_a_reload(text=TUNNEL_LINE):
 
 
 @played_anew
+def who_waits_beside_clients():
+    """Eight register and come in by what they say, three more register who never say anything, and a reload says that the line has 64 kbit/s: the
+    three are pinged, and come in."""
+    with Playground(numbers=(0, 0, 0), more=COME + LISTENERS) as it:
+        for host in it.free[:COME]:
+            player = Player(host, GATEWAY)
+            it.party.put_in("comes", player)
+            player.register()
+        until(lambda: it.party.hear() or it.gate.counted(NETWORK, "clients") == COME, "all who speak")
+        for host in it.free[COME:]:
+            listens(it, host)
+        until(lambda: it.party.hear() or all(player.network for player in it.party.all), "all are answered")
+        narrow(it, SLOW)
+        reads(it, by_a_line(SLOW, 1, ""))
+        came = it.party.until(lambda: it.gate.counted(NETWORK, "clients") == COME + LISTENERS, 2 * FORGOTTEN)
+        assert came, "a listener isn't pinged"
+
+
+@played_anew
 def who_listens_beside_reloads():
     """By a line and by none, somebody registers who never says anything, and each second a reload changes the network's limits: he is pinged
     nine seconds later at the latest, and comes in."""
@@ -277,7 +296,7 @@ def more_than_are_told_apart():
 TESTS = [strangers_share_a_part, a_newcomer_comes_in, many_beside_long_packets, more_than_are_told_apart, few_of_many_speak,
          many_words_at_once, a_flood_from_a_wide_network, pings_of_many, who_registers_again_is_pinged, who_only_listens_comes_in, a_house_comes_in,
          a_line_by_a_reload, named("the same where strangers had no limit there before", a_line_by_a_reload, by_a_line(SLOW)),
-         who_listens_beside_reloads]
+         who_waits_beside_clients, who_listens_beside_reloads]
 
 
 def inside():
