@@ -10,8 +10,12 @@
 #include "ipx.h"
 #include "names.h"
 #include "play.h"
+#include "systems/clock.h"
 #include "tunnel/nodes.h"
 #include "weather.h"
+
+/* Nanoseconds for which a broadcast of the router's waits at most for the one before. */
+#define MOST_HELD_UP UINT64_C(4000000000)
 
 /* ---- Descriptors and cables ---- */
 
@@ -85,8 +89,23 @@ static void check_clients(const gateway *it, network *on)
     }
 }
 
+/* The router's broadcasts that wait on a link are as many as are counted, and none is held up for longer than four seconds. */
+static void check_paced(const network *on)
+{
+    const paced_packet *last = NULL, *next = on->paced.first;
+    for (size_t k = 0; k < on->paced.count && next != NULL; k++) {
+        last = next;
+        next = next->next;
+    }
+    if (on->paced.count > 0 && last != on->paced.last)
+        wrong("network %X counts %zu packets that wait, and has others", (unsigned)on->set->network, on->paced.count);
+    if (on->paced.count > 0 && on->paced.pace.next > clock_nanoseconds() + MOST_HELD_UP)
+        wrong("network %X holds a packet up for longer than four seconds", (unsigned)on->set->network);
+}
+
 static void check_tunnel(const gateway *it, network *on)
 {
+    check_paced(on);
     check_rooms(on);
     bool is_tunnel = on->set->type == LINK_DOSBOX;
     if (is_tunnel || on->roster.count > 0)
