@@ -1,4 +1,5 @@
 -- Tables become right: each router comes to hold the route of its least way, and keeps it; so packets arrive.
+pub mod AnEmptyList
 pub mod AnyTablesBecomeRight
 pub mod ChangeIsSaid
 pub mod ComputedIsLeast

@@ -24,5 +24,7 @@ pub mod Losses
 pub mod Gains
 -- Arriving
 pub mod Arriving
+-- Apart
+pub mod Apart
 -- Upkeep
 pub mod Upkeep

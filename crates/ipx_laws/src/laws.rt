@@ -2,6 +2,7 @@
 //!
 //! Laws of ticks begin with steps after which nothing waits (`ComesToRest`): with none where nothing waits, as at `begun histories`, else with
 //! those of one tick. So whatever waits, forged packets too, one tick more is enough; hosts may say anything in it.
+pub mod apart;
 pub mod changes;
 mod costs;
 pub mod services;
@@ -151,10 +152,7 @@ pub fn real()
         → AllByRecursion (λ r. is_up (ups net run.histories router) r.port ≡ true)
         (routes_of net most_routes (ticked net most_routes most_services run (first ∷ ticks)).histories router) }
 {
-    ipx_wire::laws::readings();
-    ipx_wire::laws::service_readings();
-    ipx_wire::laws::reread();
-    ipx_router::laws::packets();
+    crate::laws::apart::real();
 }
 
 /// The least way over the ports that are up is a way of at most fifteen hops, and no such way is better.
@@ -211,10 +209,7 @@ pub fn right()
         ≡ route_of net most_routes (ticked net most_routes most_services run ticks).histories router network }
     ensures soon { (way : Option Way) → ticks_right way ≤ most_ticks_right }
 {
-    ipx_wire::laws::readings();
-    ipx_wire::laws::service_readings();
-    ipx_wire::laws::reread();
-    ipx_router::laws::packets();
+    crate::laws::apart::right();
 }
 
 /// So packets arrive. A packet of a host comes to a port that is up, of a router that has a way to the packet's network; the port isn't on
@@ -242,8 +237,5 @@ pub fn arrives()
         → IsOfHost net p → p.header.destination.node ≢ broadcast → Arrives (routers_after net most_routes histories) p.header.destination control hops 0 c
         → EndsOn (routers_after net most_routes histories) p.header.destination.network hops c }
 {
-    ipx_wire::laws::readings();
-    ipx_wire::laws::service_readings();
-    ipx_wire::laws::reread();
-    ipx_router::laws::packets();
+    crate::laws::apart::arrives();
 }

@@ -1,7 +1,8 @@
 -- Where all tables are right and real, and more ports are up in the end: each router has the route of its least way in the end, or, by a neighbour from
 -- which such a way comes, one of their two ports isn't up yet, or the neighbour isn't right for now.
-use Rattle.std.proofs.Common.{◌≡◌, refl, sym, ap, ◌∙◌, subst, ◌⊎◌, ℕ, ◌<◌, ◌==◌, true, false, List, length, Option, Some, option_map, inl, inr, arith, is_eq, true≢false}
+use Rattle.std.proofs.Common.{◌≡◌, refl, sym, ap, ◌∙◌, subst, ◌⊎◌, ℕ, ◌+◌, ◌*◌, ◌<◌, ◌≤◌, ◌==◌, true, false, List, length, Option, Some, option_map, inl, inr, arith, is_eq, true≢false}
 use Rattle.std.proofs.lemmas.Bool.{cases_Bool}
+use Rattle.ipx_table.specs.Alive.{lifetime}
 use Rattle.ipx_table.specs.declared.held.Held.{Held}
 use Rattle.ipx_router.specs.Facts.{route_facts, routes_held, offers}
 use Rattle.ipx_router.specs.History.{History}
@@ -19,10 +20,10 @@ use Rattle.ipx_laws.specs.Ups.{ups}
 use Rattle.ipx_laws.proofs.gains.MoreUpIsNoWorse.{own_too, no_worse}
 use Rattle.ipx_laws.proofs.gains.RealWhileGaining.{RealAt, real_more, real_held}
 use Rattle.ipx_laws.proofs.gains.RightWhenQuiet.{HasRight, GoodNow}
-use Rattle.ipx_laws.proofs.tables.Given.{Given}
+use Rattle.ipx_laws.proofs.tables.Given.{Given, FineOf}
 use Rattle.ipx_laws.proofs.tables.GoodRoutesStay.{right_where_least}
 use Rattle.ipx_laws.proofs.tables.LastWords.{WantsOf, Sources, known_by, good_or_not}
-use Rattle.ipx_laws.proofs.tables.LeastRouteSurvives.{known_is}
+use Rattle.ipx_laws.proofs.tables.LeastRouteSurvives.{RoutesAged, known_is}
 use Rattle.ipx_laws.proofs.tables.LeastWays.{NoWorse, IsNeighbour, both_no_worse, ups_within, within, on_or_off, OnOrOff, own, own_there, is_there, same_some, few, enough, none_better}
 use Rattle.ipx_laws.proofs.tables.NoRouteIsBetter.{a_source}
 use Rattle.ipx_laws.proofs.tables.RightWithinAMinute.{find_same, tied}
@@ -62,7 +63,7 @@ module _ (given : Given) (histories : List History)
   right_held x w e =
       let (h, some, way) = held_with w.v (known x w) (held_first x w ∙ e) in
       let found = known_is given x w.v w.off w.least w.wanted most_ticks_gone (omega arith)
-      (route_facts (ports_of net x) (history_of histories x)) all_real h some in
+      (route_facts (ports_of net x) (history_of histories x)) all_fine h some in
       let (from, is_right) = right_where_least given x w.v w.off w.least h.offer found.0 found.1 (sym way) in
       (h, from, some, is_right)
     where
@@ -71,6 +72,12 @@ module _ (given : Given) (histories : List History)
           real_held net laws is most_routes most_services up x (history_of histories x)
           (all_then (IsReal net (ups net histories) x) (IsReal net up x) (λ r here. real_more net (ups net histories) up more_up here)
           (offers (routes_held (ports_of net x) most_routes (history_of histories x))) (real x (is_there net up in_ports network 15 x w.v w.least)))
+
+      all_fine : RoutesAged given x w.v w.off w.least w.wanted most_ticks_gone (route_facts (ports_of net x) (history_of histories x))
+      all_fine =
+          all_then (λ h. IsReal net up x h.offer ⊎ (most_ticks_gone ≤ lifetime * h.offer.hops + h.age))
+          (λ h. FineOf given x h.offer ⊎ (most_ticks_gone ≤ lifetime * h.offer.hops + h.age))
+          (λ h either. elim either [ inl is_real ↦ inl (λ unlisted. is_real) | inr old ↦ inr old ]) _ all_real
 
   -- a neighbour that is right for now had its way at first
   neighbour_had : (y : ℕ) (way : Way) → within net up in_ports network 15 y ≡ Some way

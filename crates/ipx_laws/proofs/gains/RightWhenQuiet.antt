@@ -22,7 +22,7 @@ use Rattle.ipx_laws.proofs.tables.TablesAreRight.{none_on, none_without}
 use Rattle.ipx_laws.proofs.ticks.RealOrSoonEnded.{Endures}
 
 module _ (given : Given) (histories : List History) where
-  open given use {net, up, in_ports, most_routes, network}
+  open given use {net, up, in_ports, most_routes, foreign, network}
 
   abbrev Wanting : ℕ → Type 0
   Wanting = WantsOf given
@@ -84,7 +84,7 @@ module _ (given : Given) (histories : List History) where
 
     -- ---- so the table is right
 
-    module _ (router : ℕ) (endures : Endures net up most_routes router most_ticks_gone (history_of histories router)) where
+    module _ (router : ℕ) (endures : Endures net up foreign most_routes router most_ticks_gone (history_of histories router)) where
       abbrev routes : List RouteOffer
       routes = offers (routes_held (ports_of net router) most_routes (history_of histories router))
 

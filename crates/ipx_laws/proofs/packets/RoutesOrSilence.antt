@@ -1,14 +1,16 @@
--- What waits for a port while hosts speak: pages of routes that the router that sends them made itself, or bytes that tell of no route. A
--- router sends nothing else, neither at a second nor for such a packet.
-use Rattle.std.proofs.Common.{◌≡◌, ◌≢◌, refl, sym, ap, subst, ◌⊎◌, ℕ, ◌<◌, ◌==◌, Bool, true, false, List, [], ◌∷◌, ◌++◌, length, flat_map, Option, Some, None, Result, Ok, Err, inl, inr, arith, if◌then◌else◌}
+-- What waits for a port while hosts speak: pages of routes that the router that sends them made itself, or bytes that tell of no route but to
+-- networks of a list. A router sends nothing else, neither at a second nor for such a packet.
+use Rattle.std.proofs.Common.{◌≡◌, ◌≢◌, refl, sym, ap, subst, ◌⊎◌, ℕ, ◌<◌, ◌==◌, Bool, true, false, List, [], ◌∷◌, ◌++◌, length, flat_map, Option, Some, None, Result, Ok, Err, inl, inr, arith, true≢false, if◌then◌else◌}
 use Rattle.std.specs.List.{AllByRecursion}
 use Rattle.std.proofs.lemmas.Bool.{cases_Bool}
+use Rattle.ipx_wire.specs.Crossed.{is_among}
 use Rattle.ipx_wire.specs.Packet.{Parts, packet_of}
 use Rattle.ipx_wire.specs.Piece.{IsBytes}
 use Rattle.ipx_wire.specs.Rip.{IsEntry}
 use Rattle.ipx_wire.specs.Sap.{sap_of}
 use Rattle.ipx_wire.specs.Write.{rip_packet_parts}
 use Rattle.ipx_wire.specs.declared.address.Address.{Address}
+use Rattle.ipx_wire.specs.declared.network.Network.{Network}
 use Rattle.ipx_wire.specs.declared.rip.Operation.{Operation}
 use Rattle.ipx_wire.specs.declared.rip.Operation.TheVariants.{Request, Response}
 use Rattle.ipx_wire.specs.declared.rip.RipEntry.{RipEntry}
@@ -16,13 +18,13 @@ use Rattle.ipx_wire.specs.declared.sap.Sap.{Sap}
 use Rattle.ipx_wire.specs.declared.sap.Sap.TheVariants.{Query, Response as SapResponse}
 use Rattle.ipx_wire.specs.declared.sap.SapFault.{SapFault}
 use Rattle.ipx_wire.specs.declared.service.Service.{Service}
-use Rattle.ipx_table.specs.Facts.{Fact}
+use Rattle.ipx_table.specs.Facts.{Fact, Offered, Second, PortEnd, End}
 use Rattle.ipx_router.specs.Facts.{routes_offered, routes_heard, heard_after}
 use Rattle.ipx_router.specs.Heard.{Heard, HeardRip, HeardSap, heard_in, heard_near}
 use Rattle.ipx_router.specs.History.{History, Packet, IsOnPort, IsOfBytes, running}
 use Rattle.ipx_router.specs.News.{news}
 use Rattle.ipx_router.specs.Numbers.{rip_socket, sap_socket}
-use Rattle.ipx_router.specs.Port.{Port, IsPort, port_at, is_up, own_address, everyone, own_services, every_server, reply_to}
+use Rattle.ipx_router.specs.Port.{Port, IsPort, port_at, is_up, takes_no_route, own_address, everyone, own_services, every_server, reply_to}
 use Rattle.ipx_router.specs.Relays.{Sent}
 use Rattle.ipx_router.specs.Sends.{Holding, holding, sends, rip_sends, sap_sends, news_on, asked, of_kind, nearest_of}
 use Rattle.ipx_router.specs.Told.{told, told_services}
@@ -41,14 +43,43 @@ use Rattle.ipx_internet.proofs.lists.FoundInAList.{nothing, it_is}
 use Rattle.ipx_internet.proofs.packets.PagesReadAgain.{IsRipPage, IsSapPage, rip_pages, sap_pages}
 use Rattle.ipx_internet.proofs.packets.ResponsesAskNothing.{IsAnswering, rip_answers, answering}
 use Rattle.ipx_internet.proofs.packets.SentOnOrReply.{Layouts, IsNewsSent, IsCast, IsOnward, rip_reply, no_reply, unsaid, said_so, answered, nearest_fits, either_fits}
+use Rattle.ipx_internet.proofs.records.KeptOrOffered.{OffersOf}
 use Rattle.ipx_internet.proofs.rounds.RepliesTellChanges.{page_heard}
 use Rattle.ipx_internet.proofs.rounds.SentOnRunsOut.{reply_moves}
+use Rattle.ipx_laws.specs.Apart.{AreOf, TellsOnlyOf}
 use Rattle.ipx_laws.specs.Meanwhile.{message_of, TellsNoRoute}
 use Rattle.ipx_laws.proofs.packets.SentOnSaysTheSame.{heard_message, sent_on_message}
 
 -- whatever may be heard of the bytes tells of no route
 abbrev pub Silent : List ℕ → Type 0
 Silent bytes = (m : Heard) → message_of bytes ≡ Some m → TellsNoRoute m
+
+-- or tells of none but to networks of a list
+abbrev pub TellsApart : List Network → List ℕ → Type 0
+TellsApart foreign bytes = (m : Heard) → message_of bytes ≡ Some m → TellsOnlyOf foreign m
+
+-- what tells of no route tells of none to foreign
+pub none_of_foreign : (foreign : List Network) (m : Heard) → TellsNoRoute m → TellsOnlyOf foreign m
+none_of_foreign foreign (HeardRip source rip) silent = asks rip.operation silent
+  where
+    asks : (operation : Operation) → operation ≡ Request → AreOf foreign operation rip.entries
+    asks Request e = tt
+    asks Response e = absurd (true≢false (ap (λ (o : Operation). elim o [ Response ↦ true | Request ↦ false ]) e))
+none_of_foreign foreign (HeardSap source (Query nearest kind)) silent = silent
+none_of_foreign foreign (HeardSap source (SapResponse nearest entries)) silent = tt
+
+pub silent_apart : (foreign : List Network) (bytes : List ℕ) → Silent bytes → TellsApart foreign bytes
+silent_apart foreign bytes silent m e = none_of_foreign foreign m (silent m e)
+
+-- what tells of routes to networks of the list alone tells of none, or is a response
+pub none_or_response : (foreign : List Network) (m : Heard) → TellsOnlyOf foreign m → TellsNoRoute m ⊎ IsAnswering m
+none_or_response foreign (HeardRip source rip) tells = by rip.operation refl
+  where
+    by : (operation : Operation) → rip.operation ≡ operation → (rip.operation ≡ Request) ⊎ (rip.operation ≡ Response)
+    by Request e = inl e
+    by Response e = inr e
+none_or_response foreign (HeardSap source (Query nearest kind)) tells = inl tells
+none_or_response foreign (HeardSap source (SapResponse nearest entries)) tells = inl tt
 
 -- a page of routes that a port sends to its own network, to all or to who asked
 pub record IsOwnPage (P : RipEntry → Type 0) (port : Port) (bytes : List ℕ) : Type 0 where
@@ -57,8 +88,8 @@ pub record IsOwnPage (P : RipEntry → Type 0) (port : Port) (bytes : List ℕ) 
   pub page : IsRipPage P (own_address port) to bytes
 
 -- what a port sends
-abbrev pub IsSpoken : List ℕ → (ℕ → RipEntry → Type 0) → List Port → Sent → Type 0
-IsSpoken up P ports s = ((is_up up s.port ≡ true) × IsOwnPage (P s.port) (port_at ports s.port) s.bytes) ⊎ Silent s.bytes
+abbrev pub IsSpoken : List Network → List ℕ → (ℕ → RipEntry → Type 0) → List Port → Sent → Type 0
+IsSpoken foreign up P ports s = ((is_up up s.port ≡ true) × IsOwnPage (P s.port) (port_at ports s.port) s.bytes) ⊎ TellsApart foreign s.bytes
 
 -- ---- what is heard
 
@@ -101,27 +132,61 @@ silent_offers ports number (HeardRip source rip) asks = ap offered asks
     offered operation = elim operation [ Response ↦ routes_offered ports number source.node rip.entries | Request ↦ [] ]
 silent_offers ports number (HeardSap source sap) asks = refl
 
+-- what follows for each offer
+pub offers_then : {O : Type 0} (P Q : O → Type 0) → ((o : O) → P o → Q o) → (facts : List (Fact O)) → AllByRecursion (OffersOf P) facts
+    → AllByRecursion (OffersOf Q) facts
+offers_then P Q step [] all = tt
+offers_then P Q step (Offered offer ∷ facts) all = (step offer all.0, offers_then P Q step facts all.1)
+offers_then P Q step (Second ∷ facts) all = absurd all.0
+offers_then P Q step (PortEnd port ∷ facts) all = absurd all.0
+offers_then P Q step (End ∷ facts) all = absurd all.0
+
+-- a route to a network of the list
+abbrev pub IsTo : List Network → RouteOffer → Type 0
+IsTo foreign r = is_among r.network foreign ≡ true
+
+-- what tells of routes to such networks alone offers no other
+pub foreign_offer : (foreign : List Network) (ports : List Port) (number : ℕ) (m : Heard) → TellsOnlyOf foreign m
+    → AllByRecursion (OffersOf (IsTo foreign)) (routes_heard ports number (Some m))
+foreign_offer foreign ports number (HeardRip source rip) tells = by rip.operation tells
+  where
+    each : (entries : List RipEntry) → AllByRecursion (λ e. is_among e.network foreign ≡ true) entries
+        → AllByRecursion (OffersOf (IsTo foreign)) (routes_offered ports number source.node entries)
+    each [] all = tt
+    each (e ∷ entries) all = elim (cases_Bool (takes_no_route ports e.network)) [
+      | inl none ↦ rw none (each entries all.1)
+      | inr taken ↦ rw taken (all.0, each entries all.1)
+    ]
+
+    by : (operation : Operation) → AreOf foreign operation rip.entries
+        → AllByRecursion (OffersOf (IsTo foreign)) (elim operation [ Response ↦ routes_offered ports number source.node rip.entries | Request ↦ [] ])
+    by Response all = each rip.entries all
+    by Request all = tt
+foreign_offer foreign ports number (HeardSap source sap) tells = tt
+
 -- ---- what is sent
 
 -- a broadcast of changes, or of all
-pub cast_spoken : (up : List ℕ) (P : ℕ → RipEntry → Type 0) (Q : ℕ → Service → Type 0) (ports : List Port) (s : Sent) → IsCast up P Q ports s → IsSpoken up P ports s
-cast_spoken up P Q ports s is = by is.news
+pub cast_spoken : (foreign : List Network) (up : List ℕ) (P : ℕ → RipEntry → Type 0) (Q : ℕ → Service → Type 0) (ports : List Port) (s : Sent) → IsCast up P Q ports s
+    → IsSpoken foreign up P ports s
+cast_spoken foreign up P Q ports s is = by is.news
   where
-    by : IsNewsSent (P s.port) (Q s.port) (port_at ports s.port) s.bytes → IsSpoken up P ports s
+    by : IsNewsSent (P s.port) (Q s.port) (port_at ports s.port) s.bytes → IsSpoken foreign up P ports s
     by (inl page) = inl (is.on, record { to = everyone (port_at ports s.port); home = refl; page = page })
     by (inr page) =
         let port = port_at ports s.port in
-        inr (services_silent (Q s.port) (own_services port) (every_server port) false s.bytes (λ (e : sap_socket ≡ rip_socket). omega (arith, e)) page)
+        inr (silent_apart foreign s.bytes
+        (services_silent (Q s.port) (own_services port) (every_server port) false s.bytes (λ (e : sap_socket ≡ rip_socket). omega (arith, e)) page))
 
--- what tells of no route still doesn't, sent on
-pub silent_onward : (port : Port) (came sent : List ℕ) → Silent came → IsOnward port came sent → Silent sent
-silent_onward port came sent silent on m e = silent m (sent_on_message port came sent on m e)
+-- what tells of no other route still doesn't, sent on
+pub apart_onward : (foreign : List Network) (port : Port) (came sent : List ℕ) → TellsApart foreign came → IsOnward port came sent → TellsApart foreign sent
+apart_onward foreign port came sent tells on m e = tells m (sent_on_message port came sent on m e)
 
 -- nobody sends an own page on
 pub own_stays : (P : RipEntry → Type 0) (from to : Port) (came sent : List ℕ) → to.network ≡ from.network → IsOwnPage P from came → IsOnward to came sent → ⊥
 own_stays P from to came sent same is on = no_reply to came sent (reply_moves from to came same (rip_reply P from (own_address from) is.to came is.home is.page)) on
 
-module _ (laws : Layouts) (ports : List Port) (are : AllByRecursion IsPort ports) (most_routes most_services : ℕ) (history : History)
+module _ (foreign : List Network) (laws : Layouts) (ports : List Port) (are : AllByRecursion IsPort ports) (most_routes most_services : ℕ) (history : History)
     (on : AllByRecursion (IsOnPort ports) history) (of_bytes : AllByRecursion IsOfBytes history) (number : ℕ) (bytes : List ℕ) (within : number < length ports)
     (are_bytes : IsBytes bytes) (P : ℕ → RipEntry → Type 0) where
   abbrev before : Holding
@@ -134,7 +199,7 @@ module _ (laws : Layouts) (ports : List Port) (are : AllByRecursion IsPort ports
   sent = sends ports most_routes most_services history (Packet number bytes)
 
   abbrev Spoken : Sent → Type 0
-  Spoken s = IsSpoken after.up P ports s
+  Spoken s = IsSpoken foreign after.up P ports s
 
   abbrev AnyOne : ℕ → Service → Type 0
   AnyOne j s = Unit {0}
@@ -147,7 +212,7 @@ module _ (laws : Layouts) (ports : List Port) (are : AllByRecursion IsPort ports
     -- changes
     changes_spoken : (m : Heard) → heard_after ports history number bytes ≡ Some m → IsAnswering m → AllByRecursion Spoken sent
     changes_spoken m e answers =
-        all_then (IsCast after.up P AnyOne ports) Spoken (cast_spoken after.up P AnyOne ports) sent
+        all_then (IsCast after.up P AnyOne ports) Spoken (cast_spoken foreign after.up P AnyOne ports) sent
         (answered laws ports are most_routes most_services history on of_bytes number bytes within are_bytes P AnyOne changed (λ j. anything _) m e answers)
 
     -- answers
@@ -175,12 +240,12 @@ module _ (laws : Layouts) (ports : List Port) (are : AllByRecursion IsPort ports
     services_spoken source from apart nearest services fits =
         let to = reply_to (port_at ports number) source in
         all_then (λ s. IsSapPage (AnyOne number) (own_services (port_at ports number)) to nearest s.bytes × (s.port ≡ number)) Spoken
-        (λ s is. inr (services_silent (AnyOne number) (own_services (port_at ports number)) to nearest s.bytes apart is.0))
+        (λ s is. inr (silent_apart foreign s.bytes (services_silent (AnyOne number) (own_services (port_at ports number)) to nearest s.bytes apart is.0)))
         (sap_sends ports number to nearest services)
         (sap_pages laws.readings laws.again ports number is_here (AnyOne number) to (reply_is (port_at ports number) source is_here from) nearest services
         (all_both IsTellable (AnyOne number) services fits (anything services)))
 
-    -- for what tells of no route
+    -- for what tells of no route, and of none but to networks of the list
     asked_spoken : is_up after.up number ≡ true → AllByRecursion (P number) (told ports before.up before.routes number) → (source : Address) → IsPlaced source
         → (wanted : List RipEntry) (operation : Operation) → operation ≡ Request
         → AllByRecursion Spoken (elim operation [
@@ -205,18 +270,25 @@ module _ (laws : Layouts) (ports : List Port) (are : AllByRecursion IsPort ports
         (services_spoken source from silent nearest (if nearest then nearest_of services else services)
         (either_fits laws ports are nearest (nearest_of services) services (nearest_fits laws ports are services fits) fits))
 
+    told_spoken : is_up after.up number ≡ true → (m : Heard) → heard_after ports history number bytes ≡ Some m → IsPlaced (source_of m) → TellsOnlyOf foreign m
+        → AllByRecursion Spoken sent
+    told_spoken up_here m e from tells = elim (none_or_response foreign m tells) [
+      | inl silent ↦ silent_spoken up_here m e from silent
+      | inr answers ↦ changes_spoken m e answers
+    ]
+
     -- for any packet of which that much waits
     module _ (up_here : (m : Heard) → heard_after ports history number bytes ≡ Some m → is_up after.up number ≡ true) where
-      pub of_silent : Silent bytes → AllByRecursion Spoken sent
-      of_silent silent = by (heard_after ports history number bytes) refl
+      pub of_apart : TellsApart foreign bytes → AllByRecursion Spoken sent
+      of_apart tells = by (heard_after ports history number bytes) refl
         where
           by : (o : Option Heard) → heard_after ports history number bytes ≡ o → AllByRecursion Spoken sent
           by None e =
-              all_then (λ s. IsOnward (port_at ports number) bytes s.bytes) Spoken (λ s onward. inr (silent_onward (port_at ports number) bytes s.bytes silent onward)) sent
+              all_then (λ s. IsOnward (port_at ports number) bytes s.bytes) Spoken (λ s onward. inr (apart_onward foreign (port_at ports number) bytes s.bytes tells onward)) sent
               (unsaid laws ports are most_routes most_services history on of_bytes number bytes within are_bytes e)
           by (Some m) e =
-              silent_spoken (up_here m e) m e (heard_is laws.readings ports before.up number bytes are_bytes (running history) m e).source
-              (silent m (heard_message ports history number bytes m e))
+              told_spoken (up_here m e) m e (heard_is laws.readings ports before.up number bytes are_bytes (running history) m e).source
+              (tells m (heard_message ports history number bytes m e))
 
       pub of_own : (R : RipEntry → Type 0) (from : Port) → (port_at ports number).network ≡ from.network → IsOwnPage R from bytes → AllByRecursion Spoken sent
       of_own R from same is = by (heard_after ports history number bytes) refl

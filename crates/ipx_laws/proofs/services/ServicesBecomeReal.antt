@@ -1,6 +1,6 @@
 -- After the ticks by which what is gone is gone, what a router has of a service that hosts announce is as it may know it: at its address, on a
 -- way of as many hops.
-use Rattle.std.proofs.Common.{◌≡◌, refl, sym, ap, ◌∙◌, subst, ℕ, suc, ◌<◌, ◌≤◌, List, ◌∷◌, length, map, Option, Some, None, IfSome, arith}
+use Rattle.std.proofs.Common.{◌≡◌, refl, sym, ap, ◌∙◌, subst, ℕ, suc, ◌<◌, ◌≤◌, List, [], ◌∷◌, length, map, Option, Some, None, IfSome, arith}
 use Rattle.std.specs.List.{AllByRecursion}
 use Rattle.ipx_wire.specs.declared.sap.Sap.TheVariants.{Query, Response as SapResponse}
 use Rattle.ipx_wire.specs.declared.service.Service.{Service}
@@ -97,7 +97,7 @@ module _ (net : Internet) (laws : Layouts) (is : IsInternet net) (most_routes mo
       → Rests net laws is most_routes most_services (ups net run.histories) server Listed (length ticks) (ticked net most_routes most_services run (first ∷ ticks))
   from_any run first ticks are (rest, leaves, (busy, leave)) say names =
       let next = run_of net most_routes most_services run first in
-      let begins = begins_after net laws is most_routes most_services run first are rest leaves in
+      let begins = begins_after net laws is most_routes most_services run first are rest [] leaves in
       rested net laws is most_routes most_services (ups net run.histories) server Listed next ticks begins.are (λ router within. (begins.routers router within).ups) begins.quiet
       busy leave say names
 

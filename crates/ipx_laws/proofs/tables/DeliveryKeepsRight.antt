@@ -6,16 +6,18 @@ use Rattle.ipx_table.specs.Facts.{Fact}
 use Rattle.ipx_table.specs.declared.held.Held.{Held}
 use Rattle.ipx_wire.specs.Piece.{IsBytes}
 use Rattle.ipx_wire.specs.Rip.{IsEntry}
-use Rattle.ipx_wire.specs.declared.rip.Operation.TheVariants.{Response}
+use Rattle.ipx_wire.specs.declared.rip.Operation.{Operation}
+use Rattle.ipx_wire.specs.declared.rip.Operation.TheVariants.{Request, Response}
 use Rattle.ipx_wire.specs.declared.rip.RipEntry.{RipEntry}
+use Rattle.ipx_wire.specs.declared.sap.Sap.TheVariants.{Query, Response as SapResponse}
 use Rattle.ipx_router.specs.Facts.{route_offer, routes_offered, routes_heard, heard_after, route_facts, route_facts_of, routes_held, offers}
-use Rattle.ipx_router.specs.Heard.{Heard, HeardRip, heard}
+use Rattle.ipx_router.specs.Heard.{Heard, HeardRip, HeardSap, heard}
 use Rattle.ipx_router.specs.History.{Event, History, Packet, IsOnPort, IsOfBytes, seconds_run, running, ports_up}
 use Rattle.ipx_router.specs.News.{news}
-use Rattle.ipx_router.specs.Port.{Port, port_at, is_up, takes_no_route, own_address}
+use Rattle.ipx_router.specs.Port.{Port, port_at, is_up, takes_no_route, own_address, reply_to}
 use Rattle.ipx_router.specs.Numbers.{unreachable, period}
 use Rattle.ipx_router.specs.Relays.{Sent}
-use Rattle.ipx_router.specs.Sends.{Holding, holding, news_on}
+use Rattle.ipx_router.specs.Sends.{Holding, holding, news_on, asked, rip_sends, heard_sends}
 use Rattle.ipx_router.specs.Told.{told}
 use Rattle.ipx_router.specs.declared.route_offer.RouteOffer.{RouteOffer}
 use Rattle.ipx_router.proofs.lists.EachElement.{all_both}
@@ -30,20 +32,21 @@ use Rattle.ipx_internet.specs.Internet.{Place, IsPlace, ports_of, port_of}
 use Rattle.ipx_internet.specs.Queue.{Delivery, Queued, deliveries_of, history_of, with_event, sends_at, queued}
 use Rattle.ipx_internet.specs.Rounds.{IsDelivery}
 use Rattle.ipx_internet.proofs.lists.EachElement.{all_of, all_then, all-append}
+use Rattle.ipx_internet.proofs.packets.ResponsesAskNothing.{IsAnswering}
 use Rattle.ipx_internet.proofs.packets.SentOnOrReply.{said_so}
 use Rattle.ipx_internet.proofs.places.OneReceiverOfANode.{ports_at, port_is, one_port, apart_at}
+use Rattle.ipx_laws.specs.Apart.{TellsOnlyOf}
 use Rattle.ipx_laws.specs.Meanwhile.{TellsNoRoute}
 use Rattle.ipx_laws.specs.Least.{Way, most_ticks_right}
-use Rattle.ipx_laws.specs.Real.{IsReal}
 use Rattle.ipx_laws.specs.Gone.{most_ticks_gone}
 use Rattle.ipx_laws.proofs.lists.SomeElement.{number_any, AnyIs}
-use Rattle.ipx_laws.proofs.packets.RoutesOrSilence.{own_heard, near_in, silent_offers}
+use Rattle.ipx_laws.proofs.packets.RoutesOrSilence.{own_heard, near_in, silent_offers, none_or_response, foreign_offer}
 use Rattle.ipx_laws.proofs.packets.SentOnSaysTheSame.{heard_message}
 use Rattle.ipx_laws.proofs.packets.PagesAreHeard.{heard_page}
-use Rattle.ipx_laws.proofs.tables.Given.{Given}
+use Rattle.ipx_laws.proofs.tables.Given.{Given, FineOf}
 use Rattle.ipx_laws.proofs.tables.GoodRoutesStay.{right_offer, same_offer, decide}
 use Rattle.ipx_laws.proofs.tables.LastWords.{WantsOf, Sources, known_by, GoodBy, IsGood, facts_of, good_or_not, WordOf, PendingFor, Fine, comes_fine, Calm, Waits, Fresh, Late, Later, Same, free, StateWith, Righted, good_state, popped, calm_popped, elsewhere}
-use Rattle.ipx_laws.proofs.tables.LeastRouteSurvives.{EntryIs, entries_keep, entries_come, entries_any}
+use Rattle.ipx_laws.proofs.tables.LeastRouteSurvives.{EntryIs, foreign_keep, entries_keep, entries_come, entries_any}
 use Rattle.ipx_laws.proofs.tables.LeastWays.{IsNeighbour, few}
 use Rattle.ipx_laws.proofs.tables.NoRouteIsBetter.{there_where_up}
 use Rattle.ipx_laws.proofs.tables.SaysItsLeastWay.{Tells, news_tell}
@@ -55,7 +58,7 @@ use Rattle.ipx_laws.proofs.ticks.TickAfterTick.{all_come, packet_spoken, inside,
 
 module _ (given : Given) (before : ℕ) (long : most_ticks_gone ≤ before) (clock : ℕ → ℕ) (few_seconds : (router : ℕ) → clock router < period)
     (at_start : ℕ → Option RouteOffer) where
-  open given use {net, laws, is, differ, cheap, up, in_ports, most_routes, most_services, network}
+  open given use {net, laws, is, differ, cheap, up, in_ports, most_routes, most_services, foreign, network}
 
   abbrev Good_of : List History → ℕ → Type 0
   Good_of = IsGood given
@@ -105,7 +108,7 @@ module _ (given : Given) (before : ℕ) (long : most_ticks_gone ≤ before) (clo
     after_it = with_event histories x event
 
     there_it_is : x < length net
-    there_it_is = inside net laws is most_routes most_services up (suc before) histories queue d left righted.going
+    there_it_is = inside net laws is most_routes most_services up foreign (suc before) histories queue d left righted.going
 
     listed : x < length histories
     listed = omega (arith, there_it_is)
@@ -125,11 +128,11 @@ module _ (given : Given) (before : ℕ) (long : most_ticks_gone ≤ before) (clo
     soon : suc before ≤ count + 1
     soon = let f = few_left in omega (arith, f)
 
-    endured : Endures net up most_routes x count past
-    endured = packet_lasted net laws is most_routes most_services up (suc before) histories queue d left righted.going
+    endured : Endures net up foreign most_routes x count past
+    endured = packet_lasted net laws is most_routes most_services up foreign (suc before) histories queue d left righted.going
 
-    endures_now : Endures net up most_routes x count now
-    endures_now = packet_lasts net laws is most_routes most_services up (suc before) histories queue d left righted.going
+    endures_now : Endures net up foreign most_routes x count now
+    endures_now = packet_lasts net laws is most_routes most_services up foreign (suc before) histories queue d left righted.going
 
     place_is : IsPlace net d.to
     place_is = righted.going.waiting.0.delivery.place
@@ -193,11 +196,11 @@ module _ (given : Given) (before : ℕ) (long : most_ticks_gone ≤ before) (clo
         IsRight =
             EntryIs given x w.v w.off w.least w.wanted count enough d.to.port f (neighbour_of f reaches on)
 
-        is_real : (e : RipEntry) → RouteSaid net up (suc before) f e → takes_no_route ports e.network ≡ false → e.hops < unreachable
-            → IsReal net up x (route_offer d.to.port (port_of net f).node e)
+        is_real : (e : RipEntry) → RouteSaid net up foreign (suc before) f e → takes_no_route ports e.network ≡ false → e.hops < unreachable
+            → FineOf given x (route_offer d.to.port (port_of net f).node e)
         is_real e said taken near = grind arith
 
-        is_right : (e : RipEntry) → RouteSaid net up (suc before) f e → (Source_of x w.v d.to.port f → Words f e) → IsRight e
+        is_right : (e : RipEntry) → RouteSaid net up foreign (suc before) f e → (Source_of x w.v d.to.port f → Words f e) → IsRight e
         is_right e said words = record {
           right = λ named source.
               let hops = ap (λ (y : Way). y.hops) source.by in
@@ -226,7 +229,7 @@ module _ (given : Given) (before : ℕ) (long : most_ticks_gone ≤ before) (clo
             (record { operation = Response; entries = pending.page.page }))
         heard_so =
             let nb = neighbour_of f pending.reaches on_now in
-            ap (λ b. heard ports (ports_up ports past) b d.to.port d.bytes) (runs_where net up most_routes x d.to.port count past on_now endured)
+            ap (λ b. heard ports (ports_up ports past) b d.to.port d.bytes) (runs_where net up foreign most_routes x d.to.port count past on_now endured)
             ∙ heard_page ports (ports_up ports past) d.to.port
             (subst (λ (us : List ℕ). is_up us d.to.port ≡ true) (sym endured.ups) on_now)
             (port_of net f) (sym nb.network)
@@ -277,7 +280,7 @@ module _ (given : Given) (before : ℕ) (long : most_ticks_gone ≤ before) (clo
 
       -- a page is heard
       module _ (g : Place) (reaches : Reaches net up g d.to) (on : is_up (up x) d.to.port ≡ true) (entries : List RipEntry)
-          (said : AllByRecursion (RouteSaid net up (suc before) g) entries)
+          (said : AllByRecursion (RouteSaid net up foreign (suc before) g) entries)
           (heard_it : heard_after ports past d.to.port d.bytes ≡ Some (HeardRip (own_address (port_of net g)) (record { operation = Response; entries = entries })))
         where
           facts_so : route_facts ports now ≡ route_facts ports past ++ routes_offered ports d.to.port (port_of net g).node entries
@@ -288,9 +291,9 @@ module _ (given : Given) (before : ℕ) (long : most_ticks_gone ≤ before) (clo
               without (subst (λ (fs : List (Fact RouteOffer)). Before fs) (sym facts_so)
               (entries_keep given x w.v w.off w.least w.wanted count enough d.to.port g (neighbour_of g reaches on)
               Fresh_by fresh_now Same_by Late_by Later_by entries (route_facts ports past)
-              (all_then (λ e. RouteSaid net up (suc before) g e × (Source_of x w.v d.to.port g → Words g e)) (IsRight g reaches on)
+              (all_then (λ e. RouteSaid net up foreign (suc before) g e × (Source_of x w.v d.to.port g → Words g e)) (IsRight g reaches on)
               (λ e both. is_right g reaches on e both.0 both.1) entries
-              (all_both (RouteSaid net up (suc before) g) (λ e. Source_of x w.v d.to.port g → Words g e) entries said words)) state_before))
+              (all_both (RouteSaid net up foreign (suc before) g) (λ e. Source_of x w.v d.to.port g → Words g e) entries said words)) state_before))
 
           loose : StateFor given x w Fresh_by Late_by (Unit {0}) (λ r. Unit {0})
               (known_by given x w (route_facts ports now))
@@ -340,16 +343,22 @@ module _ (given : Given) (before : ℕ) (long : most_ticks_gone ≤ before) (clo
               nothing_heard (facts_now ∙ ap (λ q. route_facts ports past ++ routes_heard ports d.to.port q) e ∙ ap (λ fs. route_facts ports past ++ fs) none
               ∙ append-nil (route_facts ports past))
 
+          foreign_then : (m : Heard) → heard_after ports past d.to.port d.bytes ≡ Some m → TellsOnlyOf foreign m → Then (route_facts ports now)
+          foreign_then m e tells =
+              without (subst (λ (fs : List (Fact RouteOffer)). Before fs)
+              (sym (facts_now ∙ ap (λ q. route_facts ports past ++ routes_heard ports d.to.port q) e))
+              (foreign_keep given x w.v w.off w.least w.wanted count enough Fresh_by fresh_now Same_by Late_by Later_by
+              (routes_heard ports d.to.port (Some m)) (route_facts ports past) (foreign_offer foreign ports d.to.port m tells) state_before))
+
           by : (o : Option Heard) → heard_after ports past d.to.port d.bytes ≡ o → Then (route_facts ports now)
           by None e = none_then None e refl
           by (Some m) e = elim righted.going.waiting.0.says [
-            | inr silent ↦
-                none_then (Some m) e (silent_offers ports d.to.port m (silent m (heard_message ports past d.to.port d.bytes m e)))
+            | inr tells ↦ foreign_then m e (tells m (heard_message ports past d.to.port d.bytes m e))
             | inl (g, reaches, own) ↦
                 let came = came_in ports (ports_up ports past) d.to.port (running past) d.bytes m e in
                 let on = subst (λ (us : List ℕ). is_up us d.to.port ≡ true) endured.ups
                 (heard_up ports (ports_up ports past) d.to.port (running past) d.bytes m e) in
-                elim (own_heard (RouteSaid net up (suc before) g) (port_of net g) d.bytes own came.packet m came.read
+                elim (own_heard (RouteSaid net up foreign (suc before) g) (port_of net g) d.bytes own came.packet m came.read
                 (near_in (port_at ports d.to.port) came.packet m came.near)) [
                   | inl page ↦ heard_page_of g reaches on own.page.page own.page.each (e ∙ sym page)
                   | inr silent ↦ none_then (Some m) e (silent_offers ports d.to.port m silent)
@@ -390,7 +399,7 @@ module _ (given : Given) (before : ℕ) (long : most_ticks_gone ≤ before) (clo
 
     -- an entry is real or soon ended, and right, if the router is
     abbrev Says : Place → RipEntry → Type 0
-    Says from e = RouteSaid net up (suc before) from e × (Good_of after_it from.router → Words from e)
+    Says from e = RouteSaid net up foreign (suc before) from e × (Good_of after_it from.router → Words from e)
 
     if_good : (j : ℕ) (entries : List RipEntry) → (GoodNow → AllByRecursion (Words (place j)) entries)
         → AllByRecursion (λ e. Good_of after_it x → Words (place j) e) entries
@@ -407,8 +416,8 @@ module _ (given : Given) (before : ℕ) (long : most_ticks_gone ≤ before) (clo
         → AllByRecursion (Says (place d.to.port)) (told ports (up x) old d.to.port)
     said_told m e silent =
         let j = d.to.port in
-        all_both (RouteSaid net up (suc before) (place j)) (λ e. Good_of after_it x → Words (place j) e) (told ports (up x) old j)
-        (routes_said net up most_routes x count (suc before) soon past endured j)
+        all_both (RouteSaid net up foreign (suc before) (place j)) (λ e. Good_of after_it x → Words (place j) e) (told ports (up x) old j)
+        (routes_said net up foreign most_routes x count (suc before) soon past endured j)
         (if_good j (told ports (up x) old j) (λ good.
         let good_before : GoodBy given x (route_facts ports past) =
         subst (λ (fs : List (Fact RouteOffer)). GoodBy given x fs) (same_facts m e silent) good in
@@ -419,8 +428,8 @@ module _ (given : Given) (before : ℕ) (long : most_ticks_gone ≤ before) (clo
 
     said_news : (j : ℕ) → AllByRecursion (Says (place j)) (news ports old routes j)
     said_news j =
-        all_both (RouteSaid net up (suc before) (place j)) (λ e. Good_of after_it x → Words (place j) e) (news ports old routes j)
-        (changes_said net up most_routes x count (suc before) soon now endures_now old j)
+        all_both (RouteSaid net up foreign (suc before) (place j)) (λ e. Good_of after_it x → Words (place j) e) (news ports old routes j)
+        (changes_said net up foreign most_routes x count (suc before) soon now endures_now old j)
         (if_good j (news ports old routes j) (λ good.
         all_words given (suc before)
         (place j) (news ports old routes j) (λ u is_u near.
@@ -434,15 +443,15 @@ module _ (given : Given) (before : ℕ) (long : most_ticks_gone ≤ before) (clo
     abbrev new : List Delivery
     new = flat_map (deliveries_of net x) sent
 
-    come : AllByRecursion (λ d. IsDelivery net d × Comes net up Says d.to d.bytes) new
+    come : AllByRecursion (λ d. IsDelivery net d × Comes net up foreign Says d.to d.bytes) new
     come =
-        all_come net laws is most_routes most_services up Says histories righted.going.are x event place_is righted.going.waiting.0.delivery.bytes
-        (packet_spoken net laws is most_routes most_services up (λ j. Says (place j)) (RouteSaid net up (suc before)) histories righted.going.are d
+        all_come net laws is most_routes most_services up foreign Says histories righted.going.are x event place_is righted.going.waiting.0.delivery.bytes
+        (packet_spoken net laws is most_routes most_services up foreign (λ j. Says (place j)) (RouteSaid net up foreign (suc before)) histories righted.going.are d
         righted.going.waiting.0.delivery righted.going.waiting.0.says endured.ups endures_now.ups said_told said_news)
 
     fine : (f : Place) → Good_of after_it f.router → AllByRecursion (Is_fine f) new
     fine f good =
-        all_then (λ d. IsDelivery net d × Comes net up Says d.to d.bytes) (Is_fine f)
+        all_then (λ d. IsDelivery net d × Comes net up foreign Says d.to d.bytes) (Is_fine f)
         (λ e both. comes_fine given before Says f e both.1 (λ one says. says.1 good)) new come
 
     -- ---- where it turns right it tells its neighbours
@@ -474,14 +483,31 @@ module _ (given : Given) (before : ℕ) (long : most_ticks_gone ≤ before) (clo
         unchanged same =
             absurd (bad (subst (λ (fs : List (Fact RouteOffer)). GoodBy given x fs) same good))
 
+        -- a response is answered by changes alone
+        news_of : (m : Heard) → IsAnswering m → heard_sends ports bef aft d.to.port m ≡ flat_map (news_on ports bef aft) aft.up
+        news_of (HeardRip source rip) answers = ap said_for answers
+          where
+            said_for : Operation → List Sent
+            said_for operation = elim operation [
+              | Response ↦ flat_map (news_on ports bef aft) aft.up
+              | Request ↦ rip_sends ports d.to.port (reply_to (port_at ports d.to.port) source) Response (asked rip.entries (told ports bef.up bef.routes d.to.port))
+            ]
+        news_of (HeardSap source (Query nearest kind)) answers = absurd answers
+        news_of (HeardSap source (SapResponse nearest entries)) answers = refl
+
         by : (o : Option Heard) → heard_after ports past d.to.port d.bytes ≡ o → sent ≡ flat_map (news_on ports bef aft) aft.up
         by None e =
             unchanged (facts_now ∙ ap (λ q. route_facts ports past ++ routes_heard ports d.to.port q) e ∙ append-nil (route_facts ports past))
         by (Some m) e = elim righted.going.waiting.0.says [
-          | inr silent ↦ unchanged (same_facts m e (silent m (heard_message ports past d.to.port d.bytes m e)))
+          | inr tells ↦ elim (none_or_response foreign m (tells m (heard_message ports past d.to.port d.bytes m e))) [
+            | inl silent ↦ unchanged (same_facts m e silent)
+            | inr answers ↦
+                said_so laws ports (ports_at net is x) most_routes most_services past (righted.going.are.on_ports x) (righted.going.are.of_bytes x) d.to.port d.bytes
+                place_is righted.going.waiting.0.delivery.bytes m e ∙ news_of m answers
+          ]
           | inl (g, reaches, own) ↦
               let came = came_in ports (ports_up ports past) d.to.port (running past) d.bytes m e in
-              elim (own_heard (RouteSaid net up (suc before) g) (port_of net g) d.bytes own came.packet m came.read
+              elim (own_heard (RouteSaid net up foreign (suc before) g) (port_of net g) d.bytes own came.packet m came.read
               (near_in (port_at ports d.to.port) came.packet m came.near)) [
                 | inr silent ↦ unchanged (same_facts m e silent)
                 | inl page ↦
@@ -551,14 +577,14 @@ module _ (given : Given) (before : ℕ) (long : most_ticks_gone ≤ before) (clo
             moved : router ≡ x → Now router
             moved e =
                 subst Now (sym e) (λ there_is. subst (λ (h : History). (seconds_run h + left x) % period ≡ clock x) (sym is_now)
-                (ap (λ n. (n + left x) % period) (seconds_stay past event refl refl (runs_where net up most_routes x port count past there_is endured))
+                (ap (λ n. (n + left x) % period) (seconds_stay past event refl refl (runs_where net up foreign most_routes x port count past there_is endured))
                 ∙ righted.clocks x port there_is))
         by (inr off) =
             subst (λ (h : History). (seconds_run h + left router) % period ≡ clock router) (sym (same_history router off)) (righted.clocks router port here)
 
     pub delivery_rights : Righted_at left (queued net most_routes most_services (record { histories = histories; queue = queue }) x event)
     delivery_rights = record {
-      going = delivery_goes net laws is most_routes most_services up (suc before) histories queue d left righted.going;
+      going = delivery_goes net laws is most_routes most_services up foreign (suc before) histories queue d left righted.going;
       states = state_now;
       calm =
           calm_then given before clock few_seconds at_start

@@ -21,7 +21,7 @@ use Rattle.ipx_laws.specs.Least.{Way, is_on, by_port, way_of}
 use Rattle.ipx_laws.specs.Real.{IsReal}
 use Rattle.ipx_laws.proofs.records.BestIsKept.{AreBest, IsSteady, HasPlace}
 use Rattle.ipx_laws.proofs.records.SameSource.{source_parts}
-use Rattle.ipx_laws.proofs.tables.Given.{Given}
+use Rattle.ipx_laws.proofs.tables.Given.{Given, FineOf, real_one}
 use Rattle.ipx_laws.proofs.tables.LeastWays.{NoWorse, few, both_no_worse, same_way, IsNeighbour, within, same_some}
 use Rattle.ipx_laws.proofs.tables.NoRouteIsBetter.{there_where_up, real_way, none_beats, came_from, Source}
 use Rattle.ipx_laws.proofs.tables.RoomForEachNetwork.{same_where_equal, not_worse, worse, has_room, may}
@@ -36,7 +36,7 @@ same_offer a b network hops ticks port node =
 
 module _ (given : Given) (router : ℕ) (v : Way) (off : is_on (ports_of given.net router) given.network ≡ false)
     (least : within given.net given.up given.in_ports given.network 15 router ≡ Some v) where
-  open given use {net, is, differ, cheap, up, in_ports, most_routes, room, network, suffice}
+  open given use {net, is, differ, cheap, up, in_ports, most_routes, foreign, room, network, suffice}
 
   abbrev IsSource : ℕ → Place → Type 0
   IsSource port from = Source net is cheap up in_ports network router v port from
@@ -103,6 +103,13 @@ module _ (given : Given) (router : ℕ) (v : Way) (off : is_on (ports_of given.n
 
   -- ---- what a table keeps of the network
 
+  -- a route of a real way, if hosts may not tell of its network
+  abbrev pub Fine : RouteOffer → Type 0
+  Fine = FineOf given router
+
+  abbrev pub real_of : (r : RouteOffer) → Fine r → r.network ≡ network → IsReal net up router r
+  real_of = real_one given router
+
   abbrev pub shares : List ℕ
   shares = map (λ p. p.route_share) (ports_of net router)
 
@@ -110,7 +117,7 @@ module _ (given : Given) (router : ℕ) (v : Way) (off : is_on (ports_of given.n
   one k e = same_number k network (same_where_equal k.0 network.0 e)
 
   -- such offers are the best of the real ones
-  pub best : AreBest route_reading network_order network_total most_routes shares network one (IsReal net up router) Right
+  pub best : AreBest route_reading network_order network_total most_routes shares network one Fine Right
   best = record {
     named = λ f g right. ap (λ (r : RouteOffer). r.network) right.same;
     up = λ f g right. elim (cases_Bool (nat_le unreachable g.hops)) [
@@ -121,11 +128,12 @@ module _ (given : Given) (router : ℕ) (v : Way) (off : is_on (ports_of given.n
           let many = leb-true unreachable g.hops down in
           absurd (omega (arith, hops, most, many))
     ];
-    first = λ f g o right real named. elim (cases_Bool (is_gt (rank_order (g.ticks, g.hops) (o.ticks, o.hops)))) [
+    first = λ f g o right fine named. elim (cases_Bool (is_gt (rank_order (g.ticks, g.hops) (o.ticks, o.hops)))) [
       | inr so ↦ so
-      | inl e ↦ absurd (worse (way_of g) (way_of o) e (subst (λ (w : Way). NoWorse w (way_of o)) (sym (right_way f g right)) (not_beaten o real named)))
+      | inl e ↦ absurd (worse (way_of g) (way_of o) e (subst (λ (w : Way). NoWorse w (way_of o)) (sym (right_way f g right)) (not_beaten o (real_of o fine named) named)))
     ];
-    equal = λ f g o right real named as_good.
+    equal = λ f g o right fine named as_good.
+        let real = real_of o fine named in
         let two : NoWorse (way_of o) v = subst (λ (w : Way). NoWorse (way_of o) w) (right_way f g right) (not_worse (way_of o) (way_of g) as_good) in
         right_where_least o real named (both_no_worse v (way_of o) (not_beaten o real named) two);
     alike = λ f g o a b.
@@ -137,20 +145,20 @@ module _ (given : Given) (router : ℕ) (v : Way) (off : is_on (ports_of given.n
 
   -- what a neighbour offers, if it is right where such an offer is due
   pub steady : (from : Place) (o : RouteOffer) → IsNeighbour net up in_ports router o.port from → o.node ≡ (port_of net from).node
-      → (nat_le unreachable o.hops ≡ false → IsReal net up router o) → (IsSource o.port from → o ≡ right_offer o.port from)
-      → IsSteady route_reading network_order network_total most_routes shares network one (IsReal net up router) Right o
+      → (nat_le unreachable o.hops ≡ false → Fine o) → (IsSource o.port from → o ≡ right_offer o.port from)
+      → IsSteady route_reading network_order network_total most_routes shares network one Fine Right o
   steady from o neighbour node real due = search (rules, source_parts, one_place, right_node)
 
   -- and there is room for it
   pub place : (held : List (Held RouteOffer)) → IsDistinct (route_rules (ports_of net router) most_routes).by_key held
-      → AllByRecursion (λ h. IsReal net up router h.offer) held → (from : Place) (o : RouteOffer) → Right from o → IsReal net up router o
-      → HasPlace route_reading network_order network_total most_routes shares network one (IsReal net up router) Right held o
-  place held distinct all from o right real =
+      → AllByRecursion (λ h. Fine h.offer) held → (from : Place) (o : RouteOffer) → Right from o → Fine o
+      → HasPlace route_reading network_order network_total most_routes shares network one Fine Right held o
+  place held distinct all from o right fine =
       let there = there_where_up net is cheap up in_ports network in
       let inside = router_there net router o.port right.source.neighbour.here in
       let same : o.network ≡ network = ap (λ (r : RouteOffer). r.network) right.same in
       let finds : (n : Network) → Option (Held RouteOffer) = λ n. find (λ h. is_eq (network_order h.offer.network n)) held in
       record {
-        admits = λ none. has_room net up there router most_routes room inside held distinct all o real (ap finds same ∙ none);
-        replaces = λ h some. may net up there router most_routes room inside held distinct all o h (ap finds same ∙ some);
+        admits = λ none. has_room net up there router most_routes foreign room inside held distinct all o fine (ap finds same ∙ none);
+        replaces = λ h some. may net up there router most_routes foreign room inside held distinct all o h (ap finds same ∙ some);
       }

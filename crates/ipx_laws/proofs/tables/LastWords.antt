@@ -6,6 +6,7 @@ use Rattle.std.specs.List.{AllByRecursion}
 use Rattle.std.proofs.lemmas.Bool.{cases_eq, both_ways}
 use Rattle.ipx_table.specs.Facts.{Fact}
 use Rattle.ipx_table.specs.declared.held.Held.{Held}
+use Rattle.ipx_wire.specs.Crossed.{is_among}
 use Rattle.ipx_wire.specs.Rip.{RipParts}
 use Rattle.ipx_wire.specs.Write.{rip_packet_parts}
 use Rattle.ipx_wire.specs.declared.address.Address.{Address}
@@ -25,9 +26,10 @@ use Rattle.ipx_internet.proofs.lists.FoundInAList.{nothing, it_is}
 use Rattle.ipx_internet.proofs.places.OneReceiverOfANode.{same_place}
 use Rattle.ipx_laws.specs.Gone.{most_ticks_gone}
 use Rattle.ipx_laws.specs.Least.{Way, is_on, way_of, most_ticks_right}
+use Rattle.ipx_laws.specs.Apart.{AreOf}
 use Rattle.ipx_laws.specs.Meanwhile.{message_of}
 use Rattle.ipx_laws.proofs.lists.SomeElement.{AnyIs}
-use Rattle.ipx_laws.proofs.packets.RoutesOrSilence.{Silent, own_heard}
+use Rattle.ipx_laws.proofs.packets.RoutesOrSilence.{TellsApart, own_heard}
 use Rattle.ipx_laws.proofs.packets.SentOnSaysTheSame.{of_packet, message_heard}
 use Rattle.ipx_laws.proofs.tables.Given.{Given}
 use Rattle.ipx_laws.proofs.tables.GoodRoutesStay.{right_way}
@@ -38,7 +40,7 @@ use Rattle.ipx_laws.proofs.ticks.RealOrSoonEnded.{Reaches, Comes}
 use Rattle.ipx_laws.proofs.ticks.TickAfterTick.{Going}
 
 module _ (given : Given) where
-  open given use {net, laws, is, differ, cheap, up, in_ports, most_routes, most_services, network}
+  open given use {net, laws, is, differ, cheap, up, in_ports, most_routes, most_services, foreign, network, unlisted}
 
   abbrev pub WantsOf : ℕ → Type 0
   WantsOf = Wants given
@@ -126,15 +128,16 @@ module _ (given : Given) where
     any_ends x f (d ∷ new) (inl here) fine = inr (here, fine.1)
     any_ends x f (d ∷ new) (inr behind) fine = inl (any_ends x f new behind fine.1)
 
-    -- what tells of no route is right
-    pub silent_fine : (f : Place) (d : Delivery) → Silent d.bytes → Fine f d
-    silent_fine f d silent source rip e response node reaches =
-        let request : rip.operation ≡ Request = silent (HeardRip source rip) e in
-        absurd (true≢false (ap (λ (o : Operation). elim o [ Response ↦ true | Request ↦ false ]) (sym response ∙ request)))
+    -- what tells of no route but to other networks is right
+    pub foreign_fine : (f : Place) (d : Delivery) → TellsApart foreign d.bytes → Fine f d
+    foreign_fine f d tells source rip e response node reaches =
+        all_then (λ entry. is_among entry.network foreign ≡ true) (WordOf f)
+        (λ entry among u is_u near named. absurd (both_ways (is_among entry.network foreign) (ap (λ n. is_among n foreign) named ∙ unlisted) among)) rip.entries
+        (subst (λ (o : Operation). AreOf foreign o rip.entries) response (tells (HeardRip source rip) e))
 
     -- what another router says is right, where what that port says is
-    pub comes_fine : (Q : Place → RipEntry → Type 0) (f : Place) (d : Delivery) → Comes net up Q d.to d.bytes → ((e : RipEntry) → Q f e → WordOf f e) → Fine f d
-    comes_fine Q f d (inr silent) word source rip e response node reaches_f = silent_fine f d silent source rip e response node reaches_f
+    pub comes_fine : (Q : Place → RipEntry → Type 0) (f : Place) (d : Delivery) → Comes net up foreign Q d.to d.bytes → ((e : RipEntry) → Q f e → WordOf f e) → Fine f d
+    comes_fine Q f d (inr tells) word source rip e response node reaches_f = foreign_fine f d tells source rip e response node reaches_f
     comes_fine Q f d (inl (from, reaches, own)) word source rip e response node reaches_f =
         let port = port_of net from in
         let parts = rip_packet_parts (own_address port) own.to Response own.page.page in
@@ -243,7 +246,7 @@ module _ (given : Given) where
       -- ---- while a tick goes on
 
       pub record Righted (left : ℕ → ℕ) (q : Queued) : Type 0 where
-        pub going : Going net laws is most_routes most_services up (suc before) left q
+        pub going : Going net laws is most_routes most_services up foreign (suc before) left q
         pub states : (x : ℕ) (w : WantsOf x) → StateWith (left x) left q.histories q.queue x w (facts_of q.histories x)
         pub calm : (x port : ℕ) (f : Place) (w : WantsOf x) → Sources x w.v port f → IsGood q.histories f.router → Calm x f q.queue
         pub clocks : (router port : ℕ) → is_up (up router) port ≡ true → (seconds_run (history_of q.histories router) + left router) % period ≡ clock router

@@ -3,6 +3,7 @@ use Rattle.std.proofs.lemmas.Grind.{common_steps}
 use Rattle.std.proofs.Common.{◌≡◌, ◌≢◌, refl, sym, ap, ap₂, ◌∙◌, subst, ℕ, zero, suc, ◌+◌, ◌<◌, ◌≤◌, ◌==◌, ◌||◌, Bool, true, false, List, [], ◌∷◌, ◌++◌, length, map, filter, flat_map, Option, None, Some, option_map, Result, Ok, Err, inl, inr, arith, append-nil, if◌then◌else◌, rules}
 use Rattle.std.specs.List.{AllByRecursion}
 use Rattle.std.proofs.lemmas.Bool.{cases_Bool, cases_eq, or_cases, ne_eqb, eq-eqb, eqb-true, both_ways}
+use Rattle.ipx_wire.specs.Crossed.{is_among}
 use Rattle.ipx_wire.specs.Forward.{forwarded}
 use Rattle.ipx_wire.specs.Packet.{Parts, IsPacket, packet_of}
 use Rattle.ipx_wire.specs.Piece.{IsBytes}
@@ -37,9 +38,10 @@ use Rattle.ipx_internet.proofs.places.OneReceiverOfANode.{port_is, same_number, 
 use Rattle.ipx_internet.proofs.trees.PropagatedIsBounded.{ports_same}
 use Rattle.ipx_internet.proofs.trees.RoutersAsTreesSee.{numbers_front, joint}
 use Rattle.ipx_internet.proofs.trees.RunIsALog.{router_there}
+use Rattle.ipx_laws.specs.Apart.{HasRoomBeside}
 use Rattle.ipx_laws.specs.Arriving.{IsOfHost, IsAllowed, IsShort, Arrives, EndsOn}
 use Rattle.ipx_laws.specs.Gone.{most_ticks_gone}
-use Rattle.ipx_laws.specs.Least.{Way, is_on, is_up_on, by_port, way_by, ways_within, least as least_of, neighbours, AreCheap, HasRoom, FifteenSuffice, most_ticks_right}
+use Rattle.ipx_laws.specs.Least.{Way, is_on, is_up_on, by_port, way_by, ways_within, least as least_of, neighbours, AreCheap, FifteenSuffice, most_ticks_right}
 use Rattle.ipx_laws.proofs.lists.SomeElement.{number_any, found_with, found_some, AnyIs, any_then, any_and_all, the_one}
 use Rattle.ipx_laws.proofs.packets.PagesAreHeard.{nodes_apart}
 use Rattle.ipx_laws.proofs.records.SameSource.{same_bytes, bytes_same}
@@ -143,9 +145,9 @@ module _ (net : Internet) (up : ℕ → List ℕ) (in_ports : (router : ℕ) →
           rw (off, nets, every) refl
 
 module _ (net : Internet) (laws : Layouts) (is : IsInternet net) (differ : NodesDiffer net) (cheap : AreCheap net) (up : ℕ → List ℕ)
-    (in_ports : (router : ℕ) → AllByRecursion (λ j. j < length (ports_of net router)) (up router)) (most_routes most_services : ℕ) (room : HasRoom net most_routes)
-    (to : Address) (suffice : FifteenSuffice net up to.network)
-    (ticks : ℕ) (run : Run) (rest : AtRest (given_of net laws is differ cheap up in_ports most_routes most_services room to.network suffice)
+    (in_ports : (router : ℕ) → AllByRecursion (λ j. j < length (ports_of net router)) (up router)) (most_routes most_services : ℕ) (foreign : List Network)
+    (room : HasRoomBeside net most_routes foreign) (to : Address) (suffice : FifteenSuffice net up to.network) (unlisted : is_among to.network foreign ≡ false)
+    (ticks : ℕ) (run : Run) (rest : AtRest (given_of net laws is differ cheap up in_ports most_routes most_services foreign room to.network suffice unlisted)
     ticks run) (long : most_ticks_gone ≤ ticks) where
   abbrev routers : List Router
   routers = routers_after net most_routes run.histories
@@ -165,7 +167,7 @@ module _ (net : Internet) (laws : Layouts) (is : IsInternet net) (differ : Nodes
     abbrev routes : List RouteOffer
     routes = offers (routes_held ports most_routes history)
 
-    endures : Endures net up most_routes q ticks history
+    endures : Endures net up foreign most_routes q ticks history
     endures = rest.rests.routers q inside
 
     ups_in : AllByRecursion (λ j. j < length ports) ups
@@ -180,7 +182,7 @@ module _ (net : Internet) (laws : Layouts) (is : IsInternet net) (differ : Nodes
         (few_control : p.header.control < 16) where
       other_network : is_local (port_at ports number) p.header.destination.network ≡ false
       other_network =
-          let (place, there, named) = some_port (given_of net laws is differ cheap up in_ports most_routes most_services room to.network suffice)
+          let (place, there, named) = some_port (given_of net laws is differ cheap up in_ports most_routes most_services foreign room to.network suffice unlisted)
           15 q v least (on_or_off net up in_ports to.network q) in
           let some = (port_is net is place there).some_network in
           let number_is = ap (λ (n : Network). n.0) named in
@@ -368,9 +370,9 @@ module _ (net : Internet) (laws : Layouts) (is : IsInternet net) (differ : Nodes
       by (inr off) deeper =
           let inside = router_there net q port here in
           let enough : most_ticks_right ≤ ticks = sure (omega arith) in
-          let has = route_is (given_of net laws is differ cheap up in_ports most_routes most_services room to.network suffice)
+          let has = route_is (given_of net laws is differ cheap up in_ports most_routes most_services foreign room to.network suffice unlisted)
           ticks run rest long q inside v off least enough in
-          let held = by_number (given_of net laws is differ cheap up in_ports most_routes most_services room to.network suffice) ticks run rest long q inside ∙ has.held in
+          let held = by_number (given_of net laws is differ cheap up in_ports most_routes most_services foreign room to.network suffice unlisted) ticks run rest long q inside ∙ has.held in
           let out : Outway = record { port = has.route.port; link = has.route.node } in
           let routed = way_by_route q inside off has.route held in
           let leaves = has.source.neighbour.here in

@@ -19,11 +19,11 @@ use Rattle.ipx_internet.specs.Ticks.{ticked}
 use Rattle.ipx_internet.proofs.trees.RunIsALog.{router_there}
 use Rattle.ipx_laws.specs.Gone.{most_ticks_gone}
 use Rattle.ipx_laws.specs.Least.{Way, way_of, most_ticks_right}
-use Rattle.ipx_laws.proofs.packets.RoutesOrSilence.{Silent}
+use Rattle.ipx_laws.proofs.packets.RoutesOrSilence.{TellsApart}
 use Rattle.ipx_laws.proofs.tables.DeliveryKeepsRight.{delivery_rights}
 use Rattle.ipx_laws.proofs.tables.Given.{Given}
 use Rattle.ipx_laws.proofs.tables.GoodRoutesStay.{right_way}
-use Rattle.ipx_laws.proofs.tables.LastWords.{WantsOf, Sources, known_by, IsGood, silent_fine, Ends, Waits, Righted, waits_unsteady}
+use Rattle.ipx_laws.proofs.tables.LastWords.{WantsOf, Sources, known_by, IsGood, foreign_fine, Ends, Waits, Righted, waits_unsteady}
 use Rattle.ipx_laws.proofs.tables.LeastWays.{within, came, same_some, is_there}
 use Rattle.ipx_laws.proofs.tables.NoRouteIsBetter.{there_where_up, a_source}
 use Rattle.ipx_laws.proofs.tables.RoomForEachNetwork.{same_where_equal, equal_where_same}
@@ -58,7 +58,7 @@ tied a b = elim (cases_eq a b) [
     ]
 
 module _ (given : Given) where
-  open given use {net, laws, is, cheap, up, in_ports, most_routes, most_services, network, suffice}
+  open given use {net, laws, is, cheap, up, in_ports, most_routes, most_services, foreign, network, suffice}
 
   abbrev Good_of : Run → ℕ → Type 0
   Good_of run = IsGood given run.histories
@@ -90,7 +90,7 @@ module _ (given : Given) where
   Still ticks run f = (ticks ≤ most_ticks_gone + clock_in run f.router) ⊎ (Good_of run f.router → ⊥)
 
   pub record AtRest (ticks : ℕ) (run : Run) : Type 0 where
-    pub rests : Rests net laws is most_routes most_services up ticks run
+    pub rests : Rests net laws is most_routes most_services up foreign ticks run
     pub aged : (x : ℕ) (w : Wanting x) (h : Held RouteOffer) (f : Place) → known_in run x w ≡ Some h → RightOf x w f h.offer
         → (h.age ≤ clock_in run f.router + 1) ⊎ Still ticks run f
     pub holds : (x : ℕ) (w : Wanting x)
@@ -98,7 +98,7 @@ module _ (given : Given) where
         ⊎ ((port : ℕ) × (f : Place) × Source_of x w.v port f × Still ticks run f)
 
   -- it is so until the ticks are over after which all routes are real
-  pub at_first : (ticks : ℕ) (run : Run) → ticks ≤ most_ticks_gone → Rests net laws is most_routes most_services up ticks run → AtRest ticks run
+  pub at_first : (ticks : ℕ) (run : Run) → ticks ≤ most_ticks_gone → Rests net laws is most_routes most_services up foreign ticks run → AtRest ticks run
   at_first ticks run few_ticks rests = record {
     rests = rests;
     aged = λ x w h f e right. inr (inl (omega (arith, few_ticks)));
@@ -138,7 +138,7 @@ module _ (given : Given) where
   -- ---- one tick
 
   module _ (before : ℕ) (long : most_ticks_gone ≤ before) (run : Run) (steps : List Step) (rest : AtRest before run)
-      (tick : IsCalmTick net most_routes most_services run steps) where
+      (tick : IsCalmTick net most_routes most_services foreign run steps) where
     abbrev clock : ℕ → ℕ
     clock router = (seconds_run (history_of run.histories router) + 1) % period
 
@@ -164,7 +164,7 @@ module _ (given : Given) where
 
     same_left : (left rest_left : ℕ → ℕ) (q : Queued) → ((router : ℕ) → left router ≡ rest_left router) → RightedOf left q → RightedOf rest_left q
     same_left left rest_left q alike righted = record {
-      going = (going_kept net laws is most_routes most_services up (suc before)).same left rest_left q alike righted.going;
+      going = (going_kept net laws is most_routes most_services up foreign (suc before)).same left rest_left q alike righted.going;
       states = λ x w.
           let state = righted.states x w in
           let a = alike x in
@@ -189,10 +189,10 @@ module _ (given : Given) where
         waits x f S T step (inr (inr (inl bad))) = inr (inr (inl bad))
         waits x f S T step (inr (inr (inr (s, ending)))) = inr (inr (inr (step s, ending)))
 
-    silent_in_front : (histories : List History) (waiting : List Delivery) (d : Delivery) (left : ℕ → ℕ) → IsDelivery net d → Silent d.bytes
+    foreign_in_front : (histories : List History) (waiting : List Delivery) (d : Delivery) (left : ℕ → ℕ) → IsDelivery net d → TellsApart foreign d.bytes
         → RightedOf left (record { histories = histories; queue = waiting }) → RightedOf left (record { histories = histories; queue = d ∷ waiting })
-    silent_in_front histories waiting d left delivery silent righted = record {
-      going = (going_kept net laws is most_routes most_services up (suc before)).comes histories waiting d left delivery silent righted.going;
+    foreign_in_front histories waiting d left delivery tells righted = record {
+      going = (going_kept net laws is most_routes most_services up foreign (suc before)).comes histories waiting d left delivery tells righted.going;
       states = λ x w.
           let state = righted.states x w in
           record {
@@ -206,7 +206,7 @@ module _ (given : Given) where
             ];
           };
       calm = λ x port f w source good. elim (righted.calm x port f w source good) [
-        | inl all ↦ inl (silent_fine given before f d silent, all)
+        | inl all ↦ inl (foreign_fine given before f d tells, all)
         | inr (unsteady, ending) ↦ inr (unsteady, inl ending)
       ];
       clocks = righted.clocks;
@@ -218,8 +218,8 @@ module _ (given : Given) where
         waits x f S (inr (inr (inl bad))) = inr (inr (inl bad))
         waits x f S (inr (inr (inr (s, ending)))) = inr (inr (inr (s, inl ending)))
 
-    pub kept : IsKept net laws is most_routes most_services up RightedOf
-    kept = search (rules, same_left, second_rights, few_seconds, delivery_rights, silent_in_front)
+    pub kept : IsKept net laws is most_routes most_services up foreign RightedOf
+    kept = search (rules, same_left, second_rights, few_seconds, delivery_rights, foreign_in_front)
 
     -- ---- when it begins
 
@@ -227,7 +227,7 @@ module _ (given : Given) where
     none_waits Q waiting none = subst (λ (ws : List Waiting). AllByRecursion Q (map (λ w. w.delivery) ws)) (sym none) tt
 
     waits_then : (x : ℕ) (f : Place) (port : ℕ) (w : Wanting x) → Source_of x w.v port f → Still before run f
-        → Waits_by (left_of net laws is most_routes most_services up steps) run.histories queue x f (before < most_ticks_right)
+        → Waits_by (left_of net laws is most_routes most_services up foreign steps) run.histories queue x f (before < most_ticks_right)
     waits_then x f port w source (inr bad) = inr (inr (inl (unsteady, bad)))
       where
         unsteady : before < most_ticks_right
@@ -241,11 +241,11 @@ module _ (given : Given) where
     ]
 
     abbrev left : ℕ → ℕ
-    left = left_of net laws is most_routes most_services up steps
+    left = left_of net laws is most_routes most_services up foreign steps
 
-    pub begins_right : RightedOf (left_of net laws is most_routes most_services up steps) (forgotten run)
+    pub begins_right : RightedOf (left_of net laws is most_routes most_services up foreign steps) (forgotten run)
     begins_right = record {
-      going = begins net laws is most_routes most_services up before run steps rest.rests tick.busy;
+      going = begins net laws is most_routes most_services up foreign before run steps rest.rests tick.busy;
       states = λ x w. record {
         aged = λ h f e right.
             let here = tick.busy.each x (is_there net up in_ports network 15 x w.v w.least) in
@@ -289,7 +289,7 @@ module _ (given : Given) where
             weaker (inr (inr (inl bad))) = inr (inr (inl bad))
             weaker (inr (inr (inr (s, ending)))) = inr (inr (inr (inr s, ending)))
 
-    pub ended : RightedOf (left_of net laws is most_routes most_services up []) (forgotten last)
+    pub ended : RightedOf (left_of net laws is most_routes most_services up foreign []) (forgotten last)
     ended = grind (arith, steps_so, kept, begins_right)
 
     -- ---- when it is over
@@ -304,12 +304,12 @@ module _ (given : Given) where
     none_ends x f waiting none any = grind arith
 
     still_then : (S : Type 0) (x port : ℕ) (f : Place) (w : Wanting x) → Source_of x w.v port f
-        → Waits_by (left_of net laws is most_routes most_services up []) last.histories (map (λ w. w.delivery) last.waiting) x f S → Still (suc before) last f
+        → Waits_by (left_of net laws is most_routes most_services up foreign []) last.histories (map (λ w. w.delivery) last.waiting) x f S → Still (suc before) last f
     still_then S x port f w source given = grind (arith, clock_is, none_ends)
 
     pub tick_rests : AtRest (suc before) last
     tick_rests = record {
-      rests = ends net laws is most_routes most_services up (suc before) last ended.going tick.busy.quiet;
+      rests = ends net laws is most_routes most_services up foreign (suc before) last ended.going tick.busy.quiet;
       aged = λ x w h f e right. elim ((ended.states x w).aged h f e right) [
         | inl young ↦
             let c = clock_is f.router f.port right.source.neighbour.on_there in
@@ -337,12 +337,12 @@ module _ (given : Given) where
     ]
 
     pub route_stays : (x : ℕ) (w : Wanting x) → most_ticks_right ≤ before → route_of last x ≡ route_of run x
-    route_stays = held_now (left_of net laws is most_routes most_services up []) last ended
+    route_stays = held_now (left_of net laws is most_routes most_services up foreign []) last ended
 
   -- ---- ticks, one after the other
 
   pub ticks_rest_right : (so_far : ℕ) → most_ticks_gone ≤ so_far → (run : Run) (ticks : List (List Step)) → AtRest so_far run
-      → CalmTicks net most_routes most_services run ticks → AtRest (length ticks + so_far) (ticked net most_routes most_services run ticks)
+      → CalmTicks net most_routes most_services foreign run ticks → AtRest (length ticks + so_far) (ticked net most_routes most_services run ticks)
   ticks_rest_right so_far long run [] rest are = grind arith
   ticks_rest_right so_far long run (steps ∷ ticks) rest are =
       let next = run_of net most_routes most_services run steps in

@@ -1,6 +1,6 @@
--- Where every route is of a real way, there is room: no more routes are held than there are networks that the router has no port on; and
--- which of two routes is worse.
-use Rattle.std.proofs.Common.{◌≡◌, refl, sym, ap, ◌∙◌, subst, ℕ, zero, suc, ◌<◌, ◌≤◌, ◌==◌, nat_lt, ◌&&◌, Bool, true, false, not, List, [], ◌∷◌, length, map, filter, find, flat_map, get_or, None, Some, inl, inr, arith, true≢false, Less, Equal, Greater, is_eq, rules}
+-- Where every route is of a real way, or to a network of a list, there is room: no more routes are held than there are networks that the router
+-- has no port on, and of the list; and which of two routes is worse.
+use Rattle.std.proofs.Common.{◌≡◌, refl, sym, ap, ◌∙◌, subst, ℕ, zero, suc, ◌<◌, ◌≤◌, ◌==◌, nat_lt, ◌&&◌, Bool, true, false, not, List, [], ◌∷◌, ◌++◌, length, map, filter, find, flat_map, get_or, None, Some, inl, inr, arith, true≢false, Less, Equal, Greater, is_eq, rules}
 use Rattle.std.specs.List.{AllByRecursion, list_any}
 use Rattle.std.specs.Ordering.{nat_cmp, is_gt}
 use Rattle.std.specs.Cmp.{nat_cmp_is}
@@ -19,7 +19,8 @@ use Rattle.ipx_internet.specs.Internet.{Internet, Place, IsPlace, ports_of, netw
 use Rattle.ipx_internet.proofs.lists.EachElement.{all_at, all_mapped, all_then}
 use Rattle.ipx_internet.proofs.places.OneReceiverOfANode.{same_number}
 use Rattle.ipx_internet.proofs.trees.RunIsALog.{router_there}
-use Rattle.ipx_laws.specs.Least.{Way, is_on, each_once, networks_of, others_of, HasRoom}
+use Rattle.ipx_laws.specs.Apart.{IsRealApart, HasRoomBeside}
+use Rattle.ipx_laws.specs.Least.{Way, is_on, each_once, networks_of, others_of}
 use Rattle.ipx_laws.specs.Real.{IsReal, next, farther}
 use Rattle.ipx_laws.proofs.lists.SomeElement.{AnyIs, any-map, any-flat_map, passes_any}
 use Rattle.ipx_laws.proofs.records.KeysHaveRoom.{IsListed, AreSingle, admits, replaces}
@@ -160,35 +161,55 @@ module _ (net : Internet) (up : ℕ → List ℕ) (there_where_up : (router port
 
   -- ---- room and shares
 
-  module _ (router : ℕ) (most_routes : ℕ) (room : HasRoom net most_routes) (inside : router < length net) (held : List (Held RouteOffer))
-      (distinct : IsDistinct (route_rules (ports_of net router) most_routes).by_key held) (all : AllByRecursion (λ h. IsReal net up router h.offer) held) (o : RouteOffer) where
+  -- what is in one of two lists is in both together
+  in_first : (network : Network) (xs ys : List Network) → list_any (λ n. n.0 == network.0) xs ≡ true → list_any (λ n. n.0 == network.0) (xs ++ ys) ≡ true
+  in_first network [] ys any = absurd (true≢false (sym any))
+  in_first network (x ∷ xs) ys any = elim (or_cases (x.0 == network.0) (list_any (λ n. n.0 == network.0) xs) any) [
+    | inl here ↦ or_left (x.0 == network.0) (list_any (λ n. n.0 == network.0) (xs ++ ys)) here
+    | inr behind ↦ or_right (x.0 == network.0) (list_any (λ n. n.0 == network.0) (xs ++ ys)) (in_first network xs ys behind)
+  ]
+
+  in_second : (network : Network) (xs ys : List Network) → list_any (λ n. n.0 == network.0) ys ≡ true → list_any (λ n. n.0 == network.0) (xs ++ ys) ≡ true
+  in_second network [] ys any = any
+  in_second network (x ∷ xs) ys any = or_right (x.0 == network.0) (list_any (λ n. n.0 == network.0) (xs ++ ys)) (in_second network xs ys any)
+
+  module _ (router : ℕ) (most_routes : ℕ) (foreign : List Network) (room : HasRoomBeside net most_routes foreign) (inside : router < length net) (held : List (Held RouteOffer))
+      (distinct : IsDistinct (route_rules (ports_of net router) most_routes).by_key held) (all : AllByRecursion (λ h. IsRealApart net up foreign router h.offer) held)
+      (o : RouteOffer) where
     abbrev ports : List Port
     ports = ports_of net router
 
     abbrev others : List Network
-    others = others_of net ports
+    others = others_of net ports ++ foreign
 
     one : (a b : Network) → is_eq (network_order a b) ≡ true → a ≡ b
     one a b e = same_number a b (same_where_equal a.0 b.0 e)
 
     table : length others ≤ most_routes
-    table = all_at (λ ps. length (others_of net ps) ≤ most_routes) net router [] room.table inside
+    table = all_at (λ ps. length (others_of net ps ++ foreign) ≤ most_routes) net router [] room.table inside
 
     each : AllByRecursion (λ s. length others ≤ s) (map (λ p. p.route_share) ports)
     each =
         all_mapped (λ s. length others ≤ s) (λ p. p.route_share) ports
-        (all_at (λ ps. AllByRecursion (λ p. length (others_of net ps) ≤ p.route_share) ps) net router [] room.shares inside)
+        (all_at (λ ps. AllByRecursion (λ p. length (others_of net ps ++ foreign) ≤ p.route_share) ps) net router [] room.shares inside)
 
     single : AreSingle route_reading network_order network_total one held
     single n = distinct (record { network = n; hops = 0; ticks = 0; port = 0; node = broadcast })
 
+    is_listed : (r : RouteOffer) → IsRealApart net up foreign router r → IsListed others r.network
+    is_listed r fine = listed r.network others (elim (cases_Bool (is_among r.network foreign)) [
+      | inl among ↦ in_second r.network (others_of net ports) foreign among
+      | inr off ↦ in_first r.network (others_of net ports) foreign (is_other router (fine off))
+    ])
+
     are_listed : AllByRecursion (λ h. IsListed others h.offer.network) held
     are_listed =
-        all_then (λ h. IsReal net up router h.offer) (λ h. IsListed others h.offer.network) (λ h real. listed h.offer.network others (is_other router real)) held all
+        all_then (λ h. IsRealApart net up foreign router h.offer) (λ h. IsListed others h.offer.network) (λ h fine. is_listed h.offer fine) held all
 
-    pub has_room : IsReal net up router o → find (λ h. is_eq (network_order h.offer.network o.network)) held ≡ None
+    pub has_room : IsRealApart net up foreign router o → find (λ h. is_eq (network_order h.offer.network o.network)) held ≡ None
         → (nat_lt (length held) most_routes && has_share (route_rules ports most_routes) o held) ≡ true
-    has_room real = search (rules, admits, network_total, one, table, each, single, are_listed, listed, is_other)
+    has_room fine =
+        admits route_reading network_order network_total one most_routes (map (λ p. p.route_share) ports) others table each held single are_listed o (is_listed o fine)
 
     pub may : (h : Held RouteOffer) → find (λ h. is_eq (network_order h.offer.network o.network)) held ≡ Some h
         → may_replace (route_rules ports most_routes) o held h ≡ true

@@ -16,7 +16,7 @@ use Rattle.ipx_laws.proofs.ticks.RealOrSoonEnded.{Endures}
 use Rattle.ipx_laws.proofs.ticks.TickAfterTick.{IsCalmTick, CalmTicks, left_of}
 
 module _ (given : Given) where
-  open given use {net, laws, is, up, in_ports, most_routes, most_services, network}
+  open given use {net, laws, is, up, in_ports, most_routes, most_services, foreign, network}
 
   abbrev Rest : ℕ → Run → Type 0
   Rest = AtRest given
@@ -31,7 +31,7 @@ module _ (given : Given) where
   -- ---- one tick
 
   module _ (before : ℕ) (steady : most_ticks_right ≤ before) (run : Run) (steps : List Step) (rest : Rest before run)
-      (tick : IsCalmTick net most_routes most_services run steps) where
+      (tick : IsCalmTick net most_routes most_services foreign run steps) where
     long : most_ticks_gone ≤ before
     long = omega (arith, steady)
 
@@ -47,7 +47,7 @@ module _ (given : Given) where
             let one = (righted.going.few router inside).0 in
             omega (arith, one, steady)
 
-        endures_now : Endures net up most_routes router (suc before - left router) (history_of now.histories router)
+        endures_now : Endures net up foreign most_routes router (suc before - left router) (history_of now.histories router)
         endures_now =
             let some = (righted.going.few router inside).1 in
             righted.going.routers router (suc before - left router) inside (omega (arith, some))
@@ -69,7 +69,7 @@ module _ (given : Given) where
 
     each_same : AfterEach net most_routes most_services (SameRoute run) run steps
     each_same =
-        goes_each net laws is most_routes most_services up
+        goes_each net laws is most_routes most_services up foreign
         (RightedOf given before long run steps rest tick)
         (kept given before long run steps rest tick)
         (SameRoute run) same_now steps run tick.busy.happens tick.leaves tick.says
@@ -77,13 +77,13 @@ module _ (given : Given) where
 
     last_same : SameRoute run (run_of net most_routes most_services run steps)
     last_same =
-        same_now (left_of net laws is most_routes most_services up []) (run_of net most_routes most_services run steps)
+        same_now (left_of net laws is most_routes most_services up foreign []) (run_of net most_routes most_services run steps)
         (ended given before long run steps rest tick)
 
   -- ---- ticks, one after the other
 
   pub routes_stay : (so_far : ℕ) → most_ticks_right ≤ so_far → (first run : Run) (ticks : List (List Step)) → Rest so_far run
-      → CalmTicks net most_routes most_services run ticks → SameRoute first run → AfterEach net most_routes most_services (SameRoute first) run (steps_of ticks)
+      → CalmTicks net most_routes most_services foreign run ticks → SameRoute first run → AfterEach net most_routes most_services (SameRoute first) run (steps_of ticks)
   routes_stay so_far steady first run [] rest are same = tt
   routes_stay so_far steady first run (steps ∷ ticks) rest are same =
       let next = run_of net most_routes most_services run steps in

@@ -41,7 +41,7 @@ use Rattle.ipx_laws.proofs.tables.SaysItsLeastWay.{IsWord, HasWay, told_words, n
 use Rattle.ipx_laws.proofs.ticks.RealOrSoonEnded.{Reaches, RouteSaid}
 
 module _ (given : Given) where
-  open given use {net, is, cheap, up, in_ports, most_routes, network}
+  open given use {net, is, cheap, up, in_ports, most_routes, foreign, network}
 
   -- ---- a router that should have a route
 
@@ -145,7 +145,7 @@ module _ (given : Given) where
     Word from e = (u : Way) → within net up in_ports network 15 from.router ≡ Some u → u.hops ≤ 14 → IsWord (ports_of net from.router) network u from.port e
 
     abbrev pub Said : Place → RipEntry → Type 0
-    Said from e = RouteSaid net up begun from e × Word from e
+    Said from e = RouteSaid net up foreign begun from e × Word from e
 
     -- a delivery for a router tells of the network, from a port
     pub record Pending (router : ℕ) (from : Place) (d : Delivery) : Type 0 where
@@ -165,8 +165,9 @@ module _ (given : Given) where
     abbrev pub AllKnow : ℕ → List RouteOffer → Type 0
     AllKnow router routes = (u : Way) → within net up in_ports network 15 router ≡ Some u → u.hops ≤ 14 → Knows router u routes
 
+    -- a router that holds a route to it isn't on it
     abbrev pub AllReal : ℕ → List RouteOffer → Type 0
-    AllReal router routes = AllByRecursion (λ r. is_on (ports_of net router) r.network ≡ false) routes
+    AllReal router routes = AllByRecursion (λ r. r.network ≡ network → is_on (ports_of net router) network ≡ false) routes
 
     pub all_words : (from : Place) (entries : List RipEntry)
         → ((u : Way) → within net up in_ports network 15 from.router ≡ Some u → u.hops ≤ 14 → AllByRecursion (IsWord
@@ -206,8 +207,8 @@ module _ (given : Given) where
           lasting : OnOrOff net up in_ports network router
               → AllByRecursion (λ r. r.network ≡ network → find (λ o. is_eq (network_order o.network network)) routes ≡ None → ⊥) old
           lasting (inl on) =
-              all_then (λ r. is_on ports r.network ≡ false) (λ r. r.network ≡ network → find (λ o. is_eq (network_order o.network network)) routes ≡ None → ⊥)
-              (λ r off named none. both_ways (is_on ports network) (subst (λ (n : Network). is_on ports n ≡ false) named off) on) old real
+              all_then (λ r. r.network ≡ network → is_on ports network ≡ false) (λ r. r.network ≡ network → find (λ o. is_eq (network_order o.network network)) routes ≡ None → ⊥)
+              (λ r off named none. both_ways (is_on ports network) (off named) on) old real
           lasting (inr off) =
               all_of (λ r. r.network ≡ network → find (λ o. is_eq (network_order o.network network)) routes ≡ None → ⊥)
               (λ r named none. knows.there off none) old

@@ -33,10 +33,9 @@ use Rattle.ipx_internet.proofs.lists.EachElement.{all_of, all_then, all-append}
 use Rattle.ipx_internet.proofs.places.OneReceiverOfANode.{ports_at}
 use Rattle.ipx_laws.specs.Gone.{most_ticks_gone}
 use Rattle.ipx_laws.specs.Least.{Way, most_ticks_right}
-use Rattle.ipx_laws.specs.Real.{IsReal}
 use Rattle.ipx_laws.proofs.lists.SomeElement.{number_any, AnyIs}
 use Rattle.ipx_laws.proofs.records.BestIsKept.{second_keeps}
-use Rattle.ipx_laws.proofs.tables.Given.{Given}
+use Rattle.ipx_laws.proofs.tables.Given.{Given, FineOf}
 use Rattle.ipx_laws.proofs.tables.GoodRoutesStay.{shares, one}
 use Rattle.ipx_laws.proofs.tables.LastWords.{WantsOf, Sources, GoodBy, IsGood, good_or_not, WordOf, PendingFor, Fine, comes_fine, waits_map, Fresh, Late, Later, Same, StateWith, Righted, good_state}
 use Rattle.ipx_laws.proofs.tables.LeastWays.{on_or_off, OnOrOff, came, few}
@@ -49,7 +48,7 @@ use Rattle.ipx_laws.proofs.ticks.TickAfterTick.{all_come, second_spoken, second_
 
 module _ (given : Given) (before : ℕ) (long : most_ticks_gone ≤ before) (clock : ℕ → ℕ) (few_seconds : (router : ℕ) → clock router < period)
     (at_start : ℕ → Option RouteOffer) where
-  open given use {net, laws, is, up, in_ports, most_routes, most_services, network}
+  open given use {net, laws, is, up, in_ports, most_routes, most_services, foreign, network}
 
   abbrev Good_of : List History → ℕ → Type 0
   Good_of = IsGood given
@@ -96,14 +95,14 @@ module _ (given : Given) (before : ℕ) (long : most_ticks_gone ≤ before) (clo
     is_now : history_of after_it x ≡ now
     is_now = get_or-set_same histories x now [] listed
 
-    endured : Endures net up most_routes x before past
+    endured : Endures net up foreign most_routes x before past
     endured =
         let one = (righted.going.few x inside).0 in
         let o = own in
         righted.going.routers x before inside (omega (arith, one, o))
 
-    endures_now : Endures net up most_routes x (suc before) now
-    endures_now = second_endures net up most_routes x before past endured
+    endures_now : Endures net up foreign most_routes x (suc before) now
+    endures_now = second_endures net up foreign most_routes x before past endured
 
     -- ---- the router's own state
 
@@ -112,7 +111,7 @@ module _ (given : Given) (before : ℕ) (long : most_ticks_gone ≤ before) (clo
         subst (λ (fs : List (Fact RouteOffer)). State_of (rest x) left histories queue x w fs) (sym facts_now)
         (second_keeps route_reading network_order network_total most_routes
         (shares given x w.v w.off w.least) network
-        (one given x w.v w.off w.least) (IsReal net up x)
+        (one given x w.v w.off w.least) (FineOf given x)
         (RightFor given x w)
         (Fresh given before clock few_seconds at_start (left x))
         (Fresh given before clock few_seconds at_start (rest x))
@@ -152,7 +151,7 @@ module _ (given : Given) (before : ℕ) (long : most_ticks_gone ≤ before) (clo
         facts_now =
             let c = came net up in_ports network 14 x w.v w.off w.least in
             facts_from-more (route_facts_of ports) [] past Second
-            ∙ ap (λ b. route_facts ports past ++ (if b then PassedSecond ∷ [] else [])) (runs_where net up most_routes x c.port before past c.neighbour.on_here endured)
+            ∙ ap (λ b. route_facts ports past ++ (if b then PassedSecond ∷ [] else [])) (runs_where net up foreign most_routes x c.port before past c.neighbour.on_here endured)
 
     abbrev GoodNow : Type 0
     GoodNow = GoodBy given x (route_facts ports now)
@@ -187,7 +186,7 @@ module _ (given : Given) (before : ℕ) (long : most_ticks_gone ≤ before) (clo
 
     -- an entry is real or soon ended, and right, if the router is
     abbrev Says : Place → RipEntry → Type 0
-    Says from e = RouteSaid net up (suc before) from e × (Good_of after_it from.router → Words from e)
+    Says from e = RouteSaid net up foreign (suc before) from e × (Good_of after_it from.router → Words from e)
 
     if_good : (j : ℕ) (entries : List RipEntry) → (GoodNow → AllByRecursion (Words (place j)) entries)
         → AllByRecursion (λ e. Good_of after_it x → Words (place j) e) entries
@@ -201,8 +200,8 @@ module _ (given : Given) (before : ℕ) (long : most_ticks_gone ≤ before) (clo
 
     said_told : (j : ℕ) → AllByRecursion (Says (place j)) (told ports (up x) routes j)
     said_told j =
-        all_both (RouteSaid net up (suc before) (place j)) (λ e. Good_of after_it x → Words (place j) e) (told ports (up x) routes j)
-        (routes_said net up most_routes x (suc before) (suc before) (omega arith) now endures_now j)
+        all_both (RouteSaid net up foreign (suc before) (place j)) (λ e. Good_of after_it x → Words (place j) e) (told ports (up x) routes j)
+        (routes_said net up foreign most_routes x (suc before) (suc before) (omega arith) now endures_now j)
         (if_good j (told ports (up x) routes j) (λ good.
         all_words given (suc before)
         (place j) (told ports (up x) routes j) (λ u is_u near.
@@ -211,8 +210,8 @@ module _ (given : Given) (before : ℕ) (long : most_ticks_gone ≤ before) (clo
 
     said_news : (j : ℕ) → AllByRecursion (Says (place j)) (news ports old routes j)
     said_news j =
-        all_both (RouteSaid net up (suc before) (place j)) (λ e. Good_of after_it x → Words (place j) e) (news ports old routes j)
-        (changes_said net up most_routes x (suc before) (suc before) (omega arith) now endures_now old j)
+        all_both (RouteSaid net up foreign (suc before) (place j)) (λ e. Good_of after_it x → Words (place j) e) (news ports old routes j)
+        (changes_said net up foreign most_routes x (suc before) (suc before) (omega arith) now endures_now old j)
         (if_good j (news ports old routes j) (λ good.
         all_words given (suc before)
         (place j) (news ports old routes j) (λ u is_u near.
@@ -226,14 +225,14 @@ module _ (given : Given) (before : ℕ) (long : most_ticks_gone ≤ before) (clo
     abbrev new : List Delivery
     new = flat_map (deliveries_of net x) sent
 
-    come : AllByRecursion (λ d. IsDelivery net d × Comes net up Says d.to d.bytes) new
+    come : AllByRecursion (λ d. IsDelivery net d × Comes net up foreign Says d.to d.bytes) new
     come =
-        all_come net laws is most_routes most_services up Says histories righted.going.are x Second tt tt
-        (second_spoken net laws is most_routes most_services up (λ j. Says (place j)) histories x righted.going.are endures_now.ups said_told said_news)
+        all_come net laws is most_routes most_services up foreign Says histories righted.going.are x Second tt tt
+        (second_spoken net laws is most_routes most_services up foreign (λ j. Says (place j)) histories x righted.going.are endures_now.ups said_told said_news)
 
     fine : (f : Place) → Good_of after_it f.router → AllByRecursion (Is_fine f) new
     fine f good =
-        all_then (λ d. IsDelivery net d × Comes net up Says d.to d.bytes) (Is_fine f)
+        all_then (λ d. IsDelivery net d × Comes net up foreign Says d.to d.bytes) (Is_fine f)
         (λ d both. comes_fine given before Says f d both.1 (λ e says. says.1 good)) new come
 
     -- ---- it tells its neighbours, at a periodic second and where it turns right
@@ -280,7 +279,7 @@ module _ (given : Given) (before : ℕ) (long : most_ticks_gone ≤ before) (clo
       sends : (periodic : Bool) → is_periodic past ≡ periodic → sent ≡ flat_map (second_on ports bef aft periodic) aft.up
       sends periodic is_so =
           ap₂ (λ (r p : Bool). if r then flat_map (second_on ports bef aft p) aft.up else [])
-          (runs_where net up most_routes x j before past source.neighbour.on_there endured) is_so
+          (runs_where net up foreign most_routes x j before past source.neighbour.on_there endured) is_so
 
       pend : AnyIs (Tells ports network source.way (SaidBy j) j) sent → AnyIs (Pends y (place j)) new
       pend any =
@@ -379,7 +378,7 @@ module _ (given : Given) (before : ℕ) (long : most_ticks_gone ≤ before) (clo
 
         own_clock : is_up (up x) port ≡ true → (seconds_run now + rest x) % period ≡ clock x
         own_clock there =
-            let after = later (runs_where net up most_routes x port before past there endured) in
+            let after = later (runs_where net up foreign most_routes x port before past there endured) in
             let o = own in
             let sum : seconds_run now + rest x ≡ seconds_run past + left x = omega (arith, after, o) in
             ap (λ n. n % period) sum ∙ righted.clocks x port there
@@ -401,7 +400,7 @@ module _ (given : Given) (before : ℕ) (long : most_ticks_gone ≤ before) (clo
 
     pub second_rights : Righted_at rest (queued net most_routes most_services (record { histories = histories; queue = queue }) x Second)
     second_rights = record {
-      going = second_goes net laws is most_routes most_services up (suc before) histories queue x left rest inside own others righted.going;
+      going = second_goes net laws is most_routes most_services up foreign (suc before) histories queue x left rest inside own others righted.going;
       states = state_now;
       calm =
           calm_then given before clock few_seconds at_start

@@ -23,7 +23,7 @@ use Rattle.ipx_laws.specs.Least.{Way, is_on, least_route, way_of, ticks_right, m
 use Rattle.ipx_laws.specs.Meanwhile.{EachTick}
 use Rattle.ipx_laws.specs.Real.{IsReal}
 use Rattle.ipx_laws.proofs.records.RecordsGrowOld.{at_last}
-use Rattle.ipx_laws.proofs.tables.Given.{Given}
+use Rattle.ipx_laws.proofs.tables.Given.{Given, FineOf, real_one}
 use Rattle.ipx_laws.proofs.tables.GoodRoutesStay.{right_way, right_node}
 use Rattle.ipx_laws.proofs.tables.LeastWays.{within, on_or_off, OnOrOff, came, same_some}
 use Rattle.ipx_laws.proofs.tables.NoRouteIsBetter.{there_where_up, real_way, none_beats}
@@ -45,7 +45,7 @@ pub all_ticks : (way : Way) (ticks : ℕ) → ticks_right (Some way) ≤ ticks �
 all_ticks way ticks sure some = grind arith
 
 module _ (given : Given) where
-  open given use {net, is, cheap, up, in_ports, most_routes, most_services, network}
+  open given use {net, is, cheap, up, in_ports, most_routes, most_services, foreign, network}
 
   abbrev Rest : ℕ → Run → Type 0
   Rest = AtRest given
@@ -61,26 +61,28 @@ module _ (given : Given) where
 
   -- ---- what a router never holds, when it had so many seconds
 
-  module _ (router had : ℕ) (long : most_ticks_gone ≤ had) (history : History) (endures : Endures net up most_routes router had history) where
+  module _ (router had : ℕ) (long : most_ticks_gone ≤ had) (history : History) (endures : Endures net up foreign most_routes router had history) where
     abbrev routes : List RouteOffer
     routes = offers (routes_held (ports_of net router) most_routes history)
 
     abbrev found : Option RouteOffer
     found = find (λ o. is_eq (network_order o.network network)) routes
 
-    all_real : AllByRecursion (IsReal net up router) routes
-    all_real = search (rules, at_last, network_total)
+    all_fine : AllByRecursion (FineOf given router) routes
+    all_fine = search (rules, at_last, network_total)
 
     none_of : ((r : RouteOffer) → IsReal net up router r → r.network ≡ network → ⊥) → found ≡ None
     none_of never =
         find_none (λ o. is_eq (network_order o.network network)) routes
-        (all_then (IsReal net up router) (λ r. is_eq (network_order r.network network) ≡ false) (λ r real. by r real (cases_Bool (is_eq
-        (network_order r.network network)))) routes all_real)
+        (all_then (FineOf given router) (λ r. is_eq (network_order r.network network) ≡ false) (λ r fine. by r fine (cases_Bool (is_eq
+        (network_order r.network network)))) routes all_fine)
       where
-        by : (r : RouteOffer) → IsReal net up router r → (is_eq (network_order r.network network) ≡ true) ⊎ (is_eq (network_order r.network network) ≡ false)
+        by : (r : RouteOffer) → FineOf given router r → (is_eq (network_order r.network network) ≡ true) ⊎ (is_eq (network_order r.network network) ≡ false)
             → is_eq (network_order r.network network) ≡ false
-        by r real (inl e) = absurd (never r real (same_number r.network network (same_where_equal r.network.0 network.0 e)))
-        by r real (inr e) = e
+        by r fine (inl e) =
+            let named = same_number r.network network (same_where_equal r.network.0 network.0 e) in
+            absurd (never r (real_one given router r fine named) named)
+        by r fine (inr e) = e
 
     pub none_on : is_on (ports_of net router) network ≡ true → found ≡ None
     none_on on =
@@ -99,7 +101,7 @@ module _ (given : Given) where
     abbrev history : History
     history = history_of run.histories router
 
-    abbrev endured : Endures net up most_routes router ticks history
+    abbrev endured : Endures net up foreign most_routes router ticks history
     endured = rest.rests.routers router inside
 
     -- the route of the least way, and the neighbour that it came from
@@ -158,7 +160,7 @@ module _ (given : Given) where
 
   -- ---- it stays
 
-  stays_by : (ticks : ℕ) (run : Run) (further : List (List Step)) → Rest ticks run → CalmTicks net most_routes most_services run further
+  stays_by : (ticks : ℕ) (run : Run) (further : List (List Step)) → Rest ticks run → CalmTicks net most_routes most_services foreign run further
       → (router : ℕ) (w : Wants given router) → most_ticks_right ≤ ticks
       → RouteOf (ticked net most_routes most_services run further) router ≡ RouteOf run router
   stays_by ticks run [] rest are router w sure = refl
@@ -169,7 +171,7 @@ module _ (given : Given) where
       (omega (arith, sure))
       ∙ route_stays given ticks long run steps rest are.0 router w sure
 
-  pub stays : (ticks : ℕ) (run : Run) (further : List (List Step)) → Rest ticks run → CalmTicks net most_routes most_services run further
+  pub stays : (ticks : ℕ) (run : Run) (further : List (List Step)) → Rest ticks run → CalmTicks net most_routes most_services foreign run further
       → (router : ℕ) → router < length net → ticks_right (least_route net up router network) ≤ ticks
       → route_to (offers (routes_held (ports_of net router) most_routes (history_of (ticked net most_routes most_services run further).histories router))) network.0
       ≡ route_to (offers (routes_held (ports_of net router) most_routes (history_of run.histories router))) network.0

@@ -3,6 +3,7 @@ use Rattle.std.proofs.Common.{◌≡◌, refl, sym, ap, ◌∙◌, subst, ℕ, �
 use Rattle.std.specs.List.{AllByRecursion}
 use Rattle.std.proofs.lemmas.Bool.{both_ways}
 use Rattle.ipx_table.specs.declared.held.Held.{Held}
+use Rattle.ipx_wire.specs.declared.network.Network.{Network}
 use Rattle.ipx_router.specs.Facts.{route_facts, routes_held, offers}
 use Rattle.ipx_router.specs.History.{History}
 use Rattle.ipx_router.specs.News.{news}
@@ -14,11 +15,10 @@ use Rattle.ipx_internet.proofs.lists.EachElement.{all_then}
 use Rattle.ipx_internet.proofs.lists.FoundInAList.{nothing, it_is}
 use Rattle.ipx_laws.specs.Gone.{most_ticks_gone}
 use Rattle.ipx_laws.specs.Least.{Way, is_on, way_of}
-use Rattle.ipx_laws.specs.Real.{IsReal}
 use Rattle.ipx_laws.proofs.lists.SomeElement.{AnyIs}
 use Rattle.ipx_laws.proofs.records.RecordsGrowOld.{at_last}
 use Rattle.ipx_laws.proofs.tables.ChangeIsSaid.{change_said}
-use Rattle.ipx_laws.proofs.tables.Given.{Given}
+use Rattle.ipx_laws.proofs.tables.Given.{Given, FineOf, real_one}
 use Rattle.ipx_laws.proofs.tables.GoodRoutesStay.{right_where_least}
 use Rattle.ipx_laws.proofs.tables.LastWords.{WantsOf, Sources, known_by, GoodBy}
 use Rattle.ipx_laws.proofs.tables.LeastRouteSurvives.{known_is}
@@ -29,19 +29,20 @@ use Rattle.ipx_laws.proofs.tables.SaysWhatItKnows.{wants, RightFor, found_so, fo
 use Rattle.ipx_laws.proofs.ticks.RealOrSoonEnded.{Endures}
 
 module _ (given : Given) where
-  open given use {net, is, cheap, up, in_ports, most_routes, network}
+  open given use {net, is, cheap, up, in_ports, most_routes, foreign, network}
 
-  module _ (begun router had : ℕ) (history : History) (enough : most_ticks_gone ≤ had) (endures : Endures net up most_routes router had history) where
+  module _ (begun router had : ℕ) (history : History) (enough : most_ticks_gone ≤ had) (endures : Endures net up foreign most_routes router had history) where
     abbrev routes : List RouteOffer
     routes = offers (routes_held (ports_of net router) most_routes history)
 
-    -- its routes are to networks that it isn't on
-    pub all_off : AllByRecursion (λ r. is_on (ports_of net router) r.network ≡ false) routes
+    -- a route to the network is one to a network that it isn't on
+    pub all_off : AllByRecursion (λ r. r.network ≡ network → is_on (ports_of net router) network ≡ false) routes
     all_off =
-        all_then (IsReal net up router) (λ r. is_on (ports_of net router) r.network ≡ false)
-        (λ r real. real_wanted net up (there_where_up net is cheap up in_ports network) real) routes
+        all_then (FineOf given router) (λ r. r.network ≡ network → is_on (ports_of net router) network ≡ false)
+        (λ r fine named. subst (λ (n : Network). is_on (ports_of net router) n ≡ false) named
+        (real_wanted net up (there_where_up net is cheap up in_ports network) (real_one given router r fine named))) routes
         (at_last route_reading network_order network_total most_routes (map (λ p. p.route_share) (ports_of net router)) (λ r. r.hops) (λ r. refl)
-        (IsReal net up router) had (route_facts (ports_of net router) history) enough endures.routes)
+        (FineOf given router) had (route_facts (ports_of net router) history) enough endures.routes)
 
     module _ (good : GoodBy given router (route_facts (ports_of net router) history)) where
       -- the route that it holds, and from where
@@ -72,7 +73,7 @@ module _ (given : Given) where
 
   -- a router that turns right says so to a neighbour whose way leads by it
   module _ (begun had : ℕ) (past now : History) (enough : most_ticks_gone ≤ had) (x port : ℕ) (w : WantsOf given x)
-      (f : Place) (source : Sources given x w.v port f) (endures : Endures net up most_routes f.router had now)
+      (f : Place) (source : Sources given x w.v port f) (endures : Endures net up foreign most_routes f.router had now)
       (good : GoodBy given f.router (route_facts (ports_of net f.router) now))
       (bad : GoodBy given f.router (route_facts (ports_of net f.router) past) → ⊥) where
     abbrev before : List RouteOffer

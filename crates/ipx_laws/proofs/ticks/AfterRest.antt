@@ -1,6 +1,7 @@
 -- After steps that end with nothing that waits, whatever waited before: histories are as they should be, and ports as they were.
 use Rattle.std.proofs.Common.{◌≡◌, subst, refl, ℕ, ◌+◌, ◌<◌, false, List, [], ◌∷◌, length, arith, rules}
 use Rattle.std.specs.List.{AllByRecursion}
+use Rattle.ipx_wire.specs.declared.network.Network.{Network}
 use Rattle.ipx_router.specs.History.{Event, History, is_start, is_stop, takes_down, brings_up}
 use Rattle.ipx_router.proofs.histories.OneEventMore.{ports_stay}
 use Rattle.ipx_internet.specs.Internet.{Internet, IsInternet}
@@ -11,11 +12,18 @@ use Rattle.ipx_internet.proofs.deliveries.QueueOfARun.{deliveries}
 use Rattle.ipx_internet.proofs.packets.SentOnOrReply.{Layouts}
 use Rattle.ipx_internet.proofs.ticks.TickCanBeHad.{Sound, step_sound, steps_sound, sound_run}
 use Rattle.ipx_internet.proofs.trees.RunIsALog.{router_there}
+use Rattle.ipx_laws.specs.Apart.{AreTicksBesideAfter}
 use Rattle.ipx_laws.specs.Meanwhile.{LeavesPorts, AreCalmTicksAfter}
 use Rattle.ipx_laws.specs.Setting.{ComesToRest}
 use Rattle.ipx_laws.specs.Ups.{ups}
 use Rattle.ipx_laws.proofs.ticks.BusyTickAfterTick.{each_so}
-use Rattle.ipx_laws.proofs.ticks.TickAfterTick.{Rests, quiet_rests, ticks_rest, calm_ticks}
+use Rattle.ipx_laws.proofs.ticks.TickAfterTick.{Rests, quiet_rests, ticks_rest, ticks_beside, calm_beside}
+
+-- calm ticks are such for any list
+pub beside_after : (net : Internet) (most_routes most_services : ℕ) (foreign : List Network) (run : Run) (first : List Step) (ticks : List (List Step))
+    → AreCalmTicksAfter net most_routes most_services run first ticks → AreTicksBesideAfter net most_routes most_services foreign run first ticks
+beside_after net most_routes most_services foreign run first ticks (rest, leaves, calm) =
+    (rest, leaves, calm_beside net most_routes most_services foreign (run_of net most_routes most_services run first) ticks calm)
 
 module _ (net : Internet) (laws : Layouts) (is : IsInternet net) (most_routes most_services : ℕ) where
   -- ---- ports
@@ -63,16 +71,22 @@ module _ (net : Internet) (laws : Layouts) (is : IsInternet net) (most_routes mo
     pub are_after : AreHistories net next.histories
     are_after = (steps_sound net laws is most_routes most_services run first rest.1 begins).are
 
-    pub begins_after : AllByRecursion LeavesPorts first → Rests net laws is most_routes most_services (ups net run.histories) 0 next
-    begins_after leaves =
+    pub begins_after : (foreign : List Network) → AllByRecursion LeavesPorts first
+        → Rests net laws is most_routes most_services (ups net run.histories) foreign 0 next
+    begins_after foreign leaves =
         let kept = steps_keep (ups net run.histories) run first rest.1 leaves (record { sound = begins; stay = λ router. refl }) in
-        quiet_rests net laws is most_routes most_services (ups net run.histories) next kept.sound.are kept.stay rest.2
+        quiet_rests net laws is most_routes most_services (ups net run.histories) foreign next kept.sound.are kept.stay rest.2
 
-  pub rests_after : (run : Run) (first : List Step) (ticks : List (List Step)) → AreHistories net run.histories → AreCalmTicksAfter net most_routes most_services run first ticks
-      → Rests net laws is most_routes most_services (ups net run.histories) (length ticks) (ticked net most_routes most_services run (first ∷ ticks))
-  rests_after run first ticks are (rest, leaves, calm) =
+  pub rests_beside : (foreign : List Network) (run : Run) (first : List Step) (ticks : List (List Step)) → AreHistories net run.histories
+      → AreTicksBesideAfter net most_routes most_services foreign run first ticks
+      → Rests net laws is most_routes most_services (ups net run.histories) foreign (length ticks) (ticked net most_routes most_services run (first ∷ ticks))
+  rests_beside foreign run first ticks are (rest, leaves, beside) =
       let next = run_of net most_routes most_services run first in
       let count : length ticks + 0 ≡ length ticks = omega arith in
-      subst (λ (n : ℕ). Rests net laws is most_routes most_services (ups net run.histories) n (ticked net most_routes most_services next ticks)) count
-      (ticks_rest net laws is most_routes most_services (ups net run.histories) 0 next ticks (begins_after run first are rest leaves)
-      (calm_ticks net most_routes most_services next ticks calm))
+      subst (λ (n : ℕ). Rests net laws is most_routes most_services (ups net run.histories) foreign n (ticked net most_routes most_services next ticks)) count
+      (ticks_rest net laws is most_routes most_services (ups net run.histories) foreign 0 next ticks (begins_after run first are rest foreign leaves)
+      (ticks_beside net most_routes most_services foreign next ticks beside))
+
+  pub rests_after : (run : Run) (first : List Step) (ticks : List (List Step)) → AreHistories net run.histories → AreCalmTicksAfter net most_routes most_services run first ticks
+      → Rests net laws is most_routes most_services (ups net run.histories) [] (length ticks) (ticked net most_routes most_services run (first ∷ ticks))
+  rests_after run first ticks are calm = rests_beside [] run first ticks are (beside_after net most_routes most_services [] run first ticks calm)

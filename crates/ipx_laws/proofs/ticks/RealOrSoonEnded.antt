@@ -1,10 +1,12 @@
--- What a router has and says while time passes and packets come: routes are of real ways, or so old that they soon end, and what it says of
--- them too.
+-- What a router has and says while time passes and packets come: routes to networks off a list are of real ways, or so old that they soon end,
+-- and what it says of them too. Hosts may tell of routes to the networks of the list.
 use Rattle.std.proofs.Common.{◌≡◌, ◌≢◌, refl, sym, subst, ◌⊎◌, ℕ, suc, ◌+◌, ◌*◌, ◌<◌, ◌≤◌, ◌==◌, true, false, List, [], ◌∷◌, ◌++◌, map, Option, Some, None, Ok, inl, inr, arith, append-nil, rules}
 use Rattle.std.specs.List.{AllByRecursion}
-use Rattle.std.proofs.lemmas.Bool.{cases_Bool, eqb-false}
+use Rattle.std.proofs.lemmas.Bool.{cases_Bool, eqb-false, both_ways}
 use Rattle.ipx_table.specs.Facts.{Fact}
+use Rattle.ipx_wire.specs.Crossed.{is_among}
 use Rattle.ipx_wire.specs.Packet.{Parts, packet_of}
+use Rattle.ipx_wire.specs.declared.network.Network.{Network}
 use Rattle.ipx_wire.specs.declared.rip.RipEntry.{RipEntry}
 use Rattle.ipx_table.specs.Alive.{lifetime}
 use Rattle.ipx_router.specs.Facts.{route_offer, routes_offered, routes_heard, heard_after, route_facts, route_facts_of, routes_held, offers}
@@ -29,9 +31,10 @@ use Rattle.ipx_internet.proofs.lists.EachElement.{all_then}
 use Rattle.ipx_internet.proofs.lists.FoundInAList.{it_is}
 use Rattle.ipx_internet.proofs.packets.AdvertisedIsHeld.{told_all, news_told}
 use Rattle.ipx_internet.proofs.records.KeptOrOffered.{OffersOf}
+use Rattle.ipx_laws.specs.Apart.{TellsOnlyOf, IsRealApart}
 use Rattle.ipx_laws.specs.Meanwhile.{message_of, TellsNoRoute}
 use Rattle.ipx_laws.specs.Real.{IsReal, next, farther}
-use Rattle.ipx_laws.proofs.packets.RoutesOrSilence.{Silent, IsOwnPage, own_heard, near_in, silent_offers}
+use Rattle.ipx_laws.proofs.packets.RoutesOrSilence.{TellsApart, IsOwnPage, IsTo, own_heard, near_in, none_of_foreign, offers_then, foreign_offer}
 use Rattle.ipx_laws.proofs.packets.SentOnSaysTheSame.{heard_message}
 use Rattle.ipx_laws.proofs.records.RecordsGrowOld.{Aged, IsOldOffer, IsOldHeld, at_first, where_none, after_second, after_offers, old_held}
 
@@ -49,16 +52,21 @@ module _ (net : Internet) (up : ℕ → List ℕ) where
     pub up_here : is_up (up to.router) to.port ≡ true
     pub wanted : takes_no_route (ports_of net to.router) e.network ≡ false
 
+module _ (net : Internet) (up : ℕ → List ℕ) (foreign : List Network) where
+  -- of a real way, if its network isn't on the list
+  abbrev pub Fine : ℕ → RouteOffer → Type 0
+  Fine = IsRealApart net up foreign
+
   -- an entry that is sent on a port, when so many ticks have begun: if it is alive, then whoever learns of it has a route of a real
-  -- way, or it was said soon enough
+  -- way, if its network isn't on the list, or it was said soon enough
   abbrev pub RouteSaid : ℕ → Place → RipEntry → Type 0
   RouteSaid begun from e =
       e.hops < unreachable
-      → ((to : Place) → Reaches from to → Hears to e → IsReal net up to.router (route_offer to.port (port_of net from).node e)) ⊎ (begun ≤ lifetime * e.hops)
+      → ((to : Place) → Reaches net up from to → Hears net up to e → Fine to.router (route_offer to.port (port_of net from).node e)) ⊎ (begun ≤ lifetime * e.hops)
 
-  -- what a port says that reaches another one: a page of such entries, or what tells of no route
+  -- what a port says that reaches another one: a page of such entries, or what tells of no route but to networks of the list
   abbrev pub Comes : (Place → RipEntry → Type 0) → Place → List ℕ → Type 0
-  Comes P to bytes = ((from : Place) × Reaches from to × IsOwnPage (P from) (port_of net from) bytes) ⊎ Silent bytes
+  Comes P to bytes = ((from : Place) × Reaches net up from to × IsOwnPage (P from) (port_of net from) bytes) ⊎ TellsApart foreign bytes
 
   -- what waits for a port
   pub record Arrives (begun : ℕ) (d : Delivery) : Type 0 where
@@ -70,7 +78,7 @@ module _ (net : Internet) (up : ℕ → List ℕ) where
     ports = ports_of net router
 
     abbrev RoutesAged : ℕ → List (Fact RouteOffer) → Type 0
-    RoutesAged = Aged route_reading network_order network_total most_routes (map (λ p. p.route_share) ports) (λ r. r.hops) (λ r. refl) (IsReal net up router)
+    RoutesAged = Aged route_reading network_order network_total most_routes (map (λ p. p.route_share) ports) (λ r. r.hops) (λ r. refl) (Fine router)
 
     -- what a router has that had so many seconds
     pub record Endures (had : ℕ) (history : History) : Type 0 where
@@ -94,11 +102,11 @@ module _ (net : Internet) (up : ℕ → List ℕ) where
           (elim (cases_Bool (running history)) [
             | inl runs ↦
                 rw runs (after_second route_reading network_order network_total most_routes (map (λ p. p.route_share) ports) (λ r. r.hops) (λ r. refl)
-                (IsReal net up router) had facts endures.routes)
+                (Fine router) had facts endures.routes)
             | inr stopped ↦
                 let none = none_up ports history stopped in
                 rw stopped (subst (λ (fs : List (Fact RouteOffer)). RoutesAged (suc had) fs) (sym (append-nil facts))
-                (where_none route_reading network_order network_total most_routes (map (λ p. p.route_share) ports) (λ r. r.hops) (λ r. refl) (IsReal net up router)
+                (where_none route_reading network_order network_total most_routes (map (λ p. p.route_share) ports) (λ r. r.hops) (λ r. refl) (Fine router)
                 (suc had) facts
                 (all_then (λ r. is_up (ports_up ports history) r.port ≡ true) (λ r. ⊥) (λ r on. no_port (ports_up ports history) r.port none on)
                 (offers (routes_held ports most_routes history)) (held_routes_up ports most_routes history))))
@@ -116,9 +124,9 @@ module _ (net : Internet) (up : ℕ → List ℕ) where
     module _ (had begun : ℕ) (number : ℕ) (bytes : List ℕ) (late : had ≤ begun) (says : Comes (RouteSaid begun) (record { router = router; port = number }) bytes) where
       abbrev RouteOld : RouteOffer → Type 0
       RouteOld =
-          IsOldOffer route_reading network_order network_total most_routes (map (λ p. p.route_share) ports) (λ r. r.hops) (λ r. refl) (IsReal net up router) had
+          IsOldOffer route_reading network_order network_total most_routes (map (λ p. p.route_share) ports) (λ r. r.hops) (λ r. refl) (Fine router) had
 
-      routes_old : (from : Place) → Reaches from (record { router = router; port = number }) → is_up (up router) number ≡ true → (entries : List RipEntry)
+      routes_old : (from : Place) → Reaches net up from (record { router = router; port = number }) → is_up (up router) number ≡ true → (entries : List RipEntry)
           → AllByRecursion (RouteSaid begun from) entries → AllByRecursion (OffersOf RouteOld) (routes_offered ports number (port_of net from).node entries)
       routes_old from reaches on [] all = tt
       routes_old from reaches on (e ∷ entries) all = elim (cases_Bool (takes_no_route ports e.network)) [
@@ -127,20 +135,27 @@ module _ (net : Internet) (up : ℕ → List ℕ) where
       ]
         where
           one : takes_no_route ports e.network ≡ false
-              → ((to : Place) → Reaches from to → Hears to e → IsReal net up to.router (route_offer to.port (port_of net from).node e)) ⊎ (begun ≤ lifetime * e.hops)
-              → IsReal net up router (route_offer number (port_of net from).node e) ⊎ (had ≤ lifetime * e.hops)
+              → ((to : Place) → Reaches net up from to → Hears net up to e → Fine to.router (route_offer to.port (port_of net from).node e)) ⊎ (begun ≤ lifetime * e.hops)
+              → Fine router (route_offer number (port_of net from).node e) ⊎ (had ≤ lifetime * e.hops)
           one wanted (inl real) = inl (real (record { router = router; port = number }) reaches (record { up_here = on; wanted = wanted }))
           one wanted (inr soon) = inr (omega (arith, soon, late))
 
       abbrev OldHeard : Heard → Type 0
       OldHeard m = AllByRecursion (OffersOf RouteOld) (routes_heard ports number (Some m))
 
+      -- a route to a network of the list is fine
+      listed_old : (r : RouteOffer) → IsTo foreign r → RouteOld r
+      listed_old r listed near = inl (λ off. absurd (both_ways (is_among r.network foreign) off listed))
+
+      apart_old : (m : Heard) → TellsOnlyOf foreign m → OldHeard m
+      apart_old m tells = offers_then (IsTo foreign) RouteOld listed_old (routes_heard ports number (Some m)) (foreign_offer foreign ports number m tells)
+
       silent_old : (m : Heard) → TellsNoRoute m → OldHeard m
-      silent_old m silent = subst (λ (fs : List (Fact RouteOffer)). AllByRecursion (OffersOf RouteOld) fs) (sym (silent_offers ports number m silent)) tt
+      silent_old m silent = apart_old m (none_of_foreign foreign m silent)
 
       page_old : is_up (up router) number ≡ true → (p : Parts) (m : Heard) → packet_of bytes ≡ Ok p → heard_in p ≡ Some m → message_of bytes ≡ Some m
           → Comes (RouteSaid begun) (record { router = router; port = number }) bytes → OldHeard m
-      page_old on p m read e message given = grind (arith, silent_old, own_heard, it_is, routes_old)
+      page_old on p m read e message given = grind (arith, silent_old, apart_old, own_heard, it_is, routes_old)
 
       module _ (history : History) (endures : Endures had history) where
         abbrev heard_now : Option Heard
@@ -164,16 +179,16 @@ module _ (net : Internet) (up : ℕ → List ℕ) where
 
       abbrev RouteHeld : RouteOffer → Type 0
       RouteHeld r =
-          IsOldHeld route_reading network_order network_total most_routes (map (λ p. p.route_share) ports) (λ r. r.hops) (λ r. refl) (IsReal net up router) had r
+          IsOldHeld route_reading network_order network_total most_routes (map (λ p. p.route_share) ports) (λ r. r.hops) (λ r. refl) (Fine router) had r
           × (is_up (up router) r.port ≡ true)
 
       routes_are : AllByRecursion RouteHeld (offers (routes_held ports most_routes history))
       routes_are =
           let all = offers (routes_held ports most_routes history) in
           all_both
-          (IsOldHeld route_reading network_order network_total most_routes (map (λ p. p.route_share) ports) (λ r. r.hops) (λ r. refl) (IsReal net up router) had)
+          (IsOldHeld route_reading network_order network_total most_routes (map (λ p. p.route_share) ports) (λ r. r.hops) (λ r. refl) (Fine router) had)
           (λ r. is_up (up router) r.port ≡ true) all
-          (old_held route_reading network_order network_total most_routes (map (λ p. p.route_share) ports) (λ r. r.hops) (λ r. refl) (IsReal net up router) had
+          (old_held route_reading network_order network_total most_routes (map (λ p. p.route_share) ports) (λ r. r.hops) (λ r. refl) (Fine router) had
           (route_facts ports history) endures.routes)
           (subst (λ (us : List ℕ). AllByRecursion (λ r. is_up us r.port ≡ true) all) endures.ups (held_routes_up ports most_routes history))
 
@@ -181,7 +196,7 @@ module _ (net : Internet) (up : ℕ → List ℕ) where
       beside : (j other : ℕ) → is_up (up router) other ≡ true → (other == j) ≡ false
           → RouteSaid begun (place j) (told_at (port_at ports j).cost (direct_entry ports other))
       beside j other on apart near =
-          inl (λ to reaches hears. next (place j) other on (eqb-false other j apart)
+          inl (λ to reaches hears off. next (place j) other on (eqb-false other j apart)
           (record { other = reaches.other; here = hears.up_here; there = reaches.on; network = reaches.network; wanted = hears.wanted; offer = refl }))
 
       -- a route that was learned elsewhere
@@ -191,12 +206,12 @@ module _ (net : Internet) (up : ℕ → List ℕ) where
           e : RipEntry
           e = told_at (port_at ports j).cost (entry_of r)
 
-          by : IsReal net up router r ⊎ (had < lifetime * (r.hops + 1))
-              → ((to : Place) → Reaches (place j) to → Hears to e → IsReal net up to.router (route_offer to.port (port_of net (place j)).node e)) ⊎ (begun ≤ lifetime * e.hops)
+          by : Fine router r ⊎ (had < lifetime * (r.hops + 1))
+              → ((to : Place) → Reaches net up (place j) to → Hears net up to e → Fine to.router (route_offer to.port (port_of net (place j)).node e)) ⊎ (begun ≤ lifetime * e.hops)
           by (inr old) = inr (omega (arith, old, soon))
-          by (inl real) =
-              inl (λ to reaches hears. farther (place j) r (eqb-false r.port j apart)
-              (record { other = reaches.other; here = hears.up_here; there = reaches.on; network = reaches.network; wanted = hears.wanted; offer = refl }) near real)
+          by (inl fine) =
+              inl (λ to reaches hears off. farther (place j) r (eqb-false r.port j apart)
+              (record { other = reaches.other; here = hears.up_here; there = reaches.on; network = reaches.network; wanted = hears.wanted; offer = refl }) near (fine off))
 
       ended_said : (j : ℕ) (e : RipEntry) → RouteSaid begun (place j) (dead e)
       ended_said j e near = absurd (omega (arith, near))

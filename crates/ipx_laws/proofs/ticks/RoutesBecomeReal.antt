@@ -1,4 +1,5 @@
--- After the ticks by which what is gone is gone, each route is of a real way, so that none is to a network that is gone.
+-- After the ticks by which what is gone is gone, each route to a network off the list is of a real way, so that none is to such a network that is
+-- gone.
 use Rattle.std.proofs.Common.{◌≡◌, ◌≢◌, refl, sym, ap, ◌∙◌, subst, ℕ, ◌≤◌, ◌<◌, ◌==◌, true, false, List, [], ◌∷◌, length, map, inl, inr, arith, rules}
 use Rattle.std.specs.List.{AllByRecursion}
 use Rattle.std.proofs.lemmas.Bool.{both_ways, eq-eqb, eqb-true, or_cases, or_left, or_right}
@@ -16,6 +17,7 @@ use Rattle.ipx_internet.specs.Queue.{history_of}
 use Rattle.ipx_internet.specs.Run.{Run}
 use Rattle.ipx_internet.proofs.lists.EachElement.{all_then}
 use Rattle.ipx_internet.proofs.packets.SentOnOrReply.{Layouts}
+use Rattle.ipx_laws.specs.Apart.{IsRealApart}
 use Rattle.ipx_laws.specs.Gone.{most_ticks_gone, IsGone}
 use Rattle.ipx_laws.specs.Real.{IsReal, next, farther, led_over}
 use Rattle.ipx_laws.specs.Ups.{ups, networks_up}
@@ -57,8 +59,8 @@ module _ (net : Internet) (up : ℕ → List ℕ) (place : Place) (down : is_up 
   not_over router r (farther from s apart taken near real) = grind (arith, not_over from.router s real)
 
 -- a run in which so many ticks passed since the ports were as they were after these histories
-module _ (net : Internet) (laws : Layouts) (is : IsInternet net) (most_routes most_services : ℕ) (histories : List History) (count : ℕ) (last : Run)
-    (rests : Rests net laws is most_routes most_services (ups net histories) count last) (router : ℕ) (within : router < length net) where
+module _ (net : Internet) (laws : Layouts) (is : IsInternet net) (most_routes most_services : ℕ) (histories : List History) (foreign : List Network)
+    (count : ℕ) (last : Run) (rests : Rests net laws is most_routes most_services (ups net histories) foreign count last) (router : ℕ) (within : router < length net) where
   abbrev past : History
   past = history_of last.histories router
 
@@ -72,15 +74,23 @@ module _ (net : Internet) (laws : Layouts) (is : IsInternet net) (most_routes mo
       (held_routes_up ports most_routes past)
 
   module _ (long : most_ticks_gone ≤ count) where
-    pub all_real : AllByRecursion (IsReal net (ups net histories) router) (offers (routes_held ports most_routes past))
+    pub all_real : AllByRecursion (IsRealApart net (ups net histories) foreign router) (offers (routes_held ports most_routes past))
     all_real =
-        at_last route_reading network_order network_total most_routes (map (λ p. p.route_share) ports) (λ r. r.hops) (λ r. refl) (IsReal net (ups net histories) router)
-        count (route_facts ports past) long (rests.routers router within).routes
+        at_last route_reading network_order network_total most_routes (map (λ p. p.route_share) ports) (λ r. r.hops) (λ r. refl)
+        (IsRealApart net (ups net histories) foreign router) count (route_facts ports past) long (rests.routers router within).routes
 
     pub none_over : (place : Place) → is_up (ups net histories place.router) place.port ≡ false
-        → AllByRecursion (λ r. (real : IsReal net (ups net histories) router r) × AllByRecursion (λ p. p ≢ place) (led_over net (ups net histories) router r real))
+        → AllByRecursion (λ r. is_among r.network foreign ≡ false
+        → (real : IsReal net (ups net histories) router r) × AllByRecursion (λ p. p ≢ place) (led_over net (ups net histories) router r real))
         (offers (routes_held ports most_routes past))
-    none_over place down = grind (arith, all_then, not_over, all_real)
+    none_over place down =
+        all_then (IsRealApart net (ups net histories) foreign router)
+        (λ r. is_among r.network foreign ≡ false
+        → (real : IsReal net (ups net histories) router r) × AllByRecursion (λ p. p ≢ place) (led_over net (ups net histories) router r real))
+        (λ r fine off. (fine off, not_over net (ups net histories) place down router r (fine off))) (offers (routes_held ports most_routes past)) all_real
 
-    pub no_network : (network : Network) → IsGone net histories network → AllByRecursion (λ r. r.network ≢ network) (offers (routes_held ports most_routes past))
-    no_network network gone = search (rules, all_then, nowhere, all_real)
+    pub no_network : (network : Network) → is_among network foreign ≡ false → IsGone net histories network
+        → AllByRecursion (λ r. r.network ≢ network) (offers (routes_held ports most_routes past))
+    no_network network off gone =
+        all_then (IsRealApart net (ups net histories) foreign router) (λ r. r.network ≢ network)
+        (λ r fine same. nowhere net histories network gone (fine (ap (λ n. is_among n foreign) same ∙ off)) same) (offers (routes_held ports most_routes past)) all_real

@@ -1,9 +1,10 @@
 -- Ticks, one after the other, in which hosts speak and ports stay as they are: each router's routes are older by as many seconds as it had,
--- and what waits was said in this tick, or tells of no route.
-use Rattle.std.proofs.Common.{◌≡◌, ◌≢◌, refl, sym, ◌∙◌, subst, ◌⊎◌, ℕ, suc, ◌+◌, ◌-◌, ◌<◌, ◌≤◌, ◌==◌, true, false, List, [], ◌∷◌, ◌++◌, length, map, flat_map, Option, Some, IfSome, inl, inr, arith, get_or-set_same, get_or-set_other, rules}
+-- and what waits was said in this tick, or tells of no route but to networks of a list.
+use Rattle.std.proofs.Common.{◌≡◌, ◌≢◌, refl, sym, ◌∙◌, subst, ◌⊎◌, ℕ, suc, ◌+◌, ◌-◌, ◌<◌, ◌≤◌, ◌==◌, true, false, List, [], ◌∷◌, ◌++◌, length, map, flat_map, Option, Some, None, IfSome, inl, inr, arith, get_or-set_same, get_or-set_other, rules}
 use Rattle.std.specs.List.{AllByRecursion}
 use Rattle.std.proofs.lemmas.Bool.{cases_eq, eq-eqb, ne_eqb}
 use Rattle.ipx_wire.specs.Piece.{IsBytes}
+use Rattle.ipx_wire.specs.declared.network.Network.{Network}
 use Rattle.ipx_wire.specs.declared.rip.RipEntry.{RipEntry}
 use Rattle.ipx_wire.specs.declared.service.Service.{Service}
 use Rattle.ipx_router.specs.Facts.{heard_after, routes_held, offers}
@@ -28,10 +29,11 @@ use Rattle.ipx_internet.proofs.packets.SentOnOrReply.{Layouts, IsCast}
 use Rattle.ipx_internet.proofs.places.OneReceiverOfANode.{ports_at, receives_is}
 use Rattle.ipx_internet.proofs.rounds.OneRound.{each_delivery}
 use Rattle.ipx_internet.proofs.trees.RunIsALog.{histories_more}
-use Rattle.ipx_laws.specs.Meanwhile.{TellsNoRoute, LeavesPorts, SaysOnly, EachTick, AreTicksOfHosts, AreCalmTicks}
+use Rattle.ipx_laws.specs.Apart.{TellsOnlyOf, AreTicksBeside}
+use Rattle.ipx_laws.specs.Meanwhile.{message_of, TellsNoRoute, LeavesPorts, SaysOnly, EachTick, AreTicksOfHosts, AreCalmTicks}
 use Rattle.ipx_laws.specs.Ups.{ups}
 use Rattle.ipx_laws.proofs.packets.BroadcastEachSecond.{all_cast}
-use Rattle.ipx_laws.proofs.packets.RoutesOrSilence.{Silent, IsSpoken, cast_spoken, of_silent, of_own}
+use Rattle.ipx_laws.proofs.packets.RoutesOrSilence.{TellsApart, IsSpoken, none_of_foreign, cast_spoken, of_apart, of_own}
 use Rattle.ipx_laws.proofs.records.RecordsGrowOld.{passed}
 use Rattle.ipx_laws.proofs.ticks.RealOrSoonEnded.{RouteSaid, Comes, Arrives, Endures, at_begin, second_endures, packet_endures, routes_said, changes_said}
 
@@ -49,20 +51,47 @@ packet_here router number bytes rest = let same = eq-eqb router router refl in r
 
 -- ---- such ticks
 
--- no port changes in it, and what hosts say tells of no route
-pub record IsCalmTick (net : Internet) (most_routes most_services : ℕ) (run : Run) (steps : List Step) : Type 0 where
+-- no port changes in it, and what hosts say tells of no route but to networks of the list
+pub record IsCalmTick (net : Internet) (most_routes most_services : ℕ) (foreign : List Network) (run : Run) (steps : List Step) : Type 0 where
   pub busy : IsBusyTick net most_routes most_services run steps
   pub leaves : AllByRecursion LeavesPorts steps
-  pub says : AllByRecursion (SaysOnly TellsNoRoute) steps
+  pub says : AllByRecursion (SaysOnly (TellsOnlyOf foreign)) steps
 
-abbrev pub CalmTicks : Internet → ℕ → ℕ → Run → List (List Step) → Type 0
-CalmTicks net most_routes most_services = EachTick net most_routes most_services (IsCalmTick net most_routes most_services)
+abbrev pub CalmTicks : Internet → ℕ → ℕ → List Network → Run → List (List Step) → Type 0
+CalmTicks net most_routes most_services foreign = EachTick net most_routes most_services (IsCalmTick net most_routes most_services foreign)
 
 module _ (net : Internet) (most_routes most_services : ℕ) where
-  pub calm_ticks : (run : Run) (ticks : List (List Step)) → AreCalmTicks net most_routes most_services run ticks
-      → CalmTicks net most_routes most_services run ticks
-  calm_ticks run [] ((busy, leave), says) = tt
-  calm_ticks run (steps ∷ ticks) ((busy, leave), says) = grind (arith, calm_ticks (run_of net most_routes most_services run steps) ticks ((busy.1, leave.1), says.1))
+  pub ticks_beside : (foreign : List Network) (run : Run) (ticks : List (List Step)) → AreTicksBeside net most_routes most_services foreign run ticks
+      → CalmTicks net most_routes most_services foreign run ticks
+  ticks_beside foreign run [] ((busy, leave), says) = tt
+  ticks_beside foreign run (steps ∷ ticks) ((busy, leave), says) =
+      grind (arith, ticks_beside foreign (run_of net most_routes most_services run steps) ticks ((busy.1, leave.1), says.1))
+
+  -- what tells of no route tells of none to such networks
+  says_beside : (foreign : List Network) (step : Step) → SaysOnly TellsNoRoute step → SaysOnly (TellsOnlyOf foreign) step
+  says_beside foreign (Happens router (Packet number bytes)) says = some (message_of bytes) says
+    where
+      some : (o : Option Heard) → IfSome o TellsNoRoute → IfSome o (TellsOnlyOf foreign)
+      some None says = tt
+      some (Some m) says = none_of_foreign foreign m says
+  says_beside foreign (Happens router Second) says = tt
+  says_beside foreign (Happens router Start) says = tt
+  says_beside foreign (Happens router Stop) says = tt
+  says_beside foreign (Happens router (PortDown number)) says = tt
+  says_beside foreign (Happens router (PortUp number)) says = tt
+  says_beside foreign Settles says = tt
+
+  pub calm_beside : (foreign : List Network) (run : Run) (ticks : List (List Step)) → AreCalmTicks net most_routes most_services run ticks
+      → AreTicksBeside net most_routes most_services foreign run ticks
+  calm_beside foreign run ticks (of_hosts, says) = (
+    of_hosts,
+    all_then (AllByRecursion (SaysOnly TellsNoRoute)) (AllByRecursion (SaysOnly (TellsOnlyOf foreign)))
+        (λ steps all. all_then (SaysOnly TellsNoRoute) (SaysOnly (TellsOnlyOf foreign)) (says_beside foreign) steps all) ticks says,
+  )
+
+  pub calm_ticks : (foreign : List Network) (run : Run) (ticks : List (List Step)) → AreCalmTicks net most_routes most_services run ticks
+      → CalmTicks net most_routes most_services foreign run ticks
+  calm_ticks foreign run ticks calm = ticks_beside foreign run ticks (calm_beside foreign run ticks calm)
 
   -- ---- ticks in which nothing else happens
 
@@ -88,15 +117,15 @@ module _ (net : Internet) (most_routes most_services : ℕ) where
       → AreCalmTicks net most_routes most_services run ticks
   ticks_are_calm run ticks are = (ticks_of_hosts run ticks are, all_say_nothing TellsNoRoute run ticks are)
 
-module _ (net : Internet) (laws : Layouts) (is : IsInternet net) (most_routes most_services : ℕ) (up : ℕ → List ℕ) where
+module _ (net : Internet) (laws : Layouts) (is : IsInternet net) (most_routes most_services : ℕ) (up : ℕ → List ℕ) (foreign : List Network) where
   abbrev pub at : ℕ → ℕ → Place
   at router j = record { router = router; port = j }
 
   -- what a router says waits for those that it reaches
   pub all_come : (P : Place → RipEntry → Type 0) (histories : List History) → AreHistories net histories → (router : ℕ) (event : Event)
       → IsOnPort (ports_of net router) event → IsOfBytes event
-      → AllByRecursion (IsSpoken (up router) (λ j. P (at router j)) (ports_of net router)) (sends_at net most_routes most_services histories router event)
-      → AllByRecursion (λ d. IsDelivery net d × Comes net up P d.to d.bytes)
+      → AllByRecursion (IsSpoken foreign (up router) (λ j. P (at router j)) (ports_of net router)) (sends_at net most_routes most_services histories router event)
+      → AllByRecursion (λ d. IsDelivery net d × Comes net up foreign P d.to d.bytes)
       (flat_map (deliveries_of net router) (sends_at net most_routes most_services histories router event))
   all_come P histories are router event on of_bytes spoken =
       let ports = ports_of net router in
@@ -105,27 +134,27 @@ module _ (net : Internet) (laws : Layouts) (is : IsInternet net) (most_routes mo
       let bytes = laws.bytes ports most_routes most_services history event (ports_at net is router)
       (all-append (IsOnPort ports) history (event ∷ []) (are.on_ports router) (on, tt))
       (all-append IsOfBytes history (event ∷ []) (are.of_bytes router) (of_bytes, tt)) in
-      each_delivery net most_routes most_services (λ d. IsDelivery net d × Comes net up P d.to d.bytes)
-      (λ s. IsBytes s.bytes × IsSpoken (up router) (λ j. P (at router j)) ports s) router
+      each_delivery net most_routes most_services (λ d. IsDelivery net d × Comes net up foreign P d.to d.bytes)
+      (λ s. IsBytes s.bytes × IsSpoken foreign (up router) (λ j. P (at router j)) ports s) router
       (λ s to both place received.
       let got = receives_is net (at router s.port) s.link to received in (
         record { place = place; bytes = both.0 },
         elim both.1 [
           | inl own ↦ inl (at router s.port, record { other = got.other; network = got.network; on = own.0 }, own.1)
-          | inr silent ↦ inr silent
+          | inr tells ↦ inr tells
         ],
       ))
-      sent (all_both (λ s. IsBytes s.bytes) (IsSpoken (up router) (λ j. P (at router j)) ports) sent bytes spoken)
+      sent (all_both (λ s. IsBytes s.bytes) (IsSpoken foreign (up router) (λ j. P (at router j)) ports) sent bytes spoken)
 
   abbrev pub Lasts : ℕ → ℕ → History → Type 0
-  Lasts router had history = Endures net up most_routes router had history
+  Lasts router had history = Endures net up foreign most_routes router had history
 
   -- what is so while a tick goes on, with the seconds that are left of each router
   pub record Going (ticks : ℕ) (left : ℕ → ℕ) (q : Queued) : Type 0 where
     pub are : AreHistories net q.histories
     pub routers : (router had : ℕ) → router < length net → had + left router ≡ ticks → Lasts router had (history_of q.histories router)
     pub few : (router : ℕ) → router < length net → (left router ≤ 1) × (left router ≤ ticks)
-    pub waiting : AllByRecursion (Arrives net up ticks) q.queue
+    pub waiting : AllByRecursion (Arrives net up foreign ticks) q.queue
 
   -- ---- one event of a router
 
@@ -152,7 +181,7 @@ module _ (net : Internet) (laws : Layouts) (is : IsInternet net) (most_routes mo
     after = holding ports most_routes most_services now
 
     abbrev pub Told : ℕ → RipEntry → Type 0
-    Told j = RouteSaid net up ticks (at router j)
+    Told j = RouteSaid net up foreign ticks (at router j)
 
     pub lasted : Lasts router had past
     lasted =
@@ -163,7 +192,7 @@ module _ (net : Internet) (laws : Layouts) (is : IsInternet net) (most_routes mo
     soon = grind arith
 
     module _ (own : left router ≡ passed event 0 + rest router) (more : passed event had ≡ passed event 0 + had) (lasts : Lasts router (passed event had) now)
-        (spoken : AllByRecursion (IsSpoken (up router) Told ports) (sends_at net most_routes most_services histories router event)) where
+        (spoken : AllByRecursion (IsSpoken foreign (up router) Told ports) (sends_at net most_routes most_services histories router event)) where
       listed : router < length histories
       listed = grind arith
 
@@ -192,10 +221,10 @@ module _ (net : Internet) (laws : Layouts) (is : IsInternet net) (most_routes mo
         routers = each_lasts;
         few = λ other inside. fewer other (going.few other inside) (cases_eq other router);
         waiting =
-            all-append (Arrives net up ticks) queue (flat_map (deliveries_of net router) (sends_at net most_routes most_services histories router event)) going.waiting
-            (all_then (λ d. IsDelivery net d × Comes net up (RouteSaid net up ticks) d.to d.bytes) (Arrives net up ticks)
+            all-append (Arrives net up foreign ticks) queue (flat_map (deliveries_of net router) (sends_at net most_routes most_services histories router event)) going.waiting
+            (all_then (λ d. IsDelivery net d × Comes net up foreign (RouteSaid net up foreign ticks) d.to d.bytes) (Arrives net up foreign ticks)
             (λ d both. record { delivery = both.0; says = both.1 }) _
-            (all_come (RouteSaid net up ticks) histories going.are router event on of_bytes spoken));
+            (all_come (RouteSaid net up foreign ticks) histories going.are router event on of_bytes spoken));
       }
 
   -- ---- a second
@@ -212,14 +241,14 @@ module _ (net : Internet) (laws : Layouts) (is : IsInternet net) (most_routes mo
       → ((j : ℕ) → AllByRecursion (P j) (told (ports_of net router) (up router) (offers (routes_held (ports_of net router) most_routes now)) j))
       → ((j : ℕ) → AllByRecursion (P j) (news (ports_of net router) (offers (routes_held (ports_of net router) most_routes past))
       (offers (routes_held (ports_of net router) most_routes now)) j))
-      → AllByRecursion (IsSpoken (up router) P (ports_of net router)) (sends_at net most_routes most_services histories router Second)
+      → AllByRecursion (IsSpoken foreign (up router) P (ports_of net router)) (sends_at net most_routes most_services histories router Second)
   second_spoken P histories router are same all changed =
       let ports = ports_of net router in
       let past = history_of histories router in
       let now = past ++ Second ∷ [] in
       let sent = sends_at net most_routes most_services histories router Second in
-      subst (λ (us : List ℕ). AllByRecursion (IsSpoken us P ports) sent) same
-      (all_then (IsCast (ports_up ports now) P AnyOne ports) (IsSpoken (ports_up ports now) P ports) (cast_spoken (ports_up ports now) P AnyOne ports) sent
+      subst (λ (us : List ℕ). AllByRecursion (IsSpoken foreign us P ports) sent) same
+      (all_then (IsCast (ports_up ports now) P AnyOne ports) (IsSpoken foreign (ports_up ports now) P ports) (cast_spoken foreign (ports_up ports now) P AnyOne ports) sent
       (all_cast laws ports (ports_at net is router) most_routes most_services past (are.of_bytes router) P AnyOne
       (λ j. subst (λ (us : List ℕ). AllByRecursion (P j) (told ports us (offers (routes_held ports most_routes now)) j)) (sym same) (all j)) changed
       (λ j. all_of (AnyOne j) (λ s. tt) _) (λ j. all_of (AnyOne j) (λ s. tt) _)))
@@ -229,7 +258,7 @@ module _ (net : Internet) (laws : Layouts) (is : IsInternet net) (most_routes mo
       (going : Going ticks left (record { histories = histories; queue = queue })) where
     pub second_lasts : Lasts router (suc (ticks - left router)) (history_of histories router ++ Second ∷ [])
     second_lasts =
-        second_endures net up most_routes router (ticks - left router) (history_of histories router)
+        second_endures net up foreign most_routes router (ticks - left router) (history_of histories router)
         (lasted ticks histories queue router Second left rest within tt tt others going)
 
     pub second_goes : Going ticks rest (queued net most_routes most_services (record { histories = histories; queue = queue }) router Second)
@@ -238,9 +267,9 @@ module _ (net : Internet) (laws : Layouts) (is : IsInternet net) (most_routes mo
         let count = suc (ticks - left router) in
         let soon_enough : ticks ≤ count + 1 = let s = soon ticks histories queue router Second left rest within tt tt others going in omega (arith, s) in
         event_goes ticks histories queue router Second left rest within tt tt others going (omega (arith, own)) (omega arith) second_lasts
-        (second_spoken (λ j. RouteSaid net up ticks (at router j)) histories router going.are second_lasts.ups
-        (routes_said net up most_routes router count ticks soon_enough (before_it ++ Second ∷ []) second_lasts)
-        (changes_said net up most_routes router count ticks soon_enough (before_it ++ Second ∷ []) second_lasts
+        (second_spoken (λ j. RouteSaid net up foreign ticks (at router j)) histories router going.are second_lasts.ups
+        (routes_said net up foreign most_routes router count ticks soon_enough (before_it ++ Second ∷ []) second_lasts)
+        (changes_said net up foreign most_routes router count ticks soon_enough (before_it ++ Second ∷ []) second_lasts
         (offers (routes_held (ports_of net router) most_routes before_it))))
 
   -- ---- a delivery
@@ -248,7 +277,7 @@ module _ (net : Internet) (laws : Layouts) (is : IsInternet net) (most_routes mo
   -- what is said of all routes, of changes and for an answer is all that is said, where a packet of the other routers comes, or one that
   -- tells of no route
   pub packet_spoken : (P : ℕ → RipEntry → Type 0) (R : Place → RipEntry → Type 0) (histories : List History) → AreHistories net histories → (d : Delivery)
-      → IsDelivery net d → Comes net up R d.to d.bytes
+      → IsDelivery net d → Comes net up foreign R d.to d.bytes
       → let router = d.to.router in
       let ports = ports_of net router in
       let past = history_of histories router in
@@ -257,7 +286,7 @@ module _ (net : Internet) (laws : Layouts) (is : IsInternet net) (most_routes mo
       → ((m : Heard) → heard_after ports past d.to.port d.bytes ≡ Some m → TellsNoRoute m
       → AllByRecursion (P d.to.port) (told ports (up router) (offers (routes_held ports most_routes past)) d.to.port))
       → ((j : ℕ) → AllByRecursion (P j) (news ports (offers (routes_held ports most_routes past)) (offers (routes_held ports most_routes now)) j))
-      → AllByRecursion (IsSpoken (up router) P ports) (sends_at net most_routes most_services histories router (Packet d.to.port d.bytes))
+      → AllByRecursion (IsSpoken foreign (up router) P ports) (sends_at net most_routes most_services histories router (Packet d.to.port d.bytes))
   packet_spoken P R histories are d delivery comes same_before same all changed =
       let router = d.to.router in
       let ports = ports_of net router in
@@ -271,18 +300,18 @@ module _ (net : Internet) (laws : Layouts) (is : IsInternet net) (most_routes mo
       let heard_here : (m : Heard) → heard_after ports past d.to.port d.bytes ≡ Some m → is_up (ports_up ports now) d.to.port ≡ true =
       λ m e. subst (λ (us : List ℕ). is_up us d.to.port ≡ true) (same_before ∙ sym same)
       (heard_up ports (ports_up ports past) d.to.port (running past) d.bytes m e) in
-      subst (λ (us : List ℕ). AllByRecursion (IsSpoken us P ports) sent) same (elim comes [
+      subst (λ (us : List ℕ). AllByRecursion (IsSpoken foreign us P ports) sent) same (elim comes [
         | inl own ↦
-            of_own laws ports (ports_at net is router) most_routes most_services past (are.on_ports router) (are.of_bytes router) d.to.port d.bytes delivery.place
+            of_own foreign laws ports (ports_at net is router) most_routes most_services past (are.on_ports router) (are.of_bytes router) d.to.port d.bytes delivery.place
             delivery.bytes P changed advertised heard_here (R own.0) (port_of net own.0) own.1.network own.2
-        | inr silent ↦
-            of_silent laws ports (ports_at net is router) most_routes most_services past (are.on_ports router) (are.of_bytes router) d.to.port d.bytes delivery.place
-            delivery.bytes P changed advertised heard_here silent
+        | inr tells ↦
+            of_apart foreign laws ports (ports_at net is router) most_routes most_services past (are.on_ports router) (are.of_bytes router) d.to.port d.bytes delivery.place
+            delivery.bytes P changed advertised heard_here tells
       ])
 
   module _ (ticks : ℕ) (histories : List History) (queue : List Delivery) (d : Delivery) (left : ℕ → ℕ)
       (going : Going ticks left (record { histories = histories; queue = d ∷ queue })) where
-    abbrev first : Arrives net up ticks d
+    abbrev first : Arrives net up foreign ticks d
     first = going.waiting.0
 
     pub inside : d.to.router < length net
@@ -297,7 +326,7 @@ module _ (net : Internet) (laws : Layouts) (is : IsInternet net) (most_routes mo
 
     pub packet_lasts : Lasts d.to.router (ticks - left d.to.router) (history_of histories d.to.router ++ Packet d.to.port d.bytes ∷ [])
     packet_lasts =
-        packet_endures net up most_routes d.to.router (ticks - left d.to.router) ticks d.to.port d.bytes (omega arith) first.says (history_of histories d.to.router) packet_lasted
+        packet_endures net up foreign most_routes d.to.router (ticks - left d.to.router) ticks d.to.port d.bytes (omega arith) first.says (history_of histories d.to.router) packet_lasted
 
     pub delivery_goes : Going ticks left
         (queued net most_routes most_services (record { histories = histories; queue = queue }) d.to.router (Packet d.to.port d.bytes))
@@ -308,21 +337,16 @@ module _ (net : Internet) (laws : Layouts) (is : IsInternet net) (most_routes mo
         let soon_enough = soon ticks histories queue router (Packet d.to.port d.bytes) left left inside first.delivery.place first.delivery.bytes (λ other off. refl) going_on in
         event_goes ticks histories queue router (Packet d.to.port d.bytes) left left inside first.delivery.place first.delivery.bytes (λ other off. refl) going_on
         (omega arith) (omega arith) packet_lasts
-        (packet_spoken (λ j. RouteSaid net up ticks (at router j)) (RouteSaid net up ticks) histories going.are d first.delivery first.says packet_lasted.ups packet_lasts.ups
-        (λ m e silent. routes_said net up most_routes router count ticks soon_enough before_it packet_lasted d.to.port)
-        (changes_said net up most_routes router count ticks soon_enough (before_it ++ Packet d.to.port d.bytes ∷ []) packet_lasts
+        (packet_spoken (λ j. RouteSaid net up foreign ticks (at router j)) (RouteSaid net up foreign ticks) histories going.are d first.delivery first.says packet_lasted.ups packet_lasts.ups
+        (λ m e silent. routes_said net up foreign most_routes router count ticks soon_enough before_it packet_lasted d.to.port)
+        (changes_said net up foreign most_routes router count ticks soon_enough (before_it ++ Packet d.to.port d.bytes ∷ []) packet_lasts
         (offers (routes_held (ports_of net router) most_routes before_it))))
 
   -- ---- steps
 
-  -- a packet from outside is as one that waits first
-  pub silent_comes : (router number : ℕ) (bytes : List ℕ) → IsOnPort (ports_of net router) (Packet number bytes) → IsOfBytes (Packet number bytes) → Silent bytes → (ticks : ℕ)
-      → Arrives net up ticks (record { to = at router number; bytes = bytes })
-  silent_comes router number bytes on of_bytes silent ticks = record { delivery = record { place = on; bytes = of_bytes }; says = inr silent }
-
   -- what a packet from outside says
-  pub is_silent : (bytes : List ℕ) → SaysOnly TellsNoRoute (Happens 0 (Packet 0 bytes)) → Silent bytes
-  is_silent bytes says m e = subst (λ (o : Option Heard). IfSome o TellsNoRoute) e says
+  pub is_apart : (bytes : List ℕ) → SaysOnly (TellsOnlyOf foreign) (Happens 0 (Packet 0 bytes)) → TellsApart foreign bytes
+  is_apart bytes says m e = subst (λ (o : Option Heard). IfSome o (TellsOnlyOf foreign)) e says
 
   abbrev pub left_of : List Step → ℕ → ℕ
   left_of steps router = seconds_of router steps
@@ -337,7 +361,7 @@ module _ (net : Internet) (laws : Layouts) (is : IsInternet net) (most_routes mo
     pub delivery : (histories : List History) (queue : List Delivery) (d : Delivery) (left : ℕ → ℕ)
         → Goes left (record { histories = histories; queue = d ∷ queue })
         → Goes left (queued net most_routes most_services (record { histories = histories; queue = queue }) d.to.router (Packet d.to.port d.bytes))
-    pub comes : (histories : List History) (queue : List Delivery) (d : Delivery) (left : ℕ → ℕ) → IsDelivery net d → Silent d.bytes
+    pub comes : (histories : List History) (queue : List Delivery) (d : Delivery) (left : ℕ → ℕ) → IsDelivery net d → TellsApart foreign d.bytes
         → Goes left (record { histories = histories; queue = queue }) → Goes left (record { histories = histories; queue = d ∷ queue })
 
   module _ (Goes : (ℕ → ℕ) → Queued → Type 0) (kept : IsKept Goes) where
@@ -346,7 +370,7 @@ module _ (net : Internet) (laws : Layouts) (is : IsInternet net) (most_routes mo
     settles left histories queue goes = grind arith
 
     happens_so : (rest : List Step) (q : Queued) (router : ℕ) (event : Event) → IsStep net (Happens router event) → LeavesPorts (Happens router event)
-        → SaysOnly TellsNoRoute (Happens router event) → Goes (left_of (Happens router event ∷ rest)) q
+        → SaysOnly (TellsOnlyOf foreign) (Happens router event) → Goes (left_of (Happens router event ∷ rest)) q
         → Goes (left_of rest) (queued net most_routes most_services q router event)
     happens_so rest q router Second is_step leaves says goes =
         kept.second q.histories q.queue router (left_of (Happens router Second ∷ rest)) (left_of rest) is_step.0 (second_here router rest)
@@ -354,7 +378,7 @@ module _ (net : Internet) (laws : Layouts) (is : IsInternet net) (most_routes mo
     happens_so rest q router (Packet number bytes) is_step leaves says goes =
         let d : Delivery = record { to = at router number; bytes = bytes } in
         kept.delivery q.histories q.queue d (left_of rest)
-        (kept.comes q.histories q.queue d (left_of rest) (record { place = is_step.1; bytes = is_step.2 }) (is_silent bytes says)
+        (kept.comes q.histories q.queue d (left_of rest) (record { place = is_step.1; bytes = is_step.2 }) (is_apart bytes says)
         (kept.same (left_of (Happens router (Packet number bytes) ∷ rest)) (left_of rest) q (λ other. elim (cases_eq other router) [
           | inl same ↦ subst (λ (k : ℕ). left_of (Happens router (Packet number bytes) ∷ rest) k ≡ left_of rest k) (sym same) (packet_here router number bytes rest)
           | inr off ↦ second_there router other (Packet number bytes) rest off
@@ -364,13 +388,13 @@ module _ (net : Internet) (laws : Layouts) (is : IsInternet net) (most_routes mo
     happens_so rest q router (PortDown number) is_step leaves says goes = absurd leaves
     happens_so rest q router (PortUp number) is_step leaves says goes = absurd leaves
 
-    pub step_so : (step : Step) (rest : List Step) (run : Run) → IsStep net step → LeavesPorts step → SaysOnly TellsNoRoute step
+    pub step_so : (step : Step) (rest : List Step) (run : Run) → IsStep net step → LeavesPorts step → SaysOnly (TellsOnlyOf foreign) step
         → Goes (left_of (step ∷ rest)) (forgotten run) → Goes (left_of rest) (forgotten (stepped net most_routes most_services run step))
     step_so (Happens router event) rest run is_step leaves says goes = search (rules, events, happens_so)
     step_so Settles rest run is_step leaves says goes = grind (arith, deliveries, settles)
 
     pub steps_so : (steps : List Step) (run : Run) → AllByRecursion (IsStep net) steps → AllByRecursion LeavesPorts steps
-        → AllByRecursion (SaysOnly TellsNoRoute) steps → Goes (left_of steps) (forgotten run)
+        → AllByRecursion (SaysOnly (TellsOnlyOf foreign)) steps → Goes (left_of steps) (forgotten run)
         → Goes (left_of []) (forgotten (run_of net most_routes most_services run steps))
     steps_so [] run all leave say goes = goes
     steps_so (step ∷ steps) run all leave say goes = grind (arith, steps_so steps (stepped net most_routes most_services run step) all.1 leave.1 say.1 (step_so step steps run all.0 leave.0 say.0 goes))
@@ -390,11 +414,11 @@ module _ (net : Internet) (laws : Layouts) (is : IsInternet net) (most_routes mo
     };
     second = second_goes ticks;
     delivery = delivery_goes ticks;
-    comes = λ histories queue d left delivery silent going. record {
+    comes = λ histories queue d left delivery tells going. record {
       are = going.are;
       routers = going.routers;
       few = going.few;
-      waiting = (record { delivery = delivery; says = inr silent }, going.waiting);
+      waiting = (record { delivery = delivery; says = inr tells }, going.waiting);
     };
   }
 
@@ -406,8 +430,8 @@ module _ (net : Internet) (laws : Layouts) (is : IsInternet net) (most_routes mo
     pub routers : (router : ℕ) → router < length net → Lasts router ticks (history_of run.histories router)
     pub quiet : run.waiting ≡ []
 
-  none_waits : (ticks : ℕ) (waiting : List Waiting) → waiting ≡ [] → AllByRecursion (Arrives net up ticks) (map (λ w. w.delivery) waiting)
-  none_waits ticks waiting none = subst (λ (ws : List Waiting). AllByRecursion (Arrives net up ticks) (map (λ w. w.delivery) ws)) (sym none) tt
+  none_waits : (ticks : ℕ) (waiting : List Waiting) → waiting ≡ [] → AllByRecursion (Arrives net up foreign ticks) (map (λ w. w.delivery) waiting)
+  none_waits ticks waiting none = subst (λ (ws : List Waiting). AllByRecursion (Arrives net up foreign ticks) (map (λ w. w.delivery) ws)) (sym none) tt
 
   -- when a tick begins, and when it is over
   pub begins : (ticks : ℕ) (run : Run) (steps : List Step) → Rests ticks run → IsBusyTick net most_routes most_services run steps
@@ -429,13 +453,13 @@ module _ (net : Internet) (laws : Layouts) (is : IsInternet net) (most_routes mo
     quiet = quiet;
   }
 
-  pub tick_rests : (ticks : ℕ) (run : Run) (steps : List Step) → Rests ticks run → IsCalmTick net most_routes most_services run steps
+  pub tick_rests : (ticks : ℕ) (run : Run) (steps : List Step) → Rests ticks run → IsCalmTick net most_routes most_services foreign run steps
       → Rests (suc ticks) (run_of net most_routes most_services run steps)
   tick_rests ticks run steps rests tick =
       ends (suc ticks) (run_of net most_routes most_services run steps)
       (steps_so (Going (suc ticks)) (going_kept (suc ticks)) steps run tick.busy.happens tick.leaves tick.says (begins ticks run steps rests tick.busy)) tick.busy.quiet
 
-  pub ticks_rest : (so_far : ℕ) (run : Run) (ticks : List (List Step)) → Rests so_far run → CalmTicks net most_routes most_services run ticks
+  pub ticks_rest : (so_far : ℕ) (run : Run) (ticks : List (List Step)) → Rests so_far run → CalmTicks net most_routes most_services foreign run ticks
       → Rests (length ticks + so_far) (ticked net most_routes most_services run ticks)
   ticks_rest so_far run [] rests are = grind arith
   ticks_rest so_far run (steps ∷ ticks) rests are =
@@ -449,7 +473,7 @@ module _ (net : Internet) (laws : Layouts) (is : IsInternet net) (most_routes mo
 
   -- after ticks from there
   pub rested : (run : Run) (ticks : List (List Step)) → AreHistories net run.histories → ((router : ℕ) → ups net run.histories router ≡ up router)
-      → run.waiting ≡ [] → CalmTicks net most_routes most_services run ticks → Rests (length ticks) (ticked net most_routes most_services run ticks)
+      → run.waiting ≡ [] → CalmTicks net most_routes most_services foreign run ticks → Rests (length ticks) (ticked net most_routes most_services run ticks)
   rested run ticks are same quiet passes =
       let count : length ticks + 0 ≡ length ticks = omega arith in
       subst (λ (n : ℕ). Rests n (ticked net most_routes most_services run ticks)) count (ticks_rest 0 run ticks (quiet_rests run are same quiet) passes)

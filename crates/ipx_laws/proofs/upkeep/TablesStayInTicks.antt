@@ -12,22 +12,26 @@ use Rattle.ipx_internet.specs.Internet.{Internet, IsInternet, NodesDiffer, ports
 use Rattle.ipx_internet.specs.Queue.{history_of}
 use Rattle.ipx_internet.specs.Run.{Step, Run, stepped}
 use Rattle.ipx_internet.proofs.packets.SentOnOrReply.{Layouts}
-use Rattle.ipx_laws.specs.Least.{AreCheap, HasRoom, FifteenSuffice, most_ticks_right}
+use Rattle.ipx_laws.specs.Apart.{HasRoomBeside}
+use Rattle.ipx_laws.specs.Least.{AreCheap, FifteenSuffice, most_ticks_right}
 use Rattle.ipx_laws.specs.Upkeep.{TablesStay, ServicesStay, steps_of}
 use Rattle.ipx_laws.proofs.lists.SameElementsInOrder.{same_lists}
-use Rattle.ipx_laws.proofs.tables.Given.{given_of}
+use Rattle.ipx_laws.proofs.tables.Given.{Given, given_of}
 use Rattle.ipx_laws.proofs.tables.RightWithinAMinute.{AtRest, find_same, tied}
 use Rattle.ipx_laws.proofs.tables.RoutesStayAtEachStep.{SameRoute, routes_stay}
 use Rattle.ipx_laws.proofs.ticks.AfterEachStep.{AfterEach, each_all}
 use Rattle.ipx_laws.proofs.ticks.TickAfterTick.{CalmTicks}
 
 module _ (net : Internet) (laws : Layouts) (is : IsInternet net) (differ : NodesDiffer net) (cheap : AreCheap net) (up : ℕ → List ℕ)
-    (in_ports : (router : ℕ) → AllByRecursion (λ j. j < length (ports_of net router)) (up router)) (most_routes most_services : ℕ) (room : HasRoom net most_routes)
-    (suffice : (network : Network) → FifteenSuffice net up network)
+    (in_ports : (router : ℕ) → AllByRecursion (λ j. j < length (ports_of net router)) (up router)) (most_routes most_services : ℕ)
+    (room : HasRoomBeside net most_routes []) (suffice : (network : Network) → FifteenSuffice net up network)
     (rise : (ports : List Port) (history : History) → IsStrictlyIncreasing (map (λ r. r.network.0) (offers (routes_held ports most_routes history)))) where
+  abbrev pub given_for : Network → Given
+  given_for network = given_of net laws is differ cheap up in_ports most_routes most_services [] room network (suffice network) refl
+
   -- to every network
   abbrev SameRoutes : Run → Run → Type 0
-  SameRoutes first now = (network : Network) → SameRoute (given_of net laws is differ cheap up in_ports most_routes most_services room network (suffice network)) first now
+  SameRoutes first now = (network : Network) → SameRoute (given_for network) first now
 
   -- then the tables are the same
   same_table : (first now : Run) → SameRoutes first now → (router : ℕ) → router < length net
@@ -54,13 +58,13 @@ module _ (net : Internet) (laws : Layouts) (is : IsInternet net) (differ : Nodes
       )
 
   pub tables_stay_in : (so_far : ℕ) → most_ticks_right ≤ so_far → (run : Run) (ticks : List (List Step))
-      → ((network : Network) → AtRest (given_of net laws is differ cheap up in_ports most_routes most_services room network (suffice network)) so_far run)
-      → CalmTicks net most_routes most_services run ticks → ServicesStay net most_routes most_services run.histories run (steps_of ticks)
+      → ((network : Network) → AtRest (given_for network) so_far run)
+      → CalmTicks net most_routes most_services [] run ticks → ServicesStay net most_routes most_services run.histories run (steps_of ticks)
       → TablesStay net most_routes most_services run.histories run (steps_of ticks)
   tables_stay_in so_far steady run ticks rest calm services =
       tables_stay run run (steps_of ticks)
       (each_all net most_routes most_services
-      (λ (network : Network) now. SameRoute (given_of net laws is differ cheap up in_ports most_routes most_services room network (suffice network)) run now) run (steps_of ticks)
-      (λ network. routes_stay (given_of net laws is differ cheap up in_ports most_routes most_services room network (suffice network)) so_far steady run run ticks
+      (λ (network : Network) now. SameRoute (given_for network) run now) run (steps_of ticks)
+      (λ network. routes_stay (given_for network) so_far steady run run ticks
       (rest network) calm (λ router inside. refl)))
       services

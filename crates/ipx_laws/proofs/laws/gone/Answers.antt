@@ -1,4 +1,4 @@
-use Rattle.std.proofs.Common.{◌∷◌, length}
+use Rattle.std.proofs.Common.{refl, [], ◌∷◌, length}
 use Rattle.ipx_router.specs.Facts.{services_held, offers}
 use Rattle.ipx_internet.specs.Internet.{ports_of}
 use Rattle.ipx_internet.specs.Queue.{history_of}
@@ -37,8 +37,8 @@ layouts c = record {
 
 pub returns-clause-networks : goal.returns-clause-networks
 returns-clause-networks c net most_routes most_services run first ticks router network is are calm long within =
-    no_network net (layouts c) is most_routes most_services run.histories (length ticks) (ticked net most_routes most_services run (first ∷ ticks))
-    (rests_after net (layouts c) is most_routes most_services run first ticks are calm) router within long network
+    no_network net (layouts c) is most_routes most_services run.histories [] (length ticks) (ticked net most_routes most_services run (first ∷ ticks))
+    (rests_after net (layouts c) is most_routes most_services run first ticks are calm) router within long network refl
 
 pub returns-clause-services : goal.returns-clause-services
 returns-clause-services c net most_routes most_services run first ticks router is are (rest, passes) long within =

@@ -1,44 +1,32 @@
-use Rattle.std.proofs.Common.{◌∷◌, length}
+use Rattle.std.proofs.Common.{◌≡◌, ◌≢◌, refl, false, [], ◌∷◌}
+use Rattle.std.specs.List.{AllByRecursion}
+use Rattle.ipx_wire.specs.Crossed.{is_among}
 use Rattle.ipx_internet.specs.Ticks.{ticked}
-use Rattle.ipx_internet.proofs.packets.SentOnOrReply.{Layouts}
+use Rattle.ipx_internet.proofs.lists.EachElement.{all_then}
+use Rattle.ipx_laws.specs.Apart.{IsRealApart}
+use Rattle.ipx_laws.specs.Real.{IsReal, led_over}
+use Rattle.ipx_laws.specs.Tables.{routes_of}
+use Rattle.ipx_laws.specs.Ups.{ups}
 use Rattle.ipx_laws.proofs.laws.real.Goals as goal
-use Rattle.ipx_laws.proofs.ticks.AfterRest.{rests_after}
-use Rattle.ipx_laws.proofs.ticks.RoutesBecomeReal.{all_real, all_on, none_over}
+use Rattle.ipx_laws.proofs.ticks.AfterRest.{beside_after}
 
--- the laws of packets and routers
-layouts : goal.After-packets → Layouts
-layouts c = record {
-  readings = record {
-    packet_read = c.readings.ensures.packet_read;
-    packet_front = c.readings.ensures.packet_front;
-    rip_read = c.readings.ensures.rip_read;
-    sap_read = c.service_readings.ensures.sap_read;
-  };
-  again = record {
-    rip_packet_again = c.reread.ensures.rip_packet;
-    rip_again = c.reread.ensures.rip;
-    query_packet_again = c.reread.ensures.query_packet;
-    query_again = c.reread.ensures.query;
-    sap_packet_again = c.reread.ensures.sap_packet;
-    sap_again = c.reread.ensures.sap;
-    forwarded_again = c.reread.ensures.forwarded;
-    propagated_again = c.reread.ensures.propagated;
-  };
-  layouts = c.packets.ensures.layouts;
-  bytes = c.packets.ensures.bytes;
-}
-
+-- with an empty list
 pub returns-clause-routes : goal.returns-clause-routes
 returns-clause-routes c net most_routes most_services run first ticks router is are calm long within =
-    all_real net (layouts c) is most_routes most_services run.histories (length ticks) (ticked net most_routes most_services run (first ∷ ticks))
-    (rests_after net (layouts c) is most_routes most_services run first ticks are calm) router within long
-
-pub returns-clause-own_ports : goal.returns-clause-own_ports
-returns-clause-own_ports c net most_routes most_services run first ticks router is are calm within =
-    all_on net (layouts c) is most_routes most_services run.histories (length ticks) (ticked net most_routes most_services run (first ∷ ticks))
-    (rests_after net (layouts c) is most_routes most_services run first ticks are calm) router within
+    all_then (IsRealApart net (ups net run.histories) [] router) (IsReal net (ups net run.histories) router) (λ r real. real refl)
+    (routes_of net most_routes (ticked net most_routes most_services run (first ∷ ticks)).histories router)
+    (c.real.ensures.routes net most_routes most_services [] run first ticks router is are (beside_after net most_routes most_services [] run first ticks calm) long within)
 
 pub returns-clause-down : goal.returns-clause-down
 returns-clause-down c net most_routes most_services run first ticks router place is are calm long within down =
-    none_over net (layouts c) is most_routes most_services run.histories (length ticks) (ticked net most_routes most_services run (first ∷ ticks))
-    (rests_after net (layouts c) is most_routes most_services run first ticks are calm) router within long place down
+    all_then
+    (λ r. is_among r.network [] ≡ false
+    → (real : IsReal net (ups net run.histories) router r) × AllByRecursion (λ p. p ≢ place) (led_over net (ups net run.histories) router r real))
+    (λ r. (real : IsReal net (ups net run.histories) router r) × AllByRecursion (λ p. p ≢ place) (led_over net (ups net run.histories) router r real)) (λ r real. real refl)
+    (routes_of net most_routes (ticked net most_routes most_services run (first ∷ ticks)).histories router)
+    (c.real.ensures.down net most_routes most_services [] run first ticks router place is are (beside_after net most_routes most_services [] run first ticks calm) long within
+    down)
+
+pub returns-clause-own_ports : goal.returns-clause-own_ports
+returns-clause-own_ports c net most_routes most_services run first ticks router is are calm within =
+    c.real.ensures.own_ports net most_routes most_services [] run first ticks router is are (beside_after net most_routes most_services [] run first ticks calm) within

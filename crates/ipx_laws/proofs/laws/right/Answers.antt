@@ -1,81 +1,31 @@
-use Rattle.std.proofs.Common.{◌≡◌, sym, subst, ◌+◌, ◌≤◌, ◌++◌, length, arith}
-use Rattle.ipx_internet.specs.Run.{Run, run_of}
-use Rattle.ipx_internet.specs.Ticks.{ticked}
-use Rattle.ipx_internet.proofs.packets.SentOnOrReply.{Layouts}
-use Rattle.ipx_laws.specs.Gone.{most_ticks_gone}
-use Rattle.ipx_laws.specs.Least.{least_route, ticks_right}
-use Rattle.ipx_laws.specs.Tables.{route_of}
+use Rattle.std.proofs.Common.{[], ◌++◌}
 use Rattle.ipx_laws.specs.Ups.{ups}
 use Rattle.ipx_laws.proofs.laws.right.Goals as goal
-use Rattle.ipx_laws.proofs.tables.AnyTablesBecomeRight.{here, from_any, from_real}
-use Rattle.ipx_laws.proofs.tables.TablesAreRight.{some_ticks, soon_enough, table_is, stays, parts_of, ticked_on}
-use Rattle.ipx_laws.proofs.ticks.TickAfterTick.{IsCalmTick, calm_ticks}
+use Rattle.ipx_laws.proofs.tables.AnEmptyList.{setting_beside, real_beside}
+use Rattle.ipx_laws.proofs.tables.TablesAreRight.{soon_enough}
+use Rattle.ipx_laws.proofs.ticks.AfterRest.{beside_after}
+use Rattle.ipx_laws.proofs.ticks.TickAfterTick.{calm_beside}
 
--- the laws of packets and routers
-layouts : goal.After-packets → Layouts
-layouts c = record {
-  readings = record {
-    packet_read = c.readings.ensures.packet_read;
-    packet_front = c.readings.ensures.packet_front;
-    rip_read = c.readings.ensures.rip_read;
-    sap_read = c.service_readings.ensures.sap_read;
-  };
-  again = record {
-    rip_packet_again = c.reread.ensures.rip_packet;
-    rip_again = c.reread.ensures.rip;
-    query_packet_again = c.reread.ensures.query_packet;
-    query_again = c.reread.ensures.query;
-    sap_packet_again = c.reread.ensures.sap_packet;
-    sap_again = c.reread.ensures.sap;
-    forwarded_again = c.reread.ensures.forwarded;
-    propagated_again = c.reread.ensures.propagated;
-  };
-  layouts = c.packets.ensures.layouts;
-  bytes = c.packets.ensures.bytes;
-}
-
+-- with an empty list
 pub returns-clause-tables : goal.returns-clause-tables
-returns-clause-tables c net most_routes most_services run first ticks router network (is, differ, suffice, cheap, room, are) (rest, leaves, calm) inside sure =
-    let next = run_of net most_routes most_services run first in
-    let long = some_ticks (least_route net (ups net run.histories) router network) (length ticks) sure in
-    table_is (here net (layouts c) is differ cheap most_routes most_services room network run are suffice) (length ticks)
-    (ticked net most_routes most_services next ticks)
-    (from_any net (layouts c) is differ cheap most_routes most_services room network run are suffice first ticks rest leaves
-    (calm_ticks net most_routes most_services next ticks calm) long) long router inside sure
+returns-clause-tables c net most_routes most_services run first ticks router network setting calm inside sure =
+    c.right.ensures.tables net most_routes most_services [] run first ticks router network (setting_beside net most_routes run.histories network setting)
+    (beside_after net most_routes most_services [] run first ticks calm) inside sure
 
 pub returns-clause-stay : goal.returns-clause-stay
-returns-clause-stay c net most_routes most_services run first ticks further router network (is, differ, suffice, cheap, room, are) (rest, leaves, calm) inside sure =
-    let next = run_of net most_routes most_services run first in
-    let long = some_ticks (least_route net (ups net run.histories) router network) (length ticks) sure in
-    let parts = parts_of net most_routes most_services (IsCalmTick net most_routes most_services) next ticks further
-    (calm_ticks net most_routes most_services next (ticks ++ further) calm) in
-    subst (λ (later : Run).
-    route_of net most_routes later.histories router network ≡ route_of net most_routes (ticked net most_routes most_services next ticks).histories router network)
-    (sym (ticked_on net most_routes most_services next ticks further))
-    (stays (here net (layouts c) is differ cheap most_routes most_services room network run are suffice) (length ticks)
-    (ticked net most_routes most_services next ticks) further
-    (from_any net (layouts c) is differ cheap most_routes most_services room network run are suffice first ticks rest leaves parts.0 long) parts.1 router inside sure)
+returns-clause-stay c net most_routes most_services run first ticks further router network setting calm inside sure =
+    c.right.ensures.stay net most_routes most_services [] run first ticks further router network (setting_beside net most_routes run.histories network setting)
+    (beside_after net most_routes most_services [] run first (ticks ++ further) calm) inside sure
 
 pub returns-clause-soon : goal.returns-clause-soon
 returns-clause-soon c way = soon_enough way
 
--- as if that many ticks had passed
 pub returns-clause-sooner : goal.returns-clause-sooner
-returns-clause-sooner c net most_routes most_services run ticks router network (is, differ, suffice, cheap, room, are) real quiet calm inside sure =
-    let enough : ticks_right (least_route net (ups net run.histories) router network) ≤ length ticks + most_ticks_gone = omega (arith, sure) in
-    table_is (here net (layouts c) is differ cheap most_routes most_services room network run are suffice) (length ticks + most_ticks_gone)
-    (ticked net most_routes most_services run ticks)
-    (from_real net (layouts c) is differ cheap most_routes most_services room network run are suffice ticks quiet
-    (calm_ticks net most_routes most_services run ticks calm) real) (omega arith) router inside enough
+returns-clause-sooner c net most_routes most_services run ticks router network setting real quiet calm inside sure =
+    c.right.ensures.sooner net most_routes most_services [] run ticks router network (setting_beside net most_routes run.histories network setting)
+    (real_beside net most_routes run.histories (ups net run.histories) [] real) quiet (calm_beside net most_routes most_services [] run ticks calm) inside sure
 
 pub returns-clause-sooner_stay : goal.returns-clause-sooner_stay
-returns-clause-sooner_stay c net most_routes most_services run ticks further router network (is, differ, suffice, cheap, room, are) real quiet calm inside sure =
-    let enough : ticks_right (least_route net (ups net run.histories) router network) ≤ length ticks + most_ticks_gone = omega (arith, sure) in
-    let parts = parts_of net most_routes most_services (IsCalmTick net most_routes most_services) run ticks further
-    (calm_ticks net most_routes most_services run (ticks ++ further) calm) in
-    subst (λ (later : Run).
-    route_of net most_routes later.histories router network ≡ route_of net most_routes (ticked net most_routes most_services run ticks).histories router network)
-    (sym (ticked_on net most_routes most_services run ticks further))
-    (stays (here net (layouts c) is differ cheap most_routes most_services room network run are suffice) (length ticks + most_ticks_gone)
-    (ticked net most_routes most_services run ticks) further
-    (from_real net (layouts c) is differ cheap most_routes most_services room network run are suffice ticks quiet parts.0 real) parts.1 router inside enough)
+returns-clause-sooner_stay c net most_routes most_services run ticks further router network setting real quiet calm inside sure =
+    c.right.ensures.sooner_stay net most_routes most_services [] run ticks further router network (setting_beside net most_routes run.histories network setting)
+    (real_beside net most_routes run.histories (ups net run.histories) [] real) quiet (calm_beside net most_routes most_services [] run (ticks ++ further) calm) inside sure

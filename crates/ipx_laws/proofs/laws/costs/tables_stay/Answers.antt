@@ -11,6 +11,7 @@ use Rattle.ipx_internet.specs.Run.{Step, Run, AreHistories, begun}
 use Rattle.ipx_internet.specs.Ticks.{IsTick, AreTicks, ticked}
 use Rattle.ipx_internet.proofs.packets.SentOnOrReply.{Layouts}
 use Rattle.ipx_internet.proofs.trees.RunIsALog.{router_there}
+use Rattle.ipx_laws.specs.Apart.{HasRoomBeside}
 use Rattle.ipx_laws.specs.Departure.{departures}
 use Rattle.ipx_laws.specs.Gone.{most_ticks_gone}
 use Rattle.ipx_laws.specs.Least.{AreCheap, HasRoom, FifteenSuffice, most_ticks_right}
@@ -22,6 +23,7 @@ use Rattle.ipx_laws.specs.Ups.{ups}
 use Rattle.ipx_laws.proofs.laws.costs.tables_stay.Goals as goal
 use Rattle.ipx_laws.proofs.laws.costs.tables_stay.Goals.{After-upkeep}
 use Rattle.ipx_laws.proofs.tables.AnyTablesBecomeRight.{from_any, from_real}
+use Rattle.ipx_laws.proofs.tables.AnEmptyList.{beside_none, real_beside}
 use Rattle.ipx_laws.proofs.tables.LeastWays.{ups_within}
 use Rattle.ipx_laws.proofs.tables.TablesAreRight.{parts_of}
 use Rattle.ipx_laws.proofs.ticks.GoneWhateverHappens.{each_then}
@@ -74,6 +76,10 @@ module _ (c : After-upkeep) (net : Internet) (most_routes most_services : ℕ) (
   room : HasRoom net most_routes
   room = (settings any_network).4
 
+  -- with an empty list
+  room_beside : HasRoomBeside net most_routes []
+  room_beside = beside_none net most_routes room
+
   are : AreHistories net histories
   are = (settings any_network).5
 
@@ -81,7 +87,7 @@ module _ (c : After-upkeep) (net : Internet) (most_routes most_services : ℕ) (
   run = ticked net most_routes most_services (begun histories) ticks
 
   abbrev Calm : List (List Step) → Type 0
-  Calm = CalmTicks net most_routes most_services (begun histories)
+  Calm = CalmTicks net most_routes most_services [] (begun histories)
 
   abbrev Services : Type 0
   Services = ServicesStay net most_routes most_services run.histories run (steps_of further)
@@ -92,29 +98,30 @@ module _ (c : After-upkeep) (net : Internet) (most_routes most_services : ℕ) (
   -- from any tables, and from real routes
   stay_then : Calm (ticks ++ further) → most_ticks_right ≤ length ticks → Services → Tables
   stay_then calm long services =
-      let parts = parts_of net most_routes most_services (IsCalmTick net most_routes most_services) (begun histories) ticks further calm in
-      tables_stay_in net (layouts c) is differ cheap (ups net histories) (ups_within net histories) most_routes most_services room suffice
+      let parts = parts_of net most_routes most_services (IsCalmTick net most_routes most_services []) (begun histories) ticks further calm in
+      tables_stay_in net (layouts c) is differ cheap (ups net histories) (ups_within net histories) most_routes most_services room_beside suffice
       (λ ports history. c.tables.ensures.routes_rise ports most_routes history) (length ticks) long run further
-      (λ network. from_any net (layouts c) is differ cheap most_routes most_services room network (begun histories) are (suffice network) [] ticks (tt, tt, refl) tt parts.0
+      (λ network. from_any net (layouts c) is differ cheap most_routes most_services [] room_beside network refl (begun histories) are (suffice network) [] ticks (tt, tt, refl) tt parts.0
       (omega (arith, long)))
       parts.1 services
 
   stay_sooner : AreReal net most_routes histories (ups net histories) → Calm (ticks ++ further) → period ≤ length ticks → Services → Tables
   stay_sooner real calm long services =
-      let parts = parts_of net most_routes most_services (IsCalmTick net most_routes most_services) (begun histories) ticks further calm in
-      tables_stay_in net (layouts c) is differ cheap (ups net histories) (ups_within net histories) most_routes most_services room suffice
+      let parts = parts_of net most_routes most_services (IsCalmTick net most_routes most_services []) (begun histories) ticks further calm in
+      tables_stay_in net (layouts c) is differ cheap (ups net histories) (ups_within net histories) most_routes most_services room_beside suffice
       (λ ports history. c.tables.ensures.routes_rise ports most_routes history) (length ticks + most_ticks_gone) (omega (arith, long)) run further
-      (λ network. from_real net (layouts c) is differ cheap most_routes most_services room network (begun histories) are (suffice network) ticks refl parts.0 real)
+      (λ network. from_real net (layouts c) is differ cheap most_routes most_services [] room_beside network refl (begun histories) are (suffice network) ticks refl parts.0
+      (real_beside net most_routes histories (ups net histories) [] real))
       parts.1 services
 
   -- ---- what is sent in a minute
 
   module _ (all_calm : Calm (ticks ++ further)) where
-    abbrev both_calm : Calm ticks × CalmTicks net most_routes most_services run further
-    both_calm = parts_of net most_routes most_services (IsCalmTick net most_routes most_services) (begun histories) ticks further all_calm
+    abbrev both_calm : Calm ticks × CalmTicks net most_routes most_services [] run further
+    both_calm = parts_of net most_routes most_services (IsCalmTick net most_routes most_services []) (begun histories) ticks further all_calm
 
-    rests : Rests net (layouts c) is most_routes most_services (ups net histories) (length ticks) run
-    rests = rested net (layouts c) is most_routes most_services (ups net histories) (begun histories) ticks are (λ router. refl) refl both_calm.0
+    rests : Rests net (layouts c) is most_routes most_services (ups net histories) [] (length ticks) run
+    rests = rested net (layouts c) is most_routes most_services (ups net histories) [] (begun histories) ticks are (λ router. refl) refl both_calm.0
 
     minute_then : (router number : ℕ) → AllByRecursion (IsOfUpkeep net) (steps_of further) → length further ≡ period → is_up (ups net histories router) number ≡ true
         → Tables → sent_by router number (departures net most_routes most_services run (steps_of further))
@@ -127,9 +134,9 @@ module _ (c : After-upkeep) (net : Internet) (most_routes most_services : ℕ) (
         c.upkeep.ensures.pages net most_routes most_services run (steps_of further) router number is rests.are rests.quiet of_upkeep stay
         (seconds_in net most_routes most_services router inside run further (all_busy run further both_calm.1) ∙ sixty) on_now
       where
-        all_busy : (now : Run) (later : List (List Step)) → CalmTicks net most_routes most_services now later
+        all_busy : (now : Run) (later : List (List Step)) → CalmTicks net most_routes most_services [] now later
             → EachTick net most_routes most_services (IsBusyTick net most_routes most_services) now later
-        all_busy = each_then net most_routes most_services (IsCalmTick net most_routes most_services) (IsBusyTick net most_routes most_services) (λ now steps tick. tick.busy)
+        all_busy = each_then net most_routes most_services (IsCalmTick net most_routes most_services []) (IsBusyTick net most_routes most_services) (λ now steps tick. tick.busy)
 
   -- ---- where nothing but ticks happens
 
@@ -138,7 +145,7 @@ module _ (c : After-upkeep) (net : Internet) (most_routes most_services : ℕ) (
     parts = parts_of net most_routes most_services (IsTick net most_routes most_services) (begun histories) ticks further passes
 
     calm : Calm (ticks ++ further)
-    calm = calm_ticks net most_routes most_services (begun histories) (ticks ++ further) (ticks_are_calm net most_routes most_services (begun histories) (ticks ++ further) passes)
+    calm = calm_ticks net most_routes most_services [] (begun histories) (ticks ++ further) (ticks_are_calm net most_routes most_services (begun histories) (ticks ++ further) passes)
 
     alone_then : most_ticks_right ≤ length ticks → Tables
     alone_then long =
@@ -156,12 +163,12 @@ module _ (c : After-upkeep) (net : Internet) (most_routes most_services : ℕ) (
 pub returns-clause-stay : goal.returns-clause-stay
 returns-clause-stay c net most_routes most_services histories ticks further settings calm long services =
     stay_then c net most_routes most_services histories ticks further settings
-    (calm_ticks net most_routes most_services (begun histories) (ticks ++ further) calm) long services
+    (calm_ticks net most_routes most_services [] (begun histories) (ticks ++ further) calm) long services
 
 pub returns-clause-sooner : goal.returns-clause-sooner
 returns-clause-sooner c net most_routes most_services histories ticks further settings real calm long services =
     stay_sooner c net most_routes most_services histories ticks further settings real
-    (calm_ticks net most_routes most_services (begun histories) (ticks ++ further) calm) long services
+    (calm_ticks net most_routes most_services [] (begun histories) (ticks ++ further) calm) long services
 
 pub returns-clause-alone : goal.returns-clause-alone
 returns-clause-alone c net most_routes most_services histories ticks further settings passes long =
@@ -181,6 +188,6 @@ returns-clause-minute c net most_routes most_services histories ticks further ro
 pub returns-clause-minute_meanwhile : goal.returns-clause-minute_meanwhile
 returns-clause-minute_meanwhile c net most_routes most_services histories ticks further router number settings calm of_upkeep sixty long on
     services =
-    let all_calm = calm_ticks net most_routes most_services (begun histories) (ticks ++ further) calm in
+    let all_calm = calm_ticks net most_routes most_services [] (begun histories) (ticks ++ further) calm in
     minute_then c net most_routes most_services histories ticks further settings all_calm router number of_upkeep sixty on
     (stay_then c net most_routes most_services histories ticks further settings all_calm long services)

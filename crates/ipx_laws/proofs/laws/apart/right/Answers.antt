@@ -1,0 +1,78 @@
+use Rattle.std.proofs.Common.{◌≡◌, sym, subst, ◌+◌, ◌≤◌, ◌++◌, length, arith}
+use Rattle.ipx_internet.specs.Run.{Run, run_of}
+use Rattle.ipx_internet.specs.Ticks.{ticked}
+use Rattle.ipx_internet.proofs.packets.SentOnOrReply.{Layouts}
+use Rattle.ipx_laws.specs.Gone.{most_ticks_gone}
+use Rattle.ipx_laws.specs.Least.{least_route, ticks_right}
+use Rattle.ipx_laws.specs.Tables.{route_of}
+use Rattle.ipx_laws.specs.Ups.{ups}
+use Rattle.ipx_laws.proofs.laws.apart.right.Goals as goal
+use Rattle.ipx_laws.proofs.tables.AnyTablesBecomeRight.{here, from_any, from_real}
+use Rattle.ipx_laws.proofs.tables.TablesAreRight.{some_ticks, table_is, stays, parts_of, ticked_on}
+use Rattle.ipx_laws.proofs.ticks.TickAfterTick.{IsCalmTick, ticks_beside}
+
+-- the laws of packets and routers
+layouts : goal.After-packets → Layouts
+layouts c = record {
+  readings = record {
+    packet_read = c.readings.ensures.packet_read;
+    packet_front = c.readings.ensures.packet_front;
+    rip_read = c.readings.ensures.rip_read;
+    sap_read = c.service_readings.ensures.sap_read;
+  };
+  again = record {
+    rip_packet_again = c.reread.ensures.rip_packet;
+    rip_again = c.reread.ensures.rip;
+    query_packet_again = c.reread.ensures.query_packet;
+    query_again = c.reread.ensures.query;
+    sap_packet_again = c.reread.ensures.sap_packet;
+    sap_again = c.reread.ensures.sap;
+    forwarded_again = c.reread.ensures.forwarded;
+    propagated_again = c.reread.ensures.propagated;
+  };
+  layouts = c.packets.ensures.layouts;
+  bytes = c.packets.ensures.bytes;
+}
+
+pub returns-clause-tables : goal.returns-clause-tables
+returns-clause-tables c net most_routes most_services foreign run first ticks router network (is, differ, suffice, cheap, room, are, unlisted) (rest, leaves, calm) inside sure =
+    let next = run_of net most_routes most_services run first in
+    let long = some_ticks (least_route net (ups net run.histories) router network) (length ticks) sure in
+    table_is (here net (layouts c) is differ cheap most_routes most_services foreign room network unlisted run are suffice) (length ticks)
+    (ticked net most_routes most_services next ticks)
+    (from_any net (layouts c) is differ cheap most_routes most_services foreign room network unlisted run are suffice first ticks rest leaves
+    (ticks_beside net most_routes most_services foreign next ticks calm) long) long router inside sure
+
+pub returns-clause-stay : goal.returns-clause-stay
+returns-clause-stay c net most_routes most_services foreign run first ticks further router network (is, differ, suffice, cheap, room, are, unlisted) (rest, leaves, calm) inside sure =
+    let next = run_of net most_routes most_services run first in
+    let long = some_ticks (least_route net (ups net run.histories) router network) (length ticks) sure in
+    let parts = parts_of net most_routes most_services (IsCalmTick net most_routes most_services foreign) next ticks further
+    (ticks_beside net most_routes most_services foreign next (ticks ++ further) calm) in
+    subst (λ (later : Run).
+    route_of net most_routes later.histories router network ≡ route_of net most_routes (ticked net most_routes most_services next ticks).histories router network)
+    (sym (ticked_on net most_routes most_services next ticks further))
+    (stays (here net (layouts c) is differ cheap most_routes most_services foreign room network unlisted run are suffice) (length ticks)
+    (ticked net most_routes most_services next ticks) further
+    (from_any net (layouts c) is differ cheap most_routes most_services foreign room network unlisted run are suffice first ticks rest leaves parts.0 long) parts.1 router inside sure)
+
+-- as if that many ticks had passed
+pub returns-clause-sooner : goal.returns-clause-sooner
+returns-clause-sooner c net most_routes most_services foreign run ticks router network (is, differ, suffice, cheap, room, are, unlisted) real quiet calm inside sure =
+    let enough : ticks_right (least_route net (ups net run.histories) router network) ≤ length ticks + most_ticks_gone = omega (arith, sure) in
+    table_is (here net (layouts c) is differ cheap most_routes most_services foreign room network unlisted run are suffice) (length ticks + most_ticks_gone)
+    (ticked net most_routes most_services run ticks)
+    (from_real net (layouts c) is differ cheap most_routes most_services foreign room network unlisted run are suffice ticks quiet
+    (ticks_beside net most_routes most_services foreign run ticks calm) real) (omega arith) router inside enough
+
+pub returns-clause-sooner_stay : goal.returns-clause-sooner_stay
+returns-clause-sooner_stay c net most_routes most_services foreign run ticks further router network (is, differ, suffice, cheap, room, are, unlisted) real quiet calm inside sure =
+    let enough : ticks_right (least_route net (ups net run.histories) router network) ≤ length ticks + most_ticks_gone = omega (arith, sure) in
+    let parts = parts_of net most_routes most_services (IsCalmTick net most_routes most_services foreign) run ticks further
+    (ticks_beside net most_routes most_services foreign run (ticks ++ further) calm) in
+    subst (λ (later : Run).
+    route_of net most_routes later.histories router network ≡ route_of net most_routes (ticked net most_routes most_services run ticks).histories router network)
+    (sym (ticked_on net most_routes most_services run ticks further))
+    (stays (here net (layouts c) is differ cheap most_routes most_services foreign room network unlisted run are suffice) (length ticks + most_ticks_gone)
+    (ticked net most_routes most_services run ticks) further
+    (from_real net (layouts c) is differ cheap most_routes most_services foreign room network unlisted run are suffice ticks quiet parts.0 real) parts.1 router inside enough)
