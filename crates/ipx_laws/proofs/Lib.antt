@@ -8,3 +8,4 @@ pub mod services
 pub mod tables
 pub mod ticks
 pub mod upkeep
+pub mod wires

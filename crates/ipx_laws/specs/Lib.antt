@@ -28,3 +28,6 @@ pub mod Arriving
 pub mod Apart
 -- Upkeep
 pub mod Upkeep
+-- Wires, WireAnnounces
+pub mod Wires
+pub mod WireAnnounces

@@ -6,6 +6,7 @@ pub mod apart;
 pub mod changes;
 mod costs;
 pub mod services;
+pub mod wires;
 
 ghost use Rattle.std.specs.Prelude.{◌≡◌, ◌≢◌, ℕ, ◌+◌, ◌<◌, ◌≤◌, true, false, List, [], ◌∷◌, ◌++◌, length, map, flat_map, Option, Some};
 ghost use Rattle.std.specs.List.{AllByRecursion};

@@ -137,19 +137,19 @@ module _ (net : Internet) (laws : Layouts) (is : IsInternet net) (most_routes mo
   -- the routes of a router are real
   abbrev pub RealAt : ℕ → List (Fact RouteOffer) → Type 0
   RealAt router facts =
-      Aged route_reading network_order network_total most_routes (map (λ p. p.route_share) (ports_of net router)) (λ r. r.hops) (λ r. refl) (IsReal net up router)
+      Aged route_reading network_order network_total most_routes (map (λ p. p.route_share) (ports_of net router)) (λ r. r.hops) (λ r. refl) 0 0 (IsReal net up router)
       most_ticks_gone facts
 
   held_real : (router : ℕ) (history : History) → RealAt router (route_facts (ports_of net router) history)
       → AllByRecursion (IsReal net up router) (offers (routes_held (ports_of net router) most_routes history))
   held_real router history aged =
-      at_last route_reading network_order network_total most_routes (map (λ p. p.route_share) (ports_of net router)) (λ r. r.hops) (λ r. refl) (IsReal net up router)
+      at_last route_reading network_order network_total most_routes (map (λ p. p.route_share) (ports_of net router)) (λ r. r.hops) (λ r. refl) 0 0 (IsReal net up router)
       most_ticks_gone (route_facts (ports_of net router) history) (omega arith) aged
 
   pub real_held : (router : ℕ) (history : History) → AllByRecursion (IsReal net up router) (offers (routes_held (ports_of net router) most_routes history))
       → RealAt router (route_facts (ports_of net router) history)
   real_held router history real =
-      all_then (λ h. IsReal net up router h.offer) (λ h. IsReal net up router h.offer ⊎ (most_ticks_gone ≤ lifetime * h.offer.hops + h.age)) (λ h fine. inl fine) _
+      all_then (λ h. IsReal net up router h.offer) (λ h. IsReal net up router h.offer ⊎ (most_ticks_gone ≤ 0 + (0 + lifetime) * h.offer.hops + h.age)) (λ h fine. inl fine) _
       (all-from_order (route_rules (ports_of net router) most_routes).by_key
       (rules_total route_reading network_order network_total most_routes (map (λ p. p.route_share) (ports_of net router)))
       (λ h. IsReal net up router h.offer) _ (of_offers (IsReal net up router) (routes_held (ports_of net router) most_routes history) real))
@@ -327,7 +327,7 @@ module _ (net : Internet) (laws : Layouts) (is : IsInternet net) (most_routes mo
 
     abbrev OldOffer : RouteOffer → Type 0
     OldOffer =
-        IsOldOffer route_reading network_order network_total most_routes (map (λ p. p.route_share) ports_x) (λ r. r.hops) (λ r. refl) (IsReal net up x) most_ticks_gone
+        IsOldOffer route_reading network_order network_total most_routes (map (λ p. p.route_share) ports_x) (λ r. r.hops) (λ r. refl) 0 0 (IsReal net up x) most_ticks_gone
 
     entries_old : is_up (up x) d.to.port ≡ true → (node : Node) → node ≡ (port_of net first.from).node → (es : List RipEntry)
         → AllByRecursion (RealSaid net up first.from) es → AllByRecursion (OffersOf OldOffer) (routes_offered ports_x d.to.port node es)
@@ -349,7 +349,7 @@ module _ (net : Internet) (laws : Layouts) (is : IsInternet net) (most_routes mo
     real_learnt : RealAt x (route_facts ports_x learnt)
     real_learnt =
         subst (λ (fs : List (Fact RouteOffer)). RealAt x fs) (sym (facts_from-more (route_facts_of ports_x) [] history packet))
-        (after_offers route_reading network_order network_total most_routes (map (λ p. p.route_share) ports_x) (λ r. r.hops) (λ r. refl) (IsReal net up x)
+        (after_offers route_reading network_order network_total most_routes (map (λ p. p.route_share) ports_x) (λ r. r.hops) (λ r. refl) 0 0 (IsReal net up x)
         most_ticks_gone (routes_heard ports_x d.to.port (heard_after ports_x history d.to.port d.bytes)) (route_facts ports_x history)
         (heard_old (heard_after ports_x history d.to.port d.bytes) refl) (gaining.routes x here))
 

@@ -75,8 +75,8 @@ module _ (given : Given) (histories : List History)
 
       all_fine : RoutesAged given x w.v w.off w.least w.wanted most_ticks_gone (route_facts (ports_of net x) (history_of histories x))
       all_fine =
-          all_then (λ h. IsReal net up x h.offer ⊎ (most_ticks_gone ≤ lifetime * h.offer.hops + h.age))
-          (λ h. FineOf given x h.offer ⊎ (most_ticks_gone ≤ lifetime * h.offer.hops + h.age))
+          all_then (λ h. IsReal net up x h.offer ⊎ (most_ticks_gone ≤ 0 + (0 + lifetime) * h.offer.hops + h.age))
+          (λ h. FineOf given x h.offer ⊎ (most_ticks_gone ≤ 0 + (0 + lifetime) * h.offer.hops + h.age))
           (λ h either. elim either [ inl is_real ↦ inl (λ unlisted. is_real) | inr old ↦ inr old ]) _ all_real
 
   -- a neighbour that is right for now had its way at first

@@ -84,7 +84,7 @@ module _ (given : Given) (histories : List History) where
 
     -- ---- so the table is right
 
-    module _ (router : ℕ) (endures : Endures net up foreign most_routes router most_ticks_gone (history_of histories router)) where
+    module _ (router : ℕ) (endures : Endures 0 0 net up foreign most_routes router most_ticks_gone (history_of histories router)) where
       abbrev routes : List RouteOffer
       routes = offers (routes_held (ports_of net router) most_routes (history_of histories router))
 

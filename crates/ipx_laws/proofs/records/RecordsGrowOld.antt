@@ -1,7 +1,9 @@
--- How old the records of a table are: each is such as it should be, or as old as the seconds since then and its hops allow.
-use Rattle.std.proofs.Common.{◌≡◌, refl, sym, ◌∙◌, subst, ◌⊎◌, ℕ, suc, ◌+◌, ◌*◌, ◌<◌, ◌≤◌, ◌==◌, nat_le, Bool, true, false, not, List, [], ◌∷◌, ◌++◌, filter, if◌then◌else◌, inl, inr, arith, append_assoc, append-nil, Ordering, is_lt}
+-- How old the records of a table are: each is such as it should be, or as old as the seconds since then and its hops allow. Where what is sent
+-- takes a number of seconds, the delay, each hop allows as many more; and the slack is allowed to all. In ticks both are 0.
+use Rattle.std.proofs.Common.{◌≡◌, refl, sym, ◌∙◌, subst, ◌⊎◌, ℕ, suc, ◌+◌, ◌-◌, ◌*◌, ◌<◌, ◌≤◌, ◌==◌, nat_le, Bool, true, false, not, List, [], ◌∷◌, ◌++◌, filter, if◌then◌else◌, inl, inr, arith, append_assoc, append-nil, Ordering, is_lt}
 use Rattle.std.specs.List.{AllByRecursion}
 use Rattle.std.specs.Cmp.{IsTotalOrder}
+use Rattle.std.proofs.Math.Nat.{mul-le-mul_left}
 use Rattle.std.proofs.lemmas.Bool.{cases_Bool, leb-false}
 use Rattle.ipx_table.specs.Accepted.{marked, is_accepted}
 use Rattle.ipx_table.specs.inside.AfterOffer.{fresh, uncut, after_offer}
@@ -21,7 +23,7 @@ use Rattle.ipx_router.proofs.lists.EachElement.{all_both}
 use Rattle.ipx_router.proofs.tables.HeldWasOffered.{all_in_order, all_offers}
 use Rattle.ipx_internet.proofs.lists.EachElement.{all_of, all_then, all-append, all-map, all-filter}
 use Rattle.ipx_internet.proofs.records.KeptOrOffered.{OffersOf}
-use Rattle.ipx_laws.specs.Gone.{most_ticks_gone}
+use Rattle.ipx_laws.specs.Wires.{most_beats_gone}
 
 -- where no offer of the records in order is such, there is none
 none_there : {O : Type 0} (by_key : O → O → Ordering) (xs : List (Held O)) → AllByRecursion (λ o. ⊥) (offers (in_order by_key xs)) → xs ≡ []
@@ -34,6 +36,13 @@ none_there by_key (h ∷ xs) none = absurd (some (in_order by_key xs) none)
       | inl e ↦ let all : AllByRecursion (λ o. ⊥) (offers (x ∷ put by_key h rest)) = rw e at none in all.0
       | inr e ↦ let all : AllByRecursion (λ o. ⊥) (offers (h ∷ x ∷ rest)) = rw e at none in all.0
     ]
+
+-- so many seconds, where an offer of that many hops may be so old; and fewer, where it may become so old on its way
+abbrev pub IsWithin : (delay slack hops had : ℕ) → Type 0
+IsWithin delay slack hops had = had ≤ slack + (delay + lifetime) * hops
+
+abbrev pub IsBelow : (delay slack hops had : ℕ) → Type 0
+IsBelow delay slack hops had = delay + had < slack + (delay + lifetime) * hops
 
 -- so many seconds with an event more
 abbrev pub passed : Event → ℕ → ℕ
@@ -92,14 +101,14 @@ module _ {O K : Type 0} (reading : Reading O K) (order : K → K → Ordering) (
 
   -- ---- ages
 
-  module _ (Fine : O → Type 0) where
+  module _ (delay slack : ℕ) (Fine : O → Type 0) where
     -- a record is fine, or so old after so many seconds
     abbrev pub IsOld : ℕ → Held O → Type 0
-    IsOld had h = Fine h.offer ⊎ (had ≤ lifetime * hops h.offer + h.age)
+    IsOld had h = Fine h.offer ⊎ (had ≤ slack + (delay + lifetime) * hops h.offer + h.age)
 
     -- an offer that comes in such a second is fine or tells of something as old, if it is alive
     abbrev pub IsOldOffer : ℕ → O → Type 0
-    IsOldOffer had o = hops o < unreachable → Fine o ⊎ (had ≤ lifetime * hops o)
+    IsOldOffer had o = hops o < unreachable → Fine o ⊎ IsWithin delay slack (hops o) had
 
     abbrev pub Aged : ℕ → List (Fact O) → Type 0
     Aged had facts = AllByRecursion (IsOld had) (alive_after facts)
@@ -127,7 +136,7 @@ module _ {O K : Type 0} (reading : Reading O K) (order : K → K → Ordering) (
         (subst (λ (hs : List (Held O)). AllByRecursion (IsOld had) hs) (sym (alive_after-offered rules facts offer))
         (all_after_offer (IsOld had) (alive_after facts) offer (λ up. one (all.0 (leb-false unreachable (hops offer) (sym (down offer) ∙ up)))) aged)))
       where
-        one : Fine offer ⊎ (had ≤ lifetime * hops offer) → IsOld had (fresh offer)
+        one : Fine offer ⊎ IsWithin delay slack (hops offer) had → IsOld had (fresh offer)
         one (inl fine) = inl fine
         one (inr old) = inr (omega (arith, old))
     after_offers had (Second ∷ new) facts all aged = absurd all.0
@@ -164,7 +173,7 @@ module _ {O K : Type 0} (reading : Reading O K) (order : K → K → Ordering) (
 
     -- what is held then is fine, or so old, and reached
     abbrev pub IsOldHeld : ℕ → O → Type 0
-    IsOldHeld had o = (Fine o ⊎ (had < lifetime * (hops o + 1))) × (hops o < unreachable)
+    IsOldHeld had o = (Fine o ⊎ IsBelow delay slack (hops o + 1) had) × (hops o < unreachable)
 
     pub old_held : (had : ℕ) (facts : List (Fact O)) → Aged had facts → AllByRecursion (IsOldHeld had) (offers (held rules facts))
     old_held had facts aged =
@@ -173,21 +182,23 @@ module _ {O K : Type 0} (reading : Reading O K) (order : K → K → Ordering) (
         (all_then (λ h. IsOld had h × IsNear h) (λ h. IsOldHeld had h.offer) (λ h both. (one h both.0 both.1.1, both.1.0)) (alive_after facts)
         (all_both (IsOld had) IsNear (alive_after facts) aged (near_young facts))))
       where
-        one : (h : Held O) → IsOld had h → h.age < lifetime → Fine h.offer ⊎ (had < lifetime * (hops h.offer + 1))
+        one : (h : Held O) → IsOld had h → h.age < lifetime → Fine h.offer ⊎ IsBelow delay slack (hops h.offer + 1) had
         one h (inl fine) young = inl fine
         one h (inr old) young = inr (omega (arith, old, young))
 
-    -- after that many ticks all of them are fine
-    pub fine_at_last : (had : ℕ) → most_ticks_gone ≤ had → (facts : List (Fact O)) → Aged had facts → AllByRecursion (λ h. Fine h.offer) (alive_after facts)
+    -- after that many seconds all of them are fine
+    pub fine_at_last : (had : ℕ) → slack + most_beats_gone delay ≤ had → (facts : List (Fact O)) → Aged had facts → AllByRecursion (λ h. Fine h.offer) (alive_after facts)
     fine_at_last had long facts aged =
         all_then (λ h. IsOld had h × IsNear h) (λ h. Fine h.offer) (λ h both. one h both.0 both.1.0 both.1.1) (alive_after facts)
         (all_both (IsOld had) IsNear (alive_after facts) aged (near_young facts))
       where
         one : (h : Held O) → IsOld had h → hops h.offer < unreachable → h.age < lifetime → Fine h.offer
         one h (inl fine) near young = fine
-        one h (inr old) near young = absurd (omega (arith, old, near, young, long))
+        one h (inr old) near young =
+            let most = mul-le-mul_left {m = hops h.offer} {n = unreachable - 1} (delay + lifetime) (omega (arith, near)) in
+            absurd (omega (arith, old, most, young, long))
 
     -- so is what is held
-    pub at_last : (had : ℕ) (facts : List (Fact O)) → most_ticks_gone ≤ had → Aged had facts → AllByRecursion Fine (offers (held rules facts))
+    pub at_last : (had : ℕ) (facts : List (Fact O)) → slack + most_beats_gone delay ≤ had → Aged had facts → AllByRecursion Fine (offers (held rules facts))
     at_last had facts long aged =
         all_offers Fine (in_order rules.by_key (alive_after facts)) (all_in_order Fine rules.by_key (alive_after facts) (fine_at_last had long facts aged))

@@ -39,6 +39,7 @@ use Rattle.ipx_laws.specs.Gone.{most_ticks_gone}
 use Rattle.ipx_laws.proofs.lists.SomeElement.{AnyIs, any_in_front, any_behind}
 use Rattle.ipx_laws.proofs.packets.SentOnSaysTheSame.{heard_message}
 use Rattle.ipx_laws.proofs.records.BestIsKept.{State, Comes, known, offers_keep, offers_come, second_keeps}
+use Rattle.ipx_laws.proofs.records.RecordsGrowOld.{IsWithin}
 use Rattle.ipx_laws.proofs.services.ExactWords.{one_name, Words, NearerRight, exact}
 use Rattle.ipx_laws.proofs.services.HeardAtAStep.{Hears, FirstHears, IsHeardAt, HeardWithin, HeardWithinTicks, AtEach, at_first}
 use Rattle.ipx_laws.proofs.services.HostTickAfterTick.{Going, Rests, begins, step_goes, tick_rests, ticks_rest, outside_waits}
@@ -232,7 +233,7 @@ module _ (net : Internet) (laws : Layouts) (is : IsInternet net) (most_routes mo
           fit : (name : List ℕ) → e.name ≡ Some name → Fit (service_offer number node e name)
           fit name named near = sooner (all.0.fine on near name named)
             where
-              sooner : {A : Type 0} → A ⊎ (ticks ≤ lifetime * e.hops) → A ⊎ (had ≤ lifetime * e.hops)
+              sooner : {A : Type 0} → A ⊎ (ticks ≤ lifetime * e.hops) → A ⊎ IsWithin 0 0 e.hops had
               sooner (inl fine) = inl fine
               sooner (inr soon) = inr (omega (arith, soon, late))
 

@@ -270,7 +270,7 @@ module _ (sought : Sought) where
     F = Fine net up server Listed most_services r
 
     all_fine : (facts : List (Fact ServiceOffer)) → Such facts → AllByRecursion (λ h. F h.offer) (Facts facts)
-    all_fine = fine_at_last service_reading service_order service_total most_services shares (λ s. s.service.hops) (λ s. refl) F had long
+    all_fine = fine_at_last service_reading service_order service_total most_services shares (λ s. s.service.hops) (λ s. refl) 0 0 F had long
 
     pub real_known : (facts : List (Fact ServiceOffer)) → Such facts → (h : Held ServiceOffer)
         → known service_reading service_order service_total most_services shares key (λ k. one_name k key) Real GoodOf facts ≡ Some h → Real h.offer

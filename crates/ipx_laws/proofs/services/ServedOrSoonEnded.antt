@@ -30,7 +30,7 @@ use Rattle.ipx_internet.proofs.records.KeptOrOffered.{OffersOf}
 use Rattle.ipx_laws.specs.Meanwhile.{LeavesPorts}
 use Rattle.ipx_laws.specs.Servers.{Server, passed_on}
 use Rattle.ipx_laws.proofs.packets.SentOnSaysTheSame.{heard_message}
-use Rattle.ipx_laws.proofs.records.RecordsGrowOld.{Aged, IsOldOffer, IsOldHeld, passed, at_first, after_event, old_held}
+use Rattle.ipx_laws.proofs.records.RecordsGrowOld.{IsWithin, IsBelow, Aged, IsOldOffer, IsOldHeld, passed, at_first, after_event, old_held}
 use Rattle.ipx_laws.proofs.services.SpokenOfAServer.{IsFine, EntrySaid, Told, Waits, IsSoon, ServiceSaid}
 use Rattle.ipx_laws.proofs.ticks.RealOrSoonEnded.{Reaches}
 
@@ -42,7 +42,7 @@ module _ (net : Internet) (up : ℕ → List ℕ) (server : Server) (Listed : �
   Fine = IsFine net up server Listed router
 
   abbrev pub ServicesAged : ℕ → List (Fact ServiceOffer) → Type 0
-  ServicesAged = Aged service_reading service_order service_total most_services (map (λ p. p.service_share) ports) (λ s. s.service.hops) (λ s. refl) Fine
+  ServicesAged = Aged service_reading service_order service_total most_services (map (λ p. p.service_share) ports) (λ s. s.service.hops) (λ s. refl) 0 0 Fine
 
   -- what a router has that had so many seconds
   pub record Endures (had : ℕ) (history : History) : Type 0 where
@@ -60,7 +60,7 @@ module _ (net : Internet) (up : ℕ → List ℕ) (server : Server) (Listed : �
   module _ (had begun : ℕ) (late : had ≤ begun) where
     abbrev pub ServiceOld : ServiceOffer → Type 0
     ServiceOld =
-        IsOldOffer service_reading service_order service_total most_services (map (λ p. p.service_share) ports) (λ s. s.service.hops) (λ s. refl) Fine had
+        IsOldOffer service_reading service_order service_total most_services (map (λ p. p.service_share) ports) (λ s. s.service.hops) (λ s. refl) 0 0 Fine had
 
     module _ (Speaks : ℕ → Service → Type 0) where
       services_old : (number : ℕ) → is_up (up router) number ≡ true → (node : Node) (entries : List SapEntry)
@@ -71,7 +71,7 @@ module _ (net : Internet) (up : ℕ → List ℕ) (server : Server) (Listed : �
           all-append (OffersOf ServiceOld) _ (services_offered number node entries) (by e.name (λ name is near. sooner (all.0.fine on near name is)))
           (services_old number on node entries all.1)
         where
-          sooner : {A : Type 0} → A ⊎ (begun ≤ lifetime * e.hops) → A ⊎ (had ≤ lifetime * e.hops)
+          sooner : {A : Type 0} → A ⊎ (begun ≤ lifetime * e.hops) → A ⊎ IsWithin 0 0 e.hops had
           sooner (inl fine) = inl fine
           sooner (inr soon) = inr (omega (arith, soon, late))
 
@@ -118,7 +118,7 @@ module _ (net : Internet) (up : ℕ → List ℕ) (server : Server) (Listed : �
   module _ (had begun : ℕ) (soon : begun ≤ had + 1) (history : History) (endures : Endures had history) where
     abbrev ServiceHeld : ServiceOffer → Type 0
     ServiceHeld =
-        IsOldHeld service_reading service_order service_total most_services (map (λ p. p.service_share) ports) (λ s. s.service.hops) (λ s. refl) Fine had
+        IsOldHeld service_reading service_order service_total most_services (map (λ p. p.service_share) ports) (λ s. s.service.hops) (λ s. refl) 0 0 Fine had
 
     services_are : AllByRecursion ServiceHeld (offers (services_held ports most_services history))
     services_are = search (rules, old_held, service_total)
@@ -129,7 +129,7 @@ module _ (net : Internet) (up : ℕ → List ℕ) (server : Server) (Listed : �
         from : Place
         from = record { router = router; port = j }
 
-        by : Fine s ⊎ (had < lifetime * (s.service.hops + 1))
+        by : Fine s ⊎ IsBelow 0 0 (s.service.hops + 1) had
             → ((to : Place) → Reaches net up from to → is_up (up to.router) to.port ≡ true
             → IsFine net up server Listed to.router (record { service = farther s.service; port = to.port; node = (port_of net from).node }))
             ⊎ (begun ≤ lifetime * (s.service.hops + 1))

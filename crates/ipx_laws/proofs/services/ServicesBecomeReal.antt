@@ -62,7 +62,7 @@ module _ (net : Internet) (laws : Layouts) (is : IsInternet net) (most_routes mo
   pub all_real : AllByRecursion (λ s. IsOf server s.service → IsServed net up server router s) Known
   all_real =
       all_then (IsFine net up server Listed router) (λ s. IsOf server s.service → IsServed net up server router s) (λ s fine. fine.1) Known
-      (at_last service_reading service_order service_total most_services (map (λ p. p.service_share) ports) (λ s. s.service.hops) (λ s. refl)
+      (at_last service_reading service_order service_total most_services (map (λ p. p.service_share) ports) (λ s. s.service.hops) (λ s. refl) 0 0
       (IsFine net up server Listed router) count (service_facts ports past) long (rests.routers router within).services)
 
   -- at that address, reached, on such a way
@@ -72,9 +72,9 @@ module _ (net : Internet) (laws : Layouts) (is : IsInternet net) (most_routes mo
   all_near : AllByRecursion (λ s. s.service.hops < unreachable) Known
   all_near =
       let Fine : ServiceOffer → Type 0 = IsFine net up server Listed router in
-      all_then (IsOldHeld service_reading service_order service_total most_services (map (λ p. p.service_share) ports) (λ s. s.service.hops) (λ s. refl) Fine count)
+      all_then (IsOldHeld service_reading service_order service_total most_services (map (λ p. p.service_share) ports) (λ s. s.service.hops) (λ s. refl) 0 0 Fine count)
       (λ s. s.service.hops < unreachable) (λ s old. old.1) Known
-      (old_held service_reading service_order service_total most_services (map (λ p. p.service_share) ports) (λ s. s.service.hops) (λ s. refl) Fine count
+      (old_held service_reading service_order service_total most_services (map (λ p. p.service_share) ports) (λ s. s.service.hops) (λ s. refl) 0 0 Fine count
       (service_facts ports past) (rests.routers router within).services)
 
   pub all_away : AllByRecursion (λ s. IsOf server s.service → IsOnWay s) Known

@@ -71,7 +71,7 @@ module _ (net : Internet) (laws : Layouts) (is : IsInternet net) (most_routes mo
           are = going.are;
           fine =
               fine_at_last service_reading service_order service_total most_services (map (λ p. p.service_share) (ports_of net router)) (λ s. s.service.hops)
-              (λ s. refl) (IsFine net up server Listed router) had (service_facts (ports_of net router) (history_of run.histories router)) (omega (arith, one, long))
+              (λ s. refl) 0 0 (IsFine net up server Listed router) had (service_facts (ports_of net router) (history_of run.histories router)) (omega (arith, one, long))
               (going.routers router had within (omega (arith, some))).services;
         }
 

@@ -128,10 +128,10 @@ module _ (given : Given) (before : ℕ) (long : most_ticks_gone ≤ before) (clo
     soon : suc before ≤ count + 1
     soon = let f = few_left in omega (arith, f)
 
-    endured : Endures net up foreign most_routes x count past
+    endured : Endures 0 0 net up foreign most_routes x count past
     endured = packet_lasted net laws is most_routes most_services up foreign (suc before) histories queue d left righted.going
 
-    endures_now : Endures net up foreign most_routes x count now
+    endures_now : Endures 0 0 net up foreign most_routes x count now
     endures_now = packet_lasts net laws is most_routes most_services up foreign (suc before) histories queue d left righted.going
 
     place_is : IsPlace net d.to
@@ -196,11 +196,11 @@ module _ (given : Given) (before : ℕ) (long : most_ticks_gone ≤ before) (clo
         IsRight =
             EntryIs given x w.v w.off w.least w.wanted count enough d.to.port f (neighbour_of f reaches on)
 
-        is_real : (e : RipEntry) → RouteSaid net up foreign (suc before) f e → takes_no_route ports e.network ≡ false → e.hops < unreachable
+        is_real : (e : RipEntry) → RouteSaid 0 0 net up foreign (suc before) f e → takes_no_route ports e.network ≡ false → e.hops < unreachable
             → FineOf given x (route_offer d.to.port (port_of net f).node e)
         is_real e said taken near = grind arith
 
-        is_right : (e : RipEntry) → RouteSaid net up foreign (suc before) f e → (Source_of x w.v d.to.port f → Words f e) → IsRight e
+        is_right : (e : RipEntry) → RouteSaid 0 0 net up foreign (suc before) f e → (Source_of x w.v d.to.port f → Words f e) → IsRight e
         is_right e said words = record {
           right = λ named source.
               let hops = ap (λ (y : Way). y.hops) source.by in
@@ -229,7 +229,7 @@ module _ (given : Given) (before : ℕ) (long : most_ticks_gone ≤ before) (clo
             (record { operation = Response; entries = pending.page.page }))
         heard_so =
             let nb = neighbour_of f pending.reaches on_now in
-            ap (λ b. heard ports (ports_up ports past) b d.to.port d.bytes) (runs_where net up foreign most_routes x d.to.port count past on_now endured)
+            ap (λ b. heard ports (ports_up ports past) b d.to.port d.bytes) (runs_where 0 0 net up foreign most_routes x d.to.port count past on_now endured)
             ∙ heard_page ports (ports_up ports past) d.to.port
             (subst (λ (us : List ℕ). is_up us d.to.port ≡ true) (sym endured.ups) on_now)
             (port_of net f) (sym nb.network)
@@ -280,7 +280,7 @@ module _ (given : Given) (before : ℕ) (long : most_ticks_gone ≤ before) (clo
 
       -- a page is heard
       module _ (g : Place) (reaches : Reaches net up g d.to) (on : is_up (up x) d.to.port ≡ true) (entries : List RipEntry)
-          (said : AllByRecursion (RouteSaid net up foreign (suc before) g) entries)
+          (said : AllByRecursion (RouteSaid 0 0 net up foreign (suc before) g) entries)
           (heard_it : heard_after ports past d.to.port d.bytes ≡ Some (HeardRip (own_address (port_of net g)) (record { operation = Response; entries = entries })))
         where
           facts_so : route_facts ports now ≡ route_facts ports past ++ routes_offered ports d.to.port (port_of net g).node entries
@@ -291,9 +291,9 @@ module _ (given : Given) (before : ℕ) (long : most_ticks_gone ≤ before) (clo
               without (subst (λ (fs : List (Fact RouteOffer)). Before fs) (sym facts_so)
               (entries_keep given x w.v w.off w.least w.wanted count enough d.to.port g (neighbour_of g reaches on)
               Fresh_by fresh_now Same_by Late_by Later_by entries (route_facts ports past)
-              (all_then (λ e. RouteSaid net up foreign (suc before) g e × (Source_of x w.v d.to.port g → Words g e)) (IsRight g reaches on)
+              (all_then (λ e. RouteSaid 0 0 net up foreign (suc before) g e × (Source_of x w.v d.to.port g → Words g e)) (IsRight g reaches on)
               (λ e both. is_right g reaches on e both.0 both.1) entries
-              (all_both (RouteSaid net up foreign (suc before) g) (λ e. Source_of x w.v d.to.port g → Words g e) entries said words)) state_before))
+              (all_both (RouteSaid 0 0 net up foreign (suc before) g) (λ e. Source_of x w.v d.to.port g → Words g e) entries said words)) state_before))
 
           loose : StateFor given x w Fresh_by Late_by (Unit {0}) (λ r. Unit {0})
               (known_by given x w (route_facts ports now))
@@ -358,7 +358,7 @@ module _ (given : Given) (before : ℕ) (long : most_ticks_gone ≤ before) (clo
                 let came = came_in ports (ports_up ports past) d.to.port (running past) d.bytes m e in
                 let on = subst (λ (us : List ℕ). is_up us d.to.port ≡ true) endured.ups
                 (heard_up ports (ports_up ports past) d.to.port (running past) d.bytes m e) in
-                elim (own_heard (RouteSaid net up foreign (suc before) g) (port_of net g) d.bytes own came.packet m came.read
+                elim (own_heard (RouteSaid 0 0 net up foreign (suc before) g) (port_of net g) d.bytes own came.packet m came.read
                 (near_in (port_at ports d.to.port) came.packet m came.near)) [
                   | inl page ↦ heard_page_of g reaches on own.page.page own.page.each (e ∙ sym page)
                   | inr silent ↦ none_then (Some m) e (silent_offers ports d.to.port m silent)
@@ -399,7 +399,7 @@ module _ (given : Given) (before : ℕ) (long : most_ticks_gone ≤ before) (clo
 
     -- an entry is real or soon ended, and right, if the router is
     abbrev Says : Place → RipEntry → Type 0
-    Says from e = RouteSaid net up foreign (suc before) from e × (Good_of after_it from.router → Words from e)
+    Says from e = RouteSaid 0 0 net up foreign (suc before) from e × (Good_of after_it from.router → Words from e)
 
     if_good : (j : ℕ) (entries : List RipEntry) → (GoodNow → AllByRecursion (Words (place j)) entries)
         → AllByRecursion (λ e. Good_of after_it x → Words (place j) e) entries
@@ -416,8 +416,8 @@ module _ (given : Given) (before : ℕ) (long : most_ticks_gone ≤ before) (clo
         → AllByRecursion (Says (place d.to.port)) (told ports (up x) old d.to.port)
     said_told m e silent =
         let j = d.to.port in
-        all_both (RouteSaid net up foreign (suc before) (place j)) (λ e. Good_of after_it x → Words (place j) e) (told ports (up x) old j)
-        (routes_said net up foreign most_routes x count (suc before) soon past endured j)
+        all_both (RouteSaid 0 0 net up foreign (suc before) (place j)) (λ e. Good_of after_it x → Words (place j) e) (told ports (up x) old j)
+        (routes_said 0 0 net up foreign most_routes x count (suc before) soon past endured j)
         (if_good j (told ports (up x) old j) (λ good.
         let good_before : GoodBy given x (route_facts ports past) =
         subst (λ (fs : List (Fact RouteOffer)). GoodBy given x fs) (same_facts m e silent) good in
@@ -428,8 +428,8 @@ module _ (given : Given) (before : ℕ) (long : most_ticks_gone ≤ before) (clo
 
     said_news : (j : ℕ) → AllByRecursion (Says (place j)) (news ports old routes j)
     said_news j =
-        all_both (RouteSaid net up foreign (suc before) (place j)) (λ e. Good_of after_it x → Words (place j) e) (news ports old routes j)
-        (changes_said net up foreign most_routes x count (suc before) soon now endures_now old j)
+        all_both (RouteSaid 0 0 net up foreign (suc before) (place j)) (λ e. Good_of after_it x → Words (place j) e) (news ports old routes j)
+        (changes_said 0 0 net up foreign most_routes x count (suc before) soon now endures_now old j)
         (if_good j (news ports old routes j) (λ good.
         all_words given (suc before)
         (place j) (news ports old routes j) (λ u is_u near.
@@ -446,7 +446,7 @@ module _ (given : Given) (before : ℕ) (long : most_ticks_gone ≤ before) (clo
     come : AllByRecursion (λ d. IsDelivery net d × Comes net up foreign Says d.to d.bytes) new
     come =
         all_come net laws is most_routes most_services up foreign Says histories righted.going.are x event place_is righted.going.waiting.0.delivery.bytes
-        (packet_spoken net laws is most_routes most_services up foreign (λ j. Says (place j)) (RouteSaid net up foreign (suc before)) histories righted.going.are d
+        (packet_spoken net laws is most_routes most_services up foreign (λ j. Says (place j)) (RouteSaid 0 0 net up foreign (suc before)) histories righted.going.are d
         righted.going.waiting.0.delivery righted.going.waiting.0.says endured.ups endures_now.ups said_told said_news)
 
     fine : (f : Place) → Good_of after_it f.router → AllByRecursion (Is_fine f) new
@@ -507,7 +507,7 @@ module _ (given : Given) (before : ℕ) (long : most_ticks_gone ≤ before) (clo
           ]
           | inl (g, reaches, own) ↦
               let came = came_in ports (ports_up ports past) d.to.port (running past) d.bytes m e in
-              elim (own_heard (RouteSaid net up foreign (suc before) g) (port_of net g) d.bytes own came.packet m came.read
+              elim (own_heard (RouteSaid 0 0 net up foreign (suc before) g) (port_of net g) d.bytes own came.packet m came.read
               (near_in (port_at ports d.to.port) came.packet m came.near)) [
                 | inr silent ↦ unchanged (same_facts m e silent)
                 | inl page ↦
@@ -577,7 +577,7 @@ module _ (given : Given) (before : ℕ) (long : most_ticks_gone ≤ before) (clo
             moved : router ≡ x → Now router
             moved e =
                 subst Now (sym e) (λ there_is. subst (λ (h : History). (seconds_run h + left x) % period ≡ clock x) (sym is_now)
-                (ap (λ n. (n + left x) % period) (seconds_stay past event refl refl (runs_where net up foreign most_routes x port count past there_is endured))
+                (ap (λ n. (n + left x) % period) (seconds_stay past event refl refl (runs_where 0 0 net up foreign most_routes x port count past there_is endured))
                 ∙ righted.clocks x port there_is))
         by (inr off) =
             subst (λ (h : History). (seconds_run h + left router) % period ≡ clock router) (sym (same_history router off)) (righted.clocks router port here)

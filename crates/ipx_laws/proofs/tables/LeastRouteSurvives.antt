@@ -58,14 +58,14 @@ module _ (given : Given) (router : ℕ) (v : Way) (off : is_on (ports_of given.n
   known = known_of route_reading network_order network_total most_routes ss network to_it RealOf RightOf
 
   abbrev pub RoutesAged : ℕ → List (Fact RouteOffer) → Type 0
-  RoutesAged had facts = Aged route_reading network_order network_total most_routes ss (λ r. r.hops) (λ r. refl) RealOf had facts
+  RoutesAged had facts = Aged route_reading network_order network_total most_routes ss (λ r. r.hops) (λ r. refl) 0 0 RealOf had facts
 
   abbrev pub StateOf : (Place → ℕ → Type 0) → (Place → ℕ → Type 0) → Type 0 → (RouteOffer → Type 0) → Option (Held RouteOffer) → Type 0
   StateOf = State route_reading network_order network_total most_routes ss network to_it RealOf RightOf
 
   -- after so many ticks each route is of a real way, if hosts may not tell of its network
   all_real : (had : ℕ) → most_ticks_gone ≤ had → (facts : List (Fact RouteOffer)) → RoutesAged had facts → AllByRecursion (λ h. RealOf h.offer) (records facts)
-  all_real = fine_at_last route_reading network_order network_total most_routes ss (λ r. r.hops) (λ r. refl) RealOf
+  all_real = fine_at_last route_reading network_order network_total most_routes ss (λ r. r.hops) (λ r. refl) 0 0 RealOf
 
   pub known_is : (had : ℕ) → most_ticks_gone ≤ had → (facts : List (Fact RouteOffer)) → RoutesAged had facts → (h : Held RouteOffer) → known facts ≡ Some h
       → IsReal net up router h.offer × (h.offer.network ≡ network)
@@ -91,7 +91,7 @@ module _ (given : Given) (router : ℕ) (v : Way) (off : is_on (ports_of given.n
 
     pub goes_on : (facts : List (Fact RouteOffer)) (o : RouteOffer) → Such facts → Fit o → Such (facts ++ Offered o ∷ [])
     goes_on facts o aged fit =
-        after_offers route_reading network_order network_total most_routes ss (λ r. r.hops) (λ r. refl) RealOf had (Offered o ∷ []) facts ((λ near. inl (fit near)), tt) aged
+        after_offers route_reading network_order network_total most_routes ss (λ r. r.hops) (λ r. refl) 0 0 RealOf had (Offered o ∷ []) facts ((λ near. inl (fit near)), tt) aged
 
     module _ (Fresh : Place → ℕ → Type 0) (now : (f : Place) → Fresh f 0) (Same : RouteOffer → Type 0) where
       abbrev pub Fits : RouteOffer → Type 0

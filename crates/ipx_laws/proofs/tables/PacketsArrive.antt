@@ -167,7 +167,7 @@ module _ (net : Internet) (laws : Layouts) (is : IsInternet net) (differ : Nodes
     abbrev routes : List RouteOffer
     routes = offers (routes_held ports most_routes history)
 
-    endures : Endures net up foreign most_routes q ticks history
+    endures : Endures 0 0 net up foreign most_routes q ticks history
     endures = rest.rests.routers q inside
 
     ups_in : AllByRecursion (λ j. j < length ports) ups

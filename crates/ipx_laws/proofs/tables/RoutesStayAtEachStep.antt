@@ -47,7 +47,7 @@ module _ (given : Given) where
             let one = (righted.going.few router inside).0 in
             omega (arith, one, steady)
 
-        endures_now : Endures net up foreign most_routes router (suc before - left router) (history_of now.histories router)
+        endures_now : Endures 0 0 net up foreign most_routes router (suc before - left router) (history_of now.histories router)
         endures_now =
             let some = (righted.going.few router inside).1 in
             righted.going.routers router (suc before - left router) inside (omega (arith, some))

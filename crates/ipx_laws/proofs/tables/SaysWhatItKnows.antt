@@ -145,7 +145,7 @@ module _ (given : Given) where
     Word from e = (u : Way) → within net up in_ports network 15 from.router ≡ Some u → u.hops ≤ 14 → IsWord (ports_of net from.router) network u from.port e
 
     abbrev pub Said : Place → RipEntry → Type 0
-    Said from e = RouteSaid net up foreign begun from e × Word from e
+    Said from e = RouteSaid 0 0 net up foreign begun from e × Word from e
 
     -- a delivery for a router tells of the network, from a port
     pub record Pending (router : ℕ) (from : Place) (d : Delivery) : Type 0 where

@@ -95,14 +95,14 @@ module _ (given : Given) (before : ℕ) (long : most_ticks_gone ≤ before) (clo
     is_now : history_of after_it x ≡ now
     is_now = get_or-set_same histories x now [] listed
 
-    endured : Endures net up foreign most_routes x before past
+    endured : Endures 0 0 net up foreign most_routes x before past
     endured =
         let one = (righted.going.few x inside).0 in
         let o = own in
         righted.going.routers x before inside (omega (arith, one, o))
 
-    endures_now : Endures net up foreign most_routes x (suc before) now
-    endures_now = second_endures net up foreign most_routes x before past endured
+    endures_now : Endures 0 0 net up foreign most_routes x (suc before) now
+    endures_now = second_endures 0 0 net up foreign most_routes x before past endured
 
     -- ---- the router's own state
 
@@ -151,7 +151,7 @@ module _ (given : Given) (before : ℕ) (long : most_ticks_gone ≤ before) (clo
         facts_now =
             let c = came net up in_ports network 14 x w.v w.off w.least in
             facts_from-more (route_facts_of ports) [] past Second
-            ∙ ap (λ b. route_facts ports past ++ (if b then PassedSecond ∷ [] else [])) (runs_where net up foreign most_routes x c.port before past c.neighbour.on_here endured)
+            ∙ ap (λ b. route_facts ports past ++ (if b then PassedSecond ∷ [] else [])) (runs_where 0 0 net up foreign most_routes x c.port before past c.neighbour.on_here endured)
 
     abbrev GoodNow : Type 0
     GoodNow = GoodBy given x (route_facts ports now)
@@ -186,7 +186,7 @@ module _ (given : Given) (before : ℕ) (long : most_ticks_gone ≤ before) (clo
 
     -- an entry is real or soon ended, and right, if the router is
     abbrev Says : Place → RipEntry → Type 0
-    Says from e = RouteSaid net up foreign (suc before) from e × (Good_of after_it from.router → Words from e)
+    Says from e = RouteSaid 0 0 net up foreign (suc before) from e × (Good_of after_it from.router → Words from e)
 
     if_good : (j : ℕ) (entries : List RipEntry) → (GoodNow → AllByRecursion (Words (place j)) entries)
         → AllByRecursion (λ e. Good_of after_it x → Words (place j) e) entries
@@ -200,8 +200,8 @@ module _ (given : Given) (before : ℕ) (long : most_ticks_gone ≤ before) (clo
 
     said_told : (j : ℕ) → AllByRecursion (Says (place j)) (told ports (up x) routes j)
     said_told j =
-        all_both (RouteSaid net up foreign (suc before) (place j)) (λ e. Good_of after_it x → Words (place j) e) (told ports (up x) routes j)
-        (routes_said net up foreign most_routes x (suc before) (suc before) (omega arith) now endures_now j)
+        all_both (RouteSaid 0 0 net up foreign (suc before) (place j)) (λ e. Good_of after_it x → Words (place j) e) (told ports (up x) routes j)
+        (routes_said 0 0 net up foreign most_routes x (suc before) (suc before) (omega arith) now endures_now j)
         (if_good j (told ports (up x) routes j) (λ good.
         all_words given (suc before)
         (place j) (told ports (up x) routes j) (λ u is_u near.
@@ -210,8 +210,8 @@ module _ (given : Given) (before : ℕ) (long : most_ticks_gone ≤ before) (clo
 
     said_news : (j : ℕ) → AllByRecursion (Says (place j)) (news ports old routes j)
     said_news j =
-        all_both (RouteSaid net up foreign (suc before) (place j)) (λ e. Good_of after_it x → Words (place j) e) (news ports old routes j)
-        (changes_said net up foreign most_routes x (suc before) (suc before) (omega arith) now endures_now old j)
+        all_both (RouteSaid 0 0 net up foreign (suc before) (place j)) (λ e. Good_of after_it x → Words (place j) e) (news ports old routes j)
+        (changes_said 0 0 net up foreign most_routes x (suc before) (suc before) (omega arith) now endures_now old j)
         (if_good j (news ports old routes j) (λ good.
         all_words given (suc before)
         (place j) (news ports old routes j) (λ u is_u near.
@@ -279,7 +279,7 @@ module _ (given : Given) (before : ℕ) (long : most_ticks_gone ≤ before) (clo
       sends : (periodic : Bool) → is_periodic past ≡ periodic → sent ≡ flat_map (second_on ports bef aft periodic) aft.up
       sends periodic is_so =
           ap₂ (λ (r p : Bool). if r then flat_map (second_on ports bef aft p) aft.up else [])
-          (runs_where net up foreign most_routes x j before past source.neighbour.on_there endured) is_so
+          (runs_where 0 0 net up foreign most_routes x j before past source.neighbour.on_there endured) is_so
 
       pend : AnyIs (Tells ports network source.way (SaidBy j) j) sent → AnyIs (Pends y (place j)) new
       pend any =
@@ -378,7 +378,7 @@ module _ (given : Given) (before : ℕ) (long : most_ticks_gone ≤ before) (clo
 
         own_clock : is_up (up x) port ≡ true → (seconds_run now + rest x) % period ≡ clock x
         own_clock there =
-            let after = later (runs_where net up foreign most_routes x port before past there endured) in
+            let after = later (runs_where 0 0 net up foreign most_routes x port before past there endured) in
             let o = own in
             let sum : seconds_run now + rest x ≡ seconds_run past + left x = omega (arith, after, o) in
             ap (λ n. n % period) sum ∙ righted.clocks x port there

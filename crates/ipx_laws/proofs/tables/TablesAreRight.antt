@@ -61,7 +61,7 @@ module _ (given : Given) where
 
   -- ---- what a router never holds, when it had so many seconds
 
-  module _ (router had : ℕ) (long : most_ticks_gone ≤ had) (history : History) (endures : Endures net up foreign most_routes router had history) where
+  module _ (router had : ℕ) (long : most_ticks_gone ≤ had) (history : History) (endures : Endures 0 0 net up foreign most_routes router had history) where
     abbrev routes : List RouteOffer
     routes = offers (routes_held (ports_of net router) most_routes history)
 
@@ -101,7 +101,7 @@ module _ (given : Given) where
     abbrev history : History
     history = history_of run.histories router
 
-    abbrev endured : Endures net up foreign most_routes router ticks history
+    abbrev endured : Endures 0 0 net up foreign most_routes router ticks history
     endured = rest.rests.routers router inside
 
     -- the route of the least way, and the neighbour that it came from

@@ -31,7 +31,7 @@ use Rattle.ipx_laws.proofs.ticks.RealOrSoonEnded.{Endures}
 module _ (given : Given) where
   open given use {net, is, cheap, up, in_ports, most_routes, foreign, network}
 
-  module _ (begun router had : ℕ) (history : History) (enough : most_ticks_gone ≤ had) (endures : Endures net up foreign most_routes router had history) where
+  module _ (begun router had : ℕ) (history : History) (enough : most_ticks_gone ≤ had) (endures : Endures 0 0 net up foreign most_routes router had history) where
     abbrev routes : List RouteOffer
     routes = offers (routes_held (ports_of net router) most_routes history)
 
@@ -41,7 +41,7 @@ module _ (given : Given) where
         all_then (FineOf given router) (λ r. r.network ≡ network → is_on (ports_of net router) network ≡ false)
         (λ r fine named. subst (λ (n : Network). is_on (ports_of net router) n ≡ false) named
         (real_wanted net up (there_where_up net is cheap up in_ports network) (real_one given router r fine named))) routes
-        (at_last route_reading network_order network_total most_routes (map (λ p. p.route_share) (ports_of net router)) (λ r. r.hops) (λ r. refl)
+        (at_last route_reading network_order network_total most_routes (map (λ p. p.route_share) (ports_of net router)) (λ r. r.hops) (λ r. refl) 0 0
         (FineOf given router) had (route_facts (ports_of net router) history) enough endures.routes)
 
     module _ (good : GoodBy given router (route_facts (ports_of net router) history)) where
@@ -73,7 +73,7 @@ module _ (given : Given) where
 
   -- a router that turns right says so to a neighbour whose way leads by it
   module _ (begun had : ℕ) (past now : History) (enough : most_ticks_gone ≤ had) (x port : ℕ) (w : WantsOf given x)
-      (f : Place) (source : Sources given x w.v port f) (endures : Endures net up foreign most_routes f.router had now)
+      (f : Place) (source : Sources given x w.v port f) (endures : Endures 0 0 net up foreign most_routes f.router had now)
       (good : GoodBy given f.router (route_facts (ports_of net f.router) now))
       (bad : GoodBy given f.router (route_facts (ports_of net f.router) past) → ⊥) where
     abbrev before : List RouteOffer

@@ -29,7 +29,7 @@ use Rattle.ipx_laws.specs.Ups.{ups}
 use Rattle.ipx_laws.proofs.records.RecordsGrowOld.{passed}
 use Rattle.ipx_laws.proofs.ticks.AfterEachStep.{AfterEach}
 use Rattle.ipx_laws.proofs.ticks.FineOrSoonEnded.{Said, Tells, EventTells, Abides, abides_first, event_abides}
-use Rattle.ipx_laws.proofs.ticks.SaysFineOrSoonEnded.{event_tells}
+use Rattle.ipx_laws.proofs.ticks.SaysFineOrSoonEnded.{tells_asks, event_tells}
 use Rattle.ipx_laws.proofs.ticks.TickAfterTick.{second_there}
 
 -- ---- seconds that an event has
@@ -62,10 +62,10 @@ module _ (IsFine : Network → Type 0) (IsServed : Service → Type 0) (net : In
   -- what waits, when so many ticks have begun
   pub record Arrives (ticks : ℕ) (d : Delivery) : Type 0 where
     pub delivery : IsDelivery net d
-    pub tells : Tells IsFine IsServed ticks d.bytes
+    pub tells : Tells 0 0 IsFine IsServed ticks d.bytes
 
   abbrev pub Lasts : ℕ → ℕ → History → Type 0
-  Lasts router had history = Abides IsFine IsServed (ports_of net router) most_routes most_services had history
+  Lasts router had history = Abides 0 0 IsFine IsServed (ports_of net router) most_routes most_services had history
 
   -- what is so while a tick goes on, with the seconds that are left of each router
   pub record Going (ticks : ℕ) (left : ℕ → ℕ) (q : Queued) : Type 0 where
@@ -78,7 +78,7 @@ module _ (IsFine : Network → Type 0) (IsServed : Service → Type 0) (net : In
 
   module _ (ticks : ℕ) (histories : List History) (queue : List Delivery) (router : ℕ) (event : Event) (left rest : ℕ → ℕ)
       (within : router < length net) (on : IsOnPort (ports_of net router) event) (of_bytes : IsOfBytes event)
-      (tells : EventTells IsFine IsServed (ports_of net router) most_routes most_services ticks (history_of histories router) event)
+      (tells : EventTells 0 0 IsFine IsServed (ports_of net router) most_routes most_services ticks (history_of histories router) event)
       (own : left router ≡ passed event 0 + rest router) (others : (other : ℕ) → other ≢ router → left other ≡ rest other)
       (stays : Stays histories) (stays_now : Stays (with_event histories router event))
       (going : Going ticks left (record { histories = histories; queue = queue })) where
@@ -103,27 +103,28 @@ module _ (IsFine : Network → Type 0) (IsServed : Service → Type 0) (net : In
         going.routers router had within (omega (arith, some))
 
     lasts : Lasts router (passed event had) (past ++ event ∷ [])
-    lasts = event_abides IsFine IsServed ports most_routes most_services had ticks (omega arith) past event tells lasted
+    lasts = event_abides 0 0 IsFine IsServed ports most_routes most_services had ticks (omega arith) past event tells lasted
 
     fine_now : (number : ℕ) → is_up (ports_up ports (past ++ event ∷ [])) number ≡ true → IsFine (port_at ports number).network
     fine_now number up = grind (arith, get_or-set_same, listed)
 
-    all_tell : AllByRecursion (λ s. Tells IsFine IsServed ticks s.bytes) sents
+    all_tell : AllByRecursion (λ s. Tells 0 0 IsFine IsServed ticks s.bytes) sents
     all_tell =
         let few = going.few router within in
         let one = few.0 in
         let some = few.1 in
-        event_tells IsFine IsServed ticks ports most_routes most_services laws (ports_at net is router) past (going.are.on_ports router) (going.are.of_bytes router)
-        had (omega (arith, one, some)) lasted event on of_bytes (stays router) fine_now lasts tells
+        event_tells 0 0 IsFine IsServed ticks ports most_routes most_services laws (ports_at net is router) past (going.are.on_ports router) (going.are.of_bytes router)
+        had (omega (arith, one, some)) lasted event on of_bytes (stays router) fine_now lasts
+        (tells_asks 0 0 IsFine IsServed ticks ports most_routes most_services past event tells)
 
     all_arrive : AllByRecursion (Arrives ticks) (flat_map (deliveries_of net router) sents)
     all_arrive =
         let bytes = laws.bytes ports most_routes most_services past event (ports_at net is router)
         (all-append (IsOnPort ports) past (event ∷ []) (going.are.on_ports router) (on, tt))
         (all-append IsOfBytes past (event ∷ []) (going.are.of_bytes router) (of_bytes, tt)) in
-        each_delivery net most_routes most_services (Arrives ticks) (λ s. IsBytes s.bytes × Tells IsFine IsServed ticks s.bytes) router
+        each_delivery net most_routes most_services (Arrives ticks) (λ s. IsBytes s.bytes × Tells 0 0 IsFine IsServed ticks s.bytes) router
         (λ s to both place received. record { delivery = record { place = place; bytes = both.0 }; tells = both.1 })
-        sents (all_both (λ s. IsBytes s.bytes) (λ s. Tells IsFine IsServed ticks s.bytes) sents bytes all_tell)
+        sents (all_both (λ s. IsBytes s.bytes) (λ s. Tells 0 0 IsFine IsServed ticks s.bytes) sents bytes all_tell)
 
     lasts_as : (count : ℕ) → count + rest router ≡ ticks → Lasts router count (past ++ event ∷ [])
     lasts_as count e = grind (arith, passed_more, passed, lasts)
@@ -164,7 +165,7 @@ module _ (IsFine : Network → Type 0) (IsServed : Service → Type 0) (net : In
   -- a step of a run tells of such, if it is a packet from outside that its router hears or sends on; and so do steps, and ticks
   abbrev StepTells : ℕ → Run → Step → Type 0
   StepTells ticks run (Happens router event) =
-      EventTells IsFine IsServed (ports_of net router) most_routes most_services ticks (history_of run.histories router) event
+      EventTells 0 0 IsFine IsServed (ports_of net router) most_routes most_services ticks (history_of run.histories router) event
   StepTells ticks run Settles = Unit
 
   abbrev pub StepsTell : ℕ → Run → List Step → Type 0
@@ -206,7 +207,7 @@ module _ (IsFine : Network → Type 0) (IsServed : Service → Type 0) (net : In
   -- after so many ticks, where nothing waits
   pub record Rests (ticks : ℕ) (run : Run) : Type 0 where
     pub are : AreHistories net run.histories
-    pub routers : (router : ℕ) → router < length net → Abides IsFine IsServed (ports_of net router) most_routes most_services ticks (history_of run.histories router)
+    pub routers : (router : ℕ) → router < length net → Abides 0 0 IsFine IsServed (ports_of net router) most_routes most_services ticks (history_of run.histories router)
     pub quiet : run.waiting ≡ []
 
   none_waits : (ticks : ℕ) (waiting : List Waiting) → waiting ≡ [] → AllByRecursion (Arrives ticks) (map (λ w. w.delivery) waiting)
@@ -246,7 +247,7 @@ module _ (IsFine : Network → Type 0) (IsServed : Service → Type 0) (net : In
 
   -- ---- packets of hosts that do no harm
 
-  module _ (Says : Heard → Type 0) (harmless : (ticks : ℕ) (m : Heard) → Says m → Said IsFine IsServed ticks m) where
+  module _ (Says : Heard → Type 0) (harmless : (ticks : ℕ) (m : Heard) → Says m → Said 0 0 IsFine IsServed ticks m) where
     steps_say : (ticks : ℕ) (run : Run) (steps : List Step) → AllByRecursion (SaysOnly Says) steps → StepsTell ticks run steps
     steps_say ticks run [] says = tt
     steps_say ticks run (step ∷ steps) says = grind (arith, steps_say ticks (stepped net most_routes most_services run step) steps says.1)

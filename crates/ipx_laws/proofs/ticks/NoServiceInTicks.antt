@@ -44,13 +44,13 @@ module _ (net : Internet) (laws : Layouts) (is : IsInternet net) (most_routes mo
   abbrev pub Rest : ℕ → Run → Type 0
   Rest = Rests EveryNetwork Served net laws is most_routes most_services
 
-  none_held : (router had : ℕ) → most_ticks_gone ≤ had → (history : History) → Abides EveryNetwork Served (ports_of net router) most_routes most_services had history
+  none_held : (router had : ℕ) → most_ticks_gone ≤ had → (history : History) → Abides 0 0 EveryNetwork Served (ports_of net router) most_routes most_services had history
       → services_held (ports_of net router) most_services history ≡ []
   none_held router had long history abides =
       let ports = ports_of net router in
       no_records (services_held ports most_services history)
       (none_of (λ s. IsFineService EveryNetwork Served s.service) (λ s fine. fine.2) (offers (services_held ports most_services history))
-      (at_last service_reading service_order service_total most_services (map (λ p. p.service_share) ports) (λ s. s.service.hops) (λ s. refl)
+      (at_last service_reading service_order service_total most_services (map (λ p. p.service_share) ports) (λ s. s.service.hops) (λ s. refl) 0 0
       (λ s. IsFineService EveryNetwork Served s.service) had (service_facts ports history) long abides.services))
 
   pub none_then : (so_far : ℕ) → most_ticks_gone ≤ so_far → (run : Run) → Rest so_far run → NoService run.histories
@@ -115,11 +115,11 @@ module _ (net : Internet) (laws : Layouts) (is : IsInternet net) (most_routes mo
   -- ---- where no router has a service at first
 
   module _ (histories : List History) (are : AreHistories net histories) (none : NoService histories) where
-    abides : (router : ℕ) → router < length net → Abides EveryNetwork Served (ports_of net router) most_routes most_services most_ticks_gone (history_of histories router)
+    abides : (router : ℕ) → router < length net → Abides 0 0 EveryNetwork Served (ports_of net router) most_routes most_services most_ticks_gone (history_of histories router)
     abides router inside = record {
       routes = all_of _ (λ h. inl tt) _;
       services =
-          where_none service_reading service_order service_total most_services (map (λ p. p.service_share) (ports_of net router)) (λ s. s.service.hops) (λ s. refl)
+          where_none service_reading service_order service_total most_services (map (λ p. p.service_share) (ports_of net router)) (λ s. s.service.hops) (λ s. refl) 0 0
           (λ s. IsFineService EveryNetwork Served s.service) most_ticks_gone (service_facts (ports_of net router) (history_of histories router))
           (subst (λ (hs : List (Held ServiceOffer)). AllByRecursion (λ o. ⊥) (offers hs)) (sym (none router inside)) tt);
     }

@@ -18,7 +18,6 @@ use Rattle.ipx_wire.specs.declared.sap.Sap.{Sap}
 use Rattle.ipx_wire.specs.declared.sap.Sap.TheVariants.{Query, Response as SapResponse}
 use Rattle.ipx_wire.specs.declared.sap.SapFault.{SapFault}
 use Rattle.ipx_wire.specs.declared.service.Service.{Service}
-use Rattle.ipx_table.specs.Alive.{lifetime}
 use Rattle.ipx_router.specs.Heard.{Heard, HeardRip, HeardSap, heard_in}
 use Rattle.ipx_router.specs.Numbers.{rip_socket, sap_socket, every_service}
 use Rattle.ipx_router.specs.Port.{Port, IsPort, port_at, own_address, everyone, own_services, every_server}
@@ -37,43 +36,51 @@ use Rattle.ipx_internet.proofs.rounds.RepliesTellChanges.{page_heard, services_h
 use Rattle.ipx_laws.specs.Announces.{service_of}
 use Rattle.ipx_laws.specs.Meanwhile.{message_in}
 use Rattle.ipx_laws.proofs.packets.SentOnSaysTheSame.{of_packet, for_rip, for_sap, message_heard}
-use Rattle.ipx_laws.proofs.ticks.FineOrSoonEnded.{IsFineService, RouteSaid, ServiceSaid, EntrySaid, RipSaid, Said, Tells, AllFine, AllServed}
+use Rattle.ipx_laws.proofs.ticks.FineOrSoonEnded.{IsFineService, IsSoon, RouteSaid, ServiceSaid, EntrySaid, AnyRoute, AnyService, RipSaid, Said, Tells}
 
-module _ (IsFine : Network → Type 0) (IsServed : Service → Type 0) (begun : ℕ) where
+module _ (delay slack : ℕ) (IsFine : Network → Type 0) (IsServed : Service → Type 0) (begun : ℕ) where
   abbrev pub Entry : RipEntry → Type 0
-  Entry = RouteSaid IsFine IsServed begun
+  Entry = RouteSaid delay slack IsFine IsServed begun
 
   abbrev pub Named : Service → Type 0
-  Named = ServiceSaid IsFine IsServed begun
+  Named = ServiceSaid delay slack IsFine IsServed begun
+
+  -- whatever is said of networks, and of services, is such
+  abbrev pub Routes : Type 0
+  Routes = AnyRoute delay slack IsFine IsServed begun
+
+  abbrev pub Services : Type 0
+  Services = AnyService delay slack IsFine IsServed begun
 
   abbrev Message : Heard → Type 0
-  Message = Said IsFine IsServed begun
+  Message = Said delay slack IsFine IsServed begun
 
   abbrev pub Say : List ℕ → Type 0
-  Say = Tells IsFine IsServed begun
+  Say = Tells delay slack IsFine IsServed begun
 
   -- ---- a response that is read by the other process
 
   module _ (p : Parts) (answers : Answers p.payload) (m : Heard) (heard : heard_in p ≡ Some m) where
-    read_as_services : AllServed IsFine IsServed → (r : Result Sap SapFault)
+    read_as_services : Services → (r : Result Sap SapFault)
         → elim r [ Ok sap ↦ Some (HeardSap p.header.source sap) | Err fault ↦ None ] ≡ Some m → Message m
     read_as_services all (Err fault) e = nothing e
     read_as_services all (Ok (Query nearest kind)) e =
         absurd (it_is IsAnswering (HeardSap p.header.source (Query nearest kind)) m (sym e) (answering p answers m heard))
-    read_as_services all (Ok (SapResponse nearest entries)) e = grind (arith, it_is, all_of, EntrySaid)
+    read_as_services all (Ok (SapResponse nearest entries)) e =
+        it_is Message m (HeardSap p.header.source (SapResponse nearest entries)) e (all_of (EntrySaid delay slack IsFine IsServed begun) all entries)
 
-    read_as_routes : AllFine IsFine IsServed → (r : Result RipParts RipFault)
+    read_as_routes : Routes → (r : Result RipParts RipFault)
         → elim r [ Ok rip ↦ Some (HeardRip p.header.source rip) | Err fault ↦ None ] ≡ Some m → Message m
     read_as_routes all (Err fault) e = nothing e
     read_as_routes all (Ok rip) e =
         let is : rip.operation ≡ Response = it_is IsAnswering (HeardRip p.header.source rip) m (sym e) (answering p answers m heard) in
         it_is Message m (HeardRip p.header.source rip) e
-        (subst (λ (o : Operation). RipSaid IsFine IsServed begun p.header.source o rip.entries) (sym is)
-        (all_of Entry (λ x near. inl (all x.network)) rip.entries))
+        (subst (λ (o : Operation). RipSaid delay slack IsFine IsServed begun p.header.source o rip.entries) (sym is)
+        (all_of Entry all rip.entries))
 
   -- ---- pages
 
-  pub rip_page_tells : (from to : Address) (bytes : List ℕ) → (to.socket.0 ≢ sap_socket) ⊎ AllServed IsFine IsServed → IsRipPage Entry from to bytes → Say bytes
+  pub rip_page_tells : (from to : Address) (bytes : List ℕ) → (to.socket.0 ≢ sap_socket) ⊎ Services → IsRipPage Entry from to bytes → Say bytes
   rip_page_tells from to bytes apart page m e =
       let parts = rip_packet_parts from to Response page.page in
       let here : message_in parts ≡ Some m = of_packet bytes parts m page.read e in
@@ -88,11 +95,11 @@ module _ (IsFine : Network → Type 0) (IsServed : Service → Type 0) (begun : 
     where
       by : (p : Parts) → Answers p.payload → heard_in p ≡ Some m → to.socket.0 ≡ sap_socket
           → elim (sap_of p.payload) [ Ok sap ↦ Some (HeardSap p.header.source sap) | Err fault ↦ None ] ≡ Some m
-          → (to.socket.0 ≢ sap_socket) ⊎ AllServed IsFine IsServed → Message m
+          → (to.socket.0 ≢ sap_socket) ⊎ Services → Message m
       by p answers heard sap told (inl off) = absurd (off sap)
       by p answers heard sap told (inr all) = read_as_services p answers m heard all (sap_of p.payload) told
 
-  pub sap_page_tells : (from to : Address) (nearest : Bool) (bytes : List ℕ) → (to.socket.0 ≢ rip_socket) ⊎ AllFine IsFine IsServed
+  pub sap_page_tells : (from to : Address) (nearest : Bool) (bytes : List ℕ) → (to.socket.0 ≢ rip_socket) ⊎ Routes
       → IsSapPage Named from to nearest bytes → Say bytes
   sap_page_tells from to nearest bytes apart page m e =
       let parts = sap_packet_parts from to nearest page.page in
@@ -102,18 +109,18 @@ module _ (IsFine : Network → Type 0) (IsServed : Service → Type 0) (begun : 
         | inl rip ↦ by parts (sap_answers nearest page.page) heard (eqb-true to.socket.0 rip_socket rip) (for_rip parts m rip here) apart
         | inr other ↦
             it_is Message m (HeardSap from (SapResponse nearest (map sap_entry page.page))) (services_heard_of Named from to nearest bytes other page parts m page.read heard)
-            (all_mapped (EntrySaid IsFine IsServed begun) sap_entry page.page
-            (all_then Named (λ s. EntrySaid IsFine IsServed begun (sap_entry s)) (λ s said near name same. named s name same (said near)) page.page page.each))
+            (all_mapped (EntrySaid delay slack IsFine IsServed begun) sap_entry page.page
+            (all_then Named (λ s. EntrySaid delay slack IsFine IsServed begun (sap_entry s)) (λ s said near name same. named s name same (said near)) page.page page.each))
       ]
     where
-      named : (s : Service) (name : List ℕ) → Some s.name ≡ Some name → IsFineService IsFine IsServed s ⊎ (begun ≤ lifetime * s.hops)
-          → IsFineService IsFine IsServed (service_of (sap_entry s) name) ⊎ (begun ≤ lifetime * s.hops)
+      named : (s : Service) (name : List ℕ) → Some s.name ≡ Some name → IsFineService IsFine IsServed s ⊎ IsSoon delay slack IsFine IsServed begun s.hops
+          → IsFineService IsFine IsServed (service_of (sap_entry s) name) ⊎ IsSoon delay slack IsFine IsServed begun s.hops
       named s name same said =
-          it_is (λ (n : List ℕ). IsFineService IsFine IsServed (service_of (sap_entry s) n) ⊎ (begun ≤ lifetime * s.hops)) name s.name same said
+          it_is (λ (n : List ℕ). IsFineService IsFine IsServed (service_of (sap_entry s) n) ⊎ IsSoon delay slack IsFine IsServed begun s.hops) name s.name same said
 
       by : (p : Parts) → Answers p.payload → heard_in p ≡ Some m → to.socket.0 ≡ rip_socket
           → elim (rip_of p.payload) [ Ok rip ↦ Some (HeardRip p.header.source rip) | Err fault ↦ None ] ≡ Some m
-          → (to.socket.0 ≢ rip_socket) ⊎ AllFine IsFine IsServed → Message m
+          → (to.socket.0 ≢ rip_socket) ⊎ Routes → Message m
       by p answers heard rip told (inl off) = absurd (off rip)
       by p answers heard rip told (inr all) = read_as_routes p answers m heard all (rip_of p.payload) told
 
@@ -126,14 +133,14 @@ module _ (IsFine : Network → Type 0) (IsServed : Service → Type 0) (begun : 
     abbrev pub Utters : Sent → Type 0
     Utters s = Say s.bytes
 
-    pub entries_tell : (to : Address) → IsPlaced to → (to.socket.0 ≢ sap_socket) ⊎ AllServed IsFine IsServed → (entries : List RipEntry)
+    pub entries_tell : (to : Address) → IsPlaced to → (to.socket.0 ≢ sap_socket) ⊎ Services → (entries : List RipEntry)
         → AllByRecursion (Writable Entry) entries → AllByRecursion Utters (rip_sends ports number to Response entries)
     entries_tell to to_is apart entries written =
         all_then (λ s. IsRipPage Entry (own_address port) to s.bytes × (s.port ≡ number)) Utters
         (λ s is. rip_page_tells (own_address port) to s.bytes apart is.0) (rip_sends ports number to Response entries)
         (rip_pages laws.readings laws.again ports number is_port Entry to to_is entries written)
 
-    pub services_tell : (to : Address) → IsPlaced to → (nearest : Bool) → (to.socket.0 ≢ rip_socket) ⊎ AllFine IsFine IsServed → (services : List Service)
+    pub services_tell : (to : Address) → IsPlaced to → (nearest : Bool) → (to.socket.0 ≢ rip_socket) ⊎ Routes → (services : List Service)
         → AllByRecursion (Tellable Named) services → AllByRecursion Utters (sap_sends ports number to nearest services)
     services_tell to to_is nearest apart services tellable =
         all_then (λ s. IsSapPage Named (own_services port) to nearest s.bytes × (s.port ≡ number)) Utters

@@ -31,11 +31,11 @@ module _ (net : Internet) (laws : Layouts) (is : IsInternet net) (most_routes mo
   abbrev Fine : ℕ → RouteOffer → Type 0
   Fine = IsRealApart net (ups net run.histories) foreign
 
-  endures : (router : ℕ) → router < length net → Endures net (ups net run.histories) foreign most_routes router most_ticks_gone (history_of run.histories router)
+  endures : (router : ℕ) → router < length net → Endures 0 0 net (ups net run.histories) foreign most_routes router most_ticks_gone (history_of run.histories router)
   endures router inside = record {
     routes =
         all_then (λ h. Fine router h.offer)
-        (λ h. Fine router h.offer ⊎ (most_ticks_gone ≤ lifetime * h.offer.hops + h.age)) (λ h fine. inl fine) _
+        (λ h. Fine router h.offer ⊎ (most_ticks_gone ≤ 0 + (0 + lifetime) * h.offer.hops + h.age)) (λ h fine. inl fine) _
         (all-from_order (route_rules (ports_of net router) most_routes).by_key
         (rules_total route_reading network_order network_total most_routes (map (λ p. p.route_share) (ports_of net router)))
         (λ h. Fine router h.offer) _

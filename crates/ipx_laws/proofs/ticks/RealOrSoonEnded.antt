@@ -8,7 +8,6 @@ use Rattle.ipx_wire.specs.Crossed.{is_among}
 use Rattle.ipx_wire.specs.Packet.{Parts, packet_of}
 use Rattle.ipx_wire.specs.declared.network.Network.{Network}
 use Rattle.ipx_wire.specs.declared.rip.RipEntry.{RipEntry}
-use Rattle.ipx_table.specs.Alive.{lifetime}
 use Rattle.ipx_router.specs.Facts.{route_offer, routes_offered, routes_heard, heard_after, route_facts, route_facts_of, routes_held, offers}
 use Rattle.ipx_router.specs.Heard.{Heard, heard_in}
 use Rattle.ipx_router.specs.History.{History, Second, Packet, running, ports_up}
@@ -36,7 +35,7 @@ use Rattle.ipx_laws.specs.Meanwhile.{message_of, TellsNoRoute}
 use Rattle.ipx_laws.specs.Real.{IsReal, next, farther}
 use Rattle.ipx_laws.proofs.packets.RoutesOrSilence.{TellsApart, IsOwnPage, IsTo, own_heard, near_in, none_of_foreign, offers_then, foreign_offer}
 use Rattle.ipx_laws.proofs.packets.SentOnSaysTheSame.{heard_message}
-use Rattle.ipx_laws.proofs.records.RecordsGrowOld.{Aged, IsOldOffer, IsOldHeld, at_first, where_none, after_second, after_offers, old_held}
+use Rattle.ipx_laws.proofs.records.RecordsGrowOld.{IsWithin, IsBelow, Aged, IsOldOffer, IsOldHeld, at_first, where_none, after_second, after_offers, old_held}
 
 module _ (net : Internet) (up : ℕ → List ℕ) where
   -- ---- what is said
@@ -57,28 +56,29 @@ module _ (net : Internet) (up : ℕ → List ℕ) (foreign : List Network) where
   abbrev pub Fine : ℕ → RouteOffer → Type 0
   Fine = IsRealApart net up foreign
 
+  -- what a port says that reaches another one: a page of such entries, or what tells of no route but to networks of the list
+  abbrev pub Comes : (Place → RipEntry → Type 0) → Place → List ℕ → Type 0
+  Comes P to bytes = ((from : Place) × Reaches net up from to × IsOwnPage (P from) (port_of net from) bytes) ⊎ TellsApart foreign bytes
+
+module _ (delay slack : ℕ) (net : Internet) (up : ℕ → List ℕ) (foreign : List Network) where
   -- an entry that is sent on a port, when so many ticks have begun: if it is alive, then whoever learns of it has a route of a real
   -- way, if its network isn't on the list, or it was said soon enough
   abbrev pub RouteSaid : ℕ → Place → RipEntry → Type 0
   RouteSaid begun from e =
       e.hops < unreachable
-      → ((to : Place) → Reaches net up from to → Hears net up to e → Fine to.router (route_offer to.port (port_of net from).node e)) ⊎ (begun ≤ lifetime * e.hops)
-
-  -- what a port says that reaches another one: a page of such entries, or what tells of no route but to networks of the list
-  abbrev pub Comes : (Place → RipEntry → Type 0) → Place → List ℕ → Type 0
-  Comes P to bytes = ((from : Place) × Reaches net up from to × IsOwnPage (P from) (port_of net from) bytes) ⊎ TellsApart foreign bytes
+      → ((to : Place) → Reaches net up from to → Hears net up to e → Fine net up foreign to.router (route_offer to.port (port_of net from).node e)) ⊎ IsWithin delay slack e.hops (delay + begun)
 
   -- what waits for a port
   pub record Arrives (begun : ℕ) (d : Delivery) : Type 0 where
     pub delivery : IsDelivery net d
-    pub says : Comes (RouteSaid begun) d.to d.bytes
+    pub says : Comes net up foreign (RouteSaid begun) d.to d.bytes
 
   module _ (most_routes router : ℕ) where
     abbrev pub ports : List Port
     ports = ports_of net router
 
     abbrev RoutesAged : ℕ → List (Fact RouteOffer) → Type 0
-    RoutesAged = Aged route_reading network_order network_total most_routes (map (λ p. p.route_share) ports) (λ r. r.hops) (λ r. refl) (Fine router)
+    RoutesAged = Aged route_reading network_order network_total most_routes (map (λ p. p.route_share) ports) (λ r. r.hops) (λ r. refl) delay slack (Fine net up foreign router)
 
     -- what a router has that had so many seconds
     pub record Endures (had : ℕ) (history : History) : Type 0 where
@@ -101,12 +101,12 @@ module _ (net : Internet) (up : ℕ → List ℕ) (foreign : List Network) where
           subst (λ (fs : List (Fact RouteOffer)). RoutesAged (suc had) fs) (sym (facts_from-more (route_facts_of ports) [] history Second))
           (elim (cases_Bool (running history)) [
             | inl runs ↦
-                rw runs (after_second route_reading network_order network_total most_routes (map (λ p. p.route_share) ports) (λ r. r.hops) (λ r. refl)
-                (Fine router) had facts endures.routes)
+                rw runs (after_second route_reading network_order network_total most_routes (map (λ p. p.route_share) ports) (λ r. r.hops) (λ r. refl) delay slack
+                (Fine net up foreign router) had facts endures.routes)
             | inr stopped ↦
                 let none = none_up ports history stopped in
                 rw stopped (subst (λ (fs : List (Fact RouteOffer)). RoutesAged (suc had) fs) (sym (append-nil facts))
-                (where_none route_reading network_order network_total most_routes (map (λ p. p.route_share) ports) (λ r. r.hops) (λ r. refl) (Fine router)
+                (where_none route_reading network_order network_total most_routes (map (λ p. p.route_share) ports) (λ r. r.hops) (λ r. refl) delay slack (Fine net up foreign router)
                 (suc had) facts
                 (all_then (λ r. is_up (ports_up ports history) r.port ≡ true) (λ r. ⊥) (λ r on. no_port (ports_up ports history) r.port none on)
                 (offers (routes_held ports most_routes history)) (held_routes_up ports most_routes history))))
@@ -121,10 +121,10 @@ module _ (net : Internet) (up : ℕ → List ℕ) (foreign : List Network) where
 
     -- ---- a packet
 
-    module _ (had begun : ℕ) (number : ℕ) (bytes : List ℕ) (late : had ≤ begun) (says : Comes (RouteSaid begun) (record { router = router; port = number }) bytes) where
+    module _ (had begun : ℕ) (number : ℕ) (bytes : List ℕ) (late : had ≤ delay + begun) (says : Comes net up foreign (RouteSaid begun) (record { router = router; port = number }) bytes) where
       abbrev RouteOld : RouteOffer → Type 0
       RouteOld =
-          IsOldOffer route_reading network_order network_total most_routes (map (λ p. p.route_share) ports) (λ r. r.hops) (λ r. refl) (Fine router) had
+          IsOldOffer route_reading network_order network_total most_routes (map (λ p. p.route_share) ports) (λ r. r.hops) (λ r. refl) delay slack (Fine net up foreign router) had
 
       routes_old : (from : Place) → Reaches net up from (record { router = router; port = number }) → is_up (up router) number ≡ true → (entries : List RipEntry)
           → AllByRecursion (RouteSaid begun from) entries → AllByRecursion (OffersOf RouteOld) (routes_offered ports number (port_of net from).node entries)
@@ -135,8 +135,8 @@ module _ (net : Internet) (up : ℕ → List ℕ) (foreign : List Network) where
       ]
         where
           one : takes_no_route ports e.network ≡ false
-              → ((to : Place) → Reaches net up from to → Hears net up to e → Fine to.router (route_offer to.port (port_of net from).node e)) ⊎ (begun ≤ lifetime * e.hops)
-              → Fine router (route_offer number (port_of net from).node e) ⊎ (had ≤ lifetime * e.hops)
+              → ((to : Place) → Reaches net up from to → Hears net up to e → Fine net up foreign to.router (route_offer to.port (port_of net from).node e)) ⊎ IsWithin delay slack e.hops (delay + begun)
+              → Fine net up foreign router (route_offer number (port_of net from).node e) ⊎ IsWithin delay slack e.hops had
           one wanted (inl real) = inl (real (record { router = router; port = number }) reaches (record { up_here = on; wanted = wanted }))
           one wanted (inr soon) = inr (omega (arith, soon, late))
 
@@ -154,7 +154,7 @@ module _ (net : Internet) (up : ℕ → List ℕ) (foreign : List Network) where
       silent_old m silent = apart_old m (none_of_foreign foreign m silent)
 
       page_old : is_up (up router) number ≡ true → (p : Parts) (m : Heard) → packet_of bytes ≡ Ok p → heard_in p ≡ Some m → message_of bytes ≡ Some m
-          → Comes (RouteSaid begun) (record { router = router; port = number }) bytes → OldHeard m
+          → Comes net up foreign (RouteSaid begun) (record { router = router; port = number }) bytes → OldHeard m
       page_old on p m read e message given = grind (arith, silent_old, apart_old, own_heard, it_is, routes_old)
 
       module _ (history : History) (endures : Endures had history) where
@@ -179,16 +179,16 @@ module _ (net : Internet) (up : ℕ → List ℕ) (foreign : List Network) where
 
       abbrev RouteHeld : RouteOffer → Type 0
       RouteHeld r =
-          IsOldHeld route_reading network_order network_total most_routes (map (λ p. p.route_share) ports) (λ r. r.hops) (λ r. refl) (Fine router) had r
+          IsOldHeld route_reading network_order network_total most_routes (map (λ p. p.route_share) ports) (λ r. r.hops) (λ r. refl) delay slack (Fine net up foreign router) had r
           × (is_up (up router) r.port ≡ true)
 
       routes_are : AllByRecursion RouteHeld (offers (routes_held ports most_routes history))
       routes_are =
           let all = offers (routes_held ports most_routes history) in
           all_both
-          (IsOldHeld route_reading network_order network_total most_routes (map (λ p. p.route_share) ports) (λ r. r.hops) (λ r. refl) (Fine router) had)
+          (IsOldHeld route_reading network_order network_total most_routes (map (λ p. p.route_share) ports) (λ r. r.hops) (λ r. refl) delay slack (Fine net up foreign router) had)
           (λ r. is_up (up router) r.port ≡ true) all
-          (old_held route_reading network_order network_total most_routes (map (λ p. p.route_share) ports) (λ r. r.hops) (λ r. refl) (Fine router) had
+          (old_held route_reading network_order network_total most_routes (map (λ p. p.route_share) ports) (λ r. r.hops) (λ r. refl) delay slack (Fine net up foreign router) had
           (route_facts ports history) endures.routes)
           (subst (λ (us : List ℕ). AllByRecursion (λ r. is_up us r.port ≡ true) all) endures.ups (held_routes_up ports most_routes history))
 
@@ -206,8 +206,8 @@ module _ (net : Internet) (up : ℕ → List ℕ) (foreign : List Network) where
           e : RipEntry
           e = told_at (port_at ports j).cost (entry_of r)
 
-          by : Fine router r ⊎ (had < lifetime * (r.hops + 1))
-              → ((to : Place) → Reaches net up (place j) to → Hears net up to e → Fine to.router (route_offer to.port (port_of net (place j)).node e)) ⊎ (begun ≤ lifetime * e.hops)
+          by : Fine net up foreign router r ⊎ IsBelow delay slack (r.hops + 1) had
+              → ((to : Place) → Reaches net up (place j) to → Hears net up to e → Fine net up foreign to.router (route_offer to.port (port_of net (place j)).node e)) ⊎ IsWithin delay slack e.hops (delay + begun)
           by (inr old) = inr (omega (arith, old, soon))
           by (inl fine) =
               inl (λ to reaches hears off. farther (place j) r (eqb-false r.port j apart)

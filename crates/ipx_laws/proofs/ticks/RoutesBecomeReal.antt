@@ -76,7 +76,7 @@ module _ (net : Internet) (laws : Layouts) (is : IsInternet net) (most_routes mo
   module _ (long : most_ticks_gone ≤ count) where
     pub all_real : AllByRecursion (IsRealApart net (ups net histories) foreign router) (offers (routes_held ports most_routes past))
     all_real =
-        at_last route_reading network_order network_total most_routes (map (λ p. p.route_share) ports) (λ r. r.hops) (λ r. refl)
+        at_last route_reading network_order network_total most_routes (map (λ p. p.route_share) ports) (λ r. r.hops) (λ r. refl) 0 0
         (IsRealApart net (ups net histories) foreign router) count (route_facts ports past) long (rests.routers router within).routes
 
     pub none_over : (place : Place) → is_up (ups net histories place.router) place.port ≡ false

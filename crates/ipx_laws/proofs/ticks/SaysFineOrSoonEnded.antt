@@ -10,7 +10,6 @@ use Rattle.ipx_wire.specs.declared.rip.Operation.TheVariants.{Request, Response}
 use Rattle.ipx_wire.specs.declared.rip.RipEntry.{RipEntry}
 use Rattle.ipx_wire.specs.declared.sap.Sap.TheVariants.{Query, Response as SapResponse}
 use Rattle.ipx_wire.specs.declared.service.Service.{Service}
-use Rattle.ipx_table.specs.Alive.{lifetime}
 use Rattle.ipx_router.specs.Facts.{heard_after, route_facts, service_facts, routes_held, services_held, offers}
 use Rattle.ipx_router.specs.Heard.{Heard, HeardRip, HeardSap}
 use Rattle.ipx_router.specs.History.{Event, History, Start, Stop, Second, Packet, PortDown, PortUp, IsOnPort, IsOfBytes, running, ports_up}
@@ -40,8 +39,8 @@ use Rattle.ipx_internet.proofs.packets.NearestIsOneOfThem.{either, nearest_all}
 use Rattle.ipx_internet.proofs.packets.PagesReadAgain.{Tellable}
 use Rattle.ipx_internet.proofs.packets.SentOnOrReply.{Layouts, IsOnward, unsaid, said}
 use Rattle.ipx_laws.proofs.packets.SentOnSaysTheSame.{heard_message, sent_on_message}
-use Rattle.ipx_laws.proofs.records.RecordsGrowOld.{IsOldHeld, passed, old_held}
-use Rattle.ipx_laws.proofs.ticks.FineOrSoonEnded.{IsFineService, farther_fine, RipSaid, Said, EventTells, FineRoute, FineService, Abides}
+use Rattle.ipx_laws.proofs.records.RecordsGrowOld.{IsBelow, IsOldHeld, passed, old_held}
+use Rattle.ipx_laws.proofs.ticks.FineOrSoonEnded.{IsFineService, IsSoon, farther_fine, RipAsks, Asks, EventTells, FineRoute, FineService, Abides, said_asks}
 use Rattle.ipx_laws.proofs.ticks.OwnPagesSayFine.{Entry, Named, Say, entries_tell, services_tell, rip_broadcast_tells, sap_broadcast_tells, broadcasts_tell, request_tells, query_tells}
 
 -- a list where a test holds, or where it doesn't
@@ -52,12 +51,12 @@ or_not : {X : Type 0} (P : X → Type 0) (c : Bool) (xs : List X) → AllByRecur
 or_not P true xs all = tt
 or_not P false xs all = all
 
-module _ (IsFine : Network → Type 0) (IsServed : Service → Type 0) (begun : ℕ) (ports : List Port) (most_routes most_services : ℕ) where
+module _ (delay slack : ℕ) (IsFine : Network → Type 0) (IsServed : Service → Type 0) (begun : ℕ) (ports : List Port) (most_routes most_services : ℕ) where
   abbrev E : RipEntry → Type 0
-  E = Entry IsFine IsServed begun
+  E = Entry delay slack IsFine IsServed begun
 
   abbrev N : Service → Type 0
-  N = Named IsFine IsServed begun
+  N = Named delay slack IsFine IsServed begun
 
   abbrev routes_of : History → List RouteOffer
   routes_of history = offers (routes_held ports most_routes history)
@@ -70,24 +69,24 @@ module _ (IsFine : Network → Type 0) (IsServed : Service → Type 0) (begun : 
   module _ (had : ℕ) (soon : begun ≤ had + 1) where
     abbrev RouteHeld : RouteOffer → Type 0
     RouteHeld =
-        IsOldHeld route_reading network_order network_total most_routes (map (λ p. p.route_share) ports) (λ r. r.hops) (λ r. refl)
-        (FineRoute IsFine IsServed ports most_routes most_services) had
+        IsOldHeld route_reading network_order network_total most_routes (map (λ p. p.route_share) ports) (λ r. r.hops) (λ r. refl) delay slack
+        (FineRoute delay slack IsFine IsServed ports most_routes most_services) had
 
     abbrev ServiceHeld : ServiceOffer → Type 0
     ServiceHeld =
-        IsOldHeld service_reading service_order service_total most_services (map (λ p. p.service_share) ports) (λ s. s.service.hops) (λ s. refl)
-        (FineService IsFine IsServed ports most_routes most_services) had
+        IsOldHeld service_reading service_order service_total most_services (map (λ p. p.service_share) ports) (λ s. s.service.hops) (λ s. refl) delay slack
+        (FineService delay slack IsFine IsServed ports most_routes most_services) had
 
-    module _ (history : History) (abides : Abides IsFine IsServed ports most_routes most_services had history) where
+    module _ (history : History) (abides : Abides delay slack IsFine IsServed ports most_routes most_services had history) where
       routes_are : AllByRecursion RouteHeld (routes_of history)
       routes_are =
-          old_held route_reading network_order network_total most_routes (map (λ p. p.route_share) ports) (λ r. r.hops) (λ r. refl)
-          (FineRoute IsFine IsServed ports most_routes most_services) had (route_facts ports history) abides.routes
+          old_held route_reading network_order network_total most_routes (map (λ p. p.route_share) ports) (λ r. r.hops) (λ r. refl) delay slack
+          (FineRoute delay slack IsFine IsServed ports most_routes most_services) had (route_facts ports history) abides.routes
 
       services_are : AllByRecursion ServiceHeld (services_of history)
       services_are =
-          old_held service_reading service_order service_total most_services (map (λ p. p.service_share) ports) (λ s. s.service.hops) (λ s. refl)
-          (FineService IsFine IsServed ports most_routes most_services) had (service_facts ports history) abides.services
+          old_held service_reading service_order service_total most_services (map (λ p. p.service_share) ports) (λ s. s.service.hops) (λ s. refl) delay slack
+          (FineService delay slack IsFine IsServed ports most_routes most_services) had (service_facts ports history) abides.services
 
     ended_said : (e : RipEntry) → E (dead e)
     ended_said e near = absurd (omega (arith, near))
@@ -95,7 +94,7 @@ module _ (IsFine : Network → Type 0) (IsServed : Service → Type 0) (begun : 
     learned_said : (cost : ℕ) (r : RouteOffer) → RouteHeld r → E (told_at cost (entry_of r))
     learned_said cost r held near = by held.0
       where
-        by : IsFine r.network ⊎ (had < lifetime * (r.hops + 1)) → IsFine r.network ⊎ (begun ≤ lifetime * (r.hops + 1))
+        by : IsFine r.network ⊎ IsBelow delay slack (r.hops + 1) had → IsFine r.network ⊎ IsSoon delay slack IsFine IsServed begun (r.hops + 1)
         by (inl fine) = inl fine
         by (inr old) = inr (omega (arith, old, soon))
 
@@ -105,8 +104,8 @@ module _ (IsFine : Network → Type 0) (IsServed : Service → Type 0) (begun : 
     service_said : (s : ServiceOffer) → ServiceHeld s → N (farther s.service)
     service_said s held near = by held.0
       where
-        by : IsFineService IsFine IsServed s.service ⊎ (had < lifetime * (s.service.hops + 1))
-            → IsFineService IsFine IsServed (farther s.service) ⊎ (begun ≤ lifetime * (s.service.hops + 1))
+        by : IsFineService IsFine IsServed s.service ⊎ IsBelow delay slack (s.service.hops + 1) had
+            → IsFineService IsFine IsServed (farther s.service) ⊎ IsSoon delay slack IsFine IsServed begun (s.service.hops + 1)
         by (inl fine) = inl (farther_fine IsFine IsServed s.service fine)
         by (inr old) = inr (omega (arith, old, soon))
 
@@ -130,16 +129,38 @@ module _ (IsFine : Network → Type 0) (IsServed : Service → Type 0) (begun : 
           news_told ports up (λ j. E) RouteHeld (λ j other on apart. direct_said (port_at ports j).cost other on)
           (λ j r held apart. learned_said (port_at ports j).cost r held) (λ j e. ended_said e) before after all j
 
+  -- ---- what comes
+
+  -- what is heard of a packet that comes asks for nothing that does harm, and what is sent on of it tells of such, if the router sends anything
+  abbrev pub EventAsks : History → Event → Type 0
+  EventAsks history (Packet number bytes) =
+      ((m : Heard) → heard_after ports history number bytes ≡ Some m → Asks delay slack IsFine IsServed begun m)
+      × ((s : List ℕ) → sends ports most_routes most_services history (Packet number bytes) ≢ [] → IsOnward (port_at ports number) bytes s
+      → Say delay slack IsFine IsServed begun s)
+  EventAsks history event = Unit
+
+  -- so it does if it was accepted, and tells of such
+  pub tells_asks : (history : History) (event : Event) → EventTells delay slack IsFine IsServed ports most_routes most_services begun history event → EventAsks history event
+  tells_asks history Start tells = tt
+  tells_asks history Stop tells = tt
+  tells_asks history Second tells = tt
+  tells_asks history (PortDown number) tells = tt
+  tells_asks history (PortUp number) tells = tt
+  tells_asks history (Packet number bytes) tells = (
+    (λ m e. said_asks delay slack IsFine IsServed begun m (tells (inl (m, e)) m (heard_message ports history number bytes m e))),
+    (λ s some onward m is. tells (inr some) m (sent_on_message (port_at ports number) bytes s onward m is)),
+  )
+
   -- ---- an event after a history
 
   module _ (laws : Layouts) (are : AllByRecursion IsPort ports) (history : History) (on : AllByRecursion (IsOnPort ports) history)
       (of_bytes : AllByRecursion IsOfBytes history) (had : ℕ) (soon : begun ≤ had + 1)
-      (old : Abides IsFine IsServed ports most_routes most_services had history) where
+      (old : Abides delay slack IsFine IsServed ports most_routes most_services had history) where
     abbrev before : Holding
     before = holding ports most_routes most_services history
 
     abbrev Told : Sent → Type 0
-    Told s = Say IsFine IsServed begun s.bytes
+    Told s = Say delay slack IsFine IsServed begun s.bytes
 
     fit_before : AllByRecursion RouteFits (routes_of history)
     fit_before = held_routes_fit laws.readings ports most_routes history of_bytes
@@ -168,7 +189,7 @@ module _ (IsFine : Network → Type 0) (IsServed : Service → Type 0) (begun : 
     stop_tells j on =
         let entries = told ports before.up before.routes j in
         let services = told_services before.services j in
-        broadcasts_tell IsFine IsServed begun laws ports j (port_up before.up ups_before j on) (map dead entries) (map dead_service services)
+        broadcasts_tell delay slack IsFine IsServed begun laws ports j (port_up before.up ups_before j on) (map dead entries) (map dead_service services)
         (all-map IsEntry (Writable E) dead (λ e is. (dead_fits e is, ended_said had soon e)) entries
         (told_fits ports are before.up before.routes j ups_before fit_before))
         (all-map IsTellable (Tellable N) dead_service (λ s is. (down_fits s is, lost_said had soon s)) services (told_services_fit before.services j offered_before))
@@ -176,7 +197,7 @@ module _ (IsFine : Network → Type 0) (IsServed : Service → Type 0) (begun : 
     module _ (event : Event) (event_on : IsOnPort ports event) (event_bytes : IsOfBytes event) (young : begun ≤ passed event had + 1)
         (fine_before : (number : ℕ) → is_up before.up number ≡ true → IsFine (port_at ports number).network)
         (fine_after : (number : ℕ) → is_up (ports_up ports (history ++ event ∷ [])) number ≡ true → IsFine (port_at ports number).network)
-        (new : Abides IsFine IsServed ports most_routes most_services (passed event had) (history ++ event ∷ [])) where
+        (new : Abides delay slack IsFine IsServed ports most_routes most_services (passed event had) (history ++ event ∷ [])) where
       abbrev now : History
       now = history ++ event ∷ []
 
@@ -216,19 +237,19 @@ module _ (IsFine : Network → Type 0) (IsServed : Service → Type 0) (begun : 
       all_news : AllByRecursion Told (flat_map (news_on ports before after) after.up)
       all_news =
           each_tells after.up (news_on ports before after) (λ j on.
-          broadcasts_tell IsFine IsServed begun laws ports j (port_up after.up ups_after j on) (news ports before.routes after.routes j)
+          broadcasts_tell delay slack IsFine IsServed begun laws ports j (port_up after.up ups_after j on) (news ports before.routes after.routes j)
           (news_services before.services after.services j) (changes_written j) (changes_tellable j))
 
       second_tells : (periodic : Bool) (j : ℕ) → is_up after.up j ≡ true → AllByRecursion Told (second_on ports before after periodic j)
       second_tells false j on =
-          broadcasts_tell IsFine IsServed begun laws ports j (port_up after.up ups_after j on) (news ports before.routes after.routes j)
+          broadcasts_tell delay slack IsFine IsServed begun laws ports j (port_up after.up ups_after j on) (news ports before.routes after.routes j)
           (news_services before.services after.services j) (changes_written j) (changes_tellable j)
       second_tells true j on =
           let rest = told ports after.up after.routes j in
           let named = told_services after.services j in
           let gone = news ports before.routes after.routes j in
           let gone_services = news_services before.services after.services j in
-          broadcasts_tell IsFine IsServed begun laws ports j (port_up after.up ups_after j on) (by_network (rest ++ gone)) (by_name (named ++ gone_services))
+          broadcasts_tell delay slack IsFine IsServed begun laws ports j (port_up after.up ups_after j on) (by_network (rest ++ gone)) (by_name (named ++ gone_services))
           (all_sorted (Writable E) network_before (rest ++ gone) (all-append (Writable E) rest gone
           (all_both IsEntry E rest (told_fits ports are after.up after.routes j ups_after fit_after)
           (routes_said (passed event had) young after.up fine_after after.routes held_after j)) (changes_written j)))
@@ -242,7 +263,7 @@ module _ (IsFine : Network → Type 0) (IsServed : Service → Type 0) (begun : 
       port_down_tells port exists j on =
           let ended = news ports before.routes after.routes j in
           let network = direct_entry ports port in
-          broadcasts_tell IsFine IsServed begun laws ports j (port_up after.up ups_after j on) (by_network (dead network ∷ ended))
+          broadcasts_tell delay slack IsFine IsServed begun laws ports j (port_up after.up ups_after j on) (by_network (dead network ∷ ended))
           (news_services before.services after.services j)
           (all_sorted (Writable E) network_before (dead network ∷ ended)
           ((dead_fits network (direct_fits ports are port exists).0, ended_said had soon network), changes_written j))
@@ -261,12 +282,12 @@ module _ (IsFine : Network → Type 0) (IsServed : Service → Type 0) (begun : 
           all-append Told (answer ++ request ++ advertised) (services_query ports j)
           (all-append Told (answer ++ request) advertised
           (all-append Told answer request
-          (rip_broadcast_tells IsFine IsServed begun laws ports j port entries
+          (rip_broadcast_tells delay slack IsFine IsServed begun laws ports j port entries
           (all_both IsEntry E entries (told_fits ports are after.up routes j ups_after fit) (routes_said (passed event had) young after.up fine_after routes held j)))
-          (request_tells IsFine IsServed begun laws ports j port))
-          (sap_broadcast_tells IsFine IsServed begun laws ports j port named
+          (request_tells delay slack IsFine IsServed begun laws ports j port))
+          (sap_broadcast_tells delay slack IsFine IsServed begun laws ports j port named
           (all_both IsTellable N named (told_services_fit services j offered) (services_said (passed event had) young services served j))))
-          (query_tells IsFine IsServed begun laws ports j port)
+          (query_tells delay slack IsFine IsServed begun laws ports j port)
 
       port_up_tells : (port : ℕ) → port < length ports → is_up after.up port ≡ true → (j : ℕ) → is_up after.up j ≡ true
           → AllByRecursion Told (port_up_on ports after port j)
@@ -275,7 +296,7 @@ module _ (IsFine : Network → Type 0) (IsServed : Service → Type 0) (begun : 
         | inr other ↦
             let cost = (port_at ports j).cost in
             let entry = told_at cost (direct_entry ports port) in
-            rw other (rip_broadcast_tells IsFine IsServed begun laws ports j (port_up after.up ups_after j on) (entry ∷ [])
+            rw other (rip_broadcast_tells delay slack IsFine IsServed begun laws ports j (port_up after.up ups_after j on) (entry ∷ [])
             ((told_at_fits cost (direct_entry ports port) (direct_fits ports are port exists), direct_said (passed event had) young after.up fine_after cost port comes), tt))
       ]
 
@@ -288,7 +309,7 @@ module _ (IsFine : Network → Type 0) (IsServed : Service → Type 0) (begun : 
         is_here : IsPort here
         is_here = port-all IsPort ports number are within
 
-        rip_answered : (source : Address) (operation : Operation) (entries : List RipEntry) → IsPlaced source → RipSaid IsFine IsServed begun source operation entries
+        rip_answered : (source : Address) (operation : Operation) (entries : List RipEntry) → IsPlaced source → RipAsks delay slack IsFine IsServed begun source operation
             → AllByRecursion Told (elim operation [
               | Response ↦ flat_map (news_on ports before after) after.up
               | Request ↦ rip_sends ports number (reply_to here source) Response (asked entries (told ports before.up before.routes number))
@@ -296,12 +317,12 @@ module _ (IsFine : Network → Type 0) (IsServed : Service → Type 0) (begun : 
         rip_answered source Response entries from told_now = all_news
         rip_answered source Request entries from told_now =
             let all = told ports before.up before.routes number in
-            entries_tell IsFine IsServed begun laws ports number is_here (reply_to here source) (reply_is here source is_here from) told_now (asked entries all)
+            entries_tell delay slack IsFine IsServed begun laws ports number is_here (reply_to here source) (reply_is here source is_here from) told_now (asked entries all)
             (all-filter (Writable E) _ all
             (all_both IsEntry E all (told_fits ports are before.up before.routes number ups_before fit_before)
             (routes_said had soon before.up fine_before before.routes held_before number)))
 
-        heard_tells : (m : Heard) → IsPlaced (source_of m) → Said IsFine IsServed begun m → AllByRecursion Told (heard_sends ports before after number m)
+        heard_tells : (m : Heard) → IsPlaced (source_of m) → Asks delay slack IsFine IsServed begun m → AllByRecursion Told (heard_sends ports before after number m)
         heard_tells (HeardRip source rip) from told_now = rip_answered source rip.operation rip.entries from told_now
         heard_tells (HeardSap source (SapResponse nearest entries)) from told_now = all_news
         heard_tells (HeardSap source (Query nearest kind)) from told_now =
@@ -311,7 +332,7 @@ module _ (IsFine : Network → Type 0) (IsServed : Service → Type 0) (begun : 
             all-filter (Tellable N) _ all
             (all_both IsTellable N all (told_services_fit before.services number offered_before) (services_said had soon before.services served_before number)) in
             let answer = if nearest then nearest_of services else services in
-            services_tell IsFine IsServed begun laws ports number is_here (reply_to here source) (reply_is here source is_here from) nearest told_now answer
+            services_tell delay slack IsFine IsServed begun laws ports number is_here (reply_to here source) (reply_is here source is_here from) nearest told_now answer
             (either (Tellable N) nearest (nearest_of services) services (nearest_all (Tellable N) services fits) fits)
 
     -- ---- any event
@@ -319,7 +340,7 @@ module _ (IsFine : Network → Type 0) (IsServed : Service → Type 0) (begun : 
     pub event_tells : (event : Event) → IsOnPort ports event → IsOfBytes event
         → ((number : ℕ) → is_up before.up number ≡ true → IsFine (port_at ports number).network)
         → ((number : ℕ) → is_up (ports_up ports (history ++ event ∷ [])) number ≡ true → IsFine (port_at ports number).network)
-        → Abides IsFine IsServed ports most_routes most_services (passed event had) (history ++ event ∷ []) → EventTells IsFine IsServed ports most_routes most_services begun history event
+        → Abides delay slack IsFine IsServed ports most_routes most_services (passed event had) (history ++ event ∷ []) → EventAsks history event
         → AllByRecursion Told (sends ports most_routes most_services history event)
     event_tells Start there are_bytes old_fine new_fine new tells =
         let up = ports_up ports (history ++ Start ∷ []) in
@@ -355,7 +376,7 @@ module _ (IsFine : Network → Type 0) (IsServed : Service → Type 0) (begun : 
         sent_on_tell (first ∷ rest) same all =
             let some : these ≢ [] = λ none. let count : suc (length rest) ≡ 0 = ap length (sym same ∙ none) in absurd (omega (arith, count)) in
             all_then (λ s. IsOnward (port_at ports number) bytes s.bytes) Told
-            (λ s onward m is. tells (inr some) m (sent_on_message (port_at ports number) bytes s.bytes onward m is)) (first ∷ rest) all
+            (λ s onward. tells.1 s.bytes some onward) (first ∷ rest) all
 
         by : (o : Option Heard) → heard_after ports history number bytes ≡ o → AllByRecursion Told these
         by None e =
@@ -363,8 +384,7 @@ module _ (IsFine : Network → Type 0) (IsServed : Service → Type 0) (begun : 
             (unsaid laws ports are most_routes most_services history on of_bytes number bytes there are_bytes e)
         by (Some m) e =
             let source = (heard_is laws.readings ports before.up number bytes are_bytes (running history) m e).source in
-            let all = heard_tells (Packet number bytes) there are_bytes soon old_fine new_fine new number there m source
-            (tells (inl (m, e)) m (heard_message ports history number bytes m e)) in
+            let all = heard_tells (Packet number bytes) there are_bytes soon old_fine new_fine new number there m source (tells.0 m e) in
             elim (said laws ports are most_routes most_services history on of_bytes number bytes there are_bytes m e) [
               | inl none ↦ subst (λ (ss : List Sent). AllByRecursion Told ss) (sym none) tt
               | inr same ↦ subst (λ (ss : List Sent). AllByRecursion Told ss) (sym same) all

@@ -1,9 +1,11 @@
 -- Whatever else happens meanwhile, after the most ticks there is no service but those that hosts announced in them.
-use Rattle.std.proofs.Common.{◌≡◌, refl, sym, ap, ◌∙◌, subst, ℕ, suc, ◌+◌, ◌<◌, ◌≤◌, List, [], ◌∷◌, ◌++◌, length, map, Option, Some, IfSome, inl, inr, arith, rules}
+use Rattle.std.proofs.Common.{◌≡◌, refl, sym, ap, ◌∙◌, subst, ℕ, suc, ◌+◌, ◌<◌, ◌≤◌, List, [], ◌∷◌, ◌++◌, length, map, Option, Some, IfSome, slice_get, inl, inr, arith, rules}
 use Rattle.std.specs.List.{AllByRecursion}
 use Rattle.std.proofs.lemmas.List.{append_assoc}
+use Rattle.ipx_wire.specs.WriteServices.{entry_of}
 use Rattle.ipx_wire.specs.declared.address.Address.{Address}
 use Rattle.ipx_wire.specs.declared.rip.Operation.{Operation}
+use Rattle.ipx_wire.specs.declared.rip.Operation.TheVariants.{Request, Response}
 use Rattle.ipx_wire.specs.declared.rip.RipEntry.{RipEntry}
 use Rattle.ipx_wire.specs.declared.sap.Sap.TheVariants.{Query, Response as SapResponse}
 use Rattle.ipx_wire.specs.declared.sap_entries.SapEntry.{SapEntry}
@@ -22,7 +24,7 @@ use Rattle.ipx_internet.specs.Ticks.{ticked}
 use Rattle.ipx_internet.proofs.lists.EachElement.{all_of, all_then, all_listed}
 use Rattle.ipx_internet.proofs.packets.SentOnOrReply.{Layouts}
 use Rattle.ipx_internet.proofs.ticks.SecondIsATick.{run_more}
-use Rattle.ipx_laws.specs.Announces.{service_of, IsAccepted, IsSaid, IsAnnounced, AsksApart}
+use Rattle.ipx_laws.specs.Announces.{service_of, entries_said, IsAccepted, IsSaid, IsAnnounced, AsksApart}
 use Rattle.ipx_laws.specs.Gone.{most_ticks_gone}
 use Rattle.ipx_laws.specs.Meanwhile.{message_of, AsksElsewhere, SaysOnly, EachTick}
 use Rattle.ipx_laws.proofs.records.RecordsGrowOld.{at_last}
@@ -31,28 +33,45 @@ use Rattle.ipx_laws.proofs.ticks.BusyTickAfterTick.{StepsTell, TicksTell, told_r
 use Rattle.ipx_laws.proofs.ticks.FineOrSoonEnded.{IsFineService, RouteSaid, EntrySaid, RipSaid, Said, EventTells}
 use Rattle.ipx_laws.proofs.ticks.GoneWhateverHappens.{EveryNetwork, each_always}
 
-module _ (net : Internet) (laws : Layouts) (is : IsInternet net) (most_routes most_services : ℕ) (first : Run) (ticks : List (List Step)) where
-  abbrev pub Served : Service → Type 0
-  Served s = IsSaid net most_routes most_services first ticks s
+-- ---- what is said
 
-  -- what is heard says only what is said in these ticks
+module _ (delay slack : ℕ) (Served : Service → Type 0) where
+  -- what is heard says only such services
   abbrev pub SaysServed : Heard → Type 0
   SaysServed (HeardRip source rip) = AsksElsewhere source rip.operation
   SaysServed (HeardSap source (Query nearest kind)) = Unit {0}
   SaysServed (HeardSap source (SapResponse nearest entries)) = AllByRecursion (λ e. (name : List ℕ) → e.name ≡ Some name → Served (service_of e name)) entries
 
-  -- ---- that does no harm
-
+  -- that does no harm
   asks : (begun : ℕ) (source : Address) (operation : Operation) (entries : List RipEntry) → AsksElsewhere source operation
-      → RipSaid EveryNetwork Served begun source operation entries
-  asks begun source operation entries elsewhere = grind (arith, all_of, RouteSaid, EveryNetwork)
+      → RipSaid delay slack EveryNetwork Served begun source operation entries
+  asks begun source Response entries elsewhere = all_of (RouteSaid delay slack EveryNetwork Served begun) (λ e near. inl tt) entries
+  asks begun source Request entries elsewhere = inl elsewhere
 
-  harmless : (begun : ℕ) (m : Heard) → SaysServed m → Said EveryNetwork Served begun m
+  pub harmless : (begun : ℕ) (m : Heard) → SaysServed m → Said delay slack EveryNetwork Served begun m
   harmless begun (HeardRip source rip) says = asks begun source rip.operation rip.entries says
-  harmless begun (HeardSap source (Query nearest kind)) says = inr (λ n. tt)
+  harmless begun (HeardSap source (Query nearest kind)) says = inr (λ e near. inl tt)
   harmless begun (HeardSap source (SapResponse nearest entries)) says =
-      all_then (λ e. (name : List ℕ) → e.name ≡ Some name → Served (service_of e name)) (EntrySaid EveryNetwork Served begun)
+      all_then (λ e. (name : List ℕ) → e.name ≡ Some name → Served (service_of e name)) (EntrySaid delay slack EveryNetwork Served begun)
       (λ e said near name same. inl (e.hops, omega arith, said name same)) entries says
+
+  -- where each entry of a message from outside says such, it says only such
+  pub message_served : (m : Heard) → AsksApart m → ((k : ℕ) (s : Service) → slice_get (entries_said m) k ≡ Some (entry_of s) → Served s) → SaysServed m
+  message_served (HeardRip source rip) apart each = apart
+  message_served (HeardSap source (Query nearest kind)) apart each = tt
+  message_served (HeardSap source (SapResponse nearest entries)) apart each =
+      all_listed (λ e. (name : List ℕ) → e.name ≡ Some name → Served (service_of e name)) entries
+      (λ k e at name same. each k (service_of e name) (at ∙ named e name same))
+    where
+      named : (e : SapEntry) (name : List ℕ) → e.name ≡ Some name
+          → Some e ≡ Some (record { kind = e.kind; name = Some name; address = e.address; hops = e.hops })
+      named e name same =
+          let make : Option (List ℕ) → Option SapEntry = λ n. Some (record { kind = e.kind; name = n; address = e.address; hops = e.hops }) in
+          ap make same
+
+module _ (net : Internet) (laws : Layouts) (is : IsInternet net) (most_routes most_services : ℕ) (first : Run) (ticks : List (List Step)) where
+  abbrev pub Served : Service → Type 0
+  Served s = IsSaid net most_routes most_services first ticks s
 
   -- ---- what is said at each step
 
@@ -65,11 +84,9 @@ module _ (net : Internet) (laws : Layouts) (is : IsInternet net) (most_routes mo
   module _ (before : List (List Step)) (tick : List Step) (after : List (List Step)) (of_ticks : ticks ≡ before ++ tick ∷ after) where
     message_says : (earlier : List Step) (router number : ℕ) (bytes : List ℕ) (later : List Step) → tick ≡ earlier ++ Happens router (Packet number bytes) ∷ later
         → IsAccepted (ports_of net router) most_routes most_services (history_of (steps_by before earlier).histories router) number bytes
-        → (m : Heard) → message_of bytes ≡ Some m → AsksApart m → SaysServed m
-    message_says earlier router number bytes later of_tick accepted (HeardRip source rip) heard apart = apart
-    message_says earlier router number bytes later of_tick accepted (HeardSap source (Query nearest kind)) heard apart = tt
-    message_says earlier router number bytes later of_tick accepted (HeardSap source (SapResponse nearest entries)) heard apart =
-        all_listed (λ e. (name : List ℕ) → e.name ≡ Some name → Served (service_of e name)) entries (λ k e at name same. record {
+        → (m : Heard) → message_of bytes ≡ Some m → AsksApart m → SaysServed 0 0 Served m
+    message_says earlier router number bytes later of_tick accepted m heard apart =
+        message_served 0 0 Served m apart (λ k s says. record {
           before = before;
           tick = tick;
           after = after;
@@ -81,29 +98,23 @@ module _ (net : Internet) (laws : Layouts) (is : IsInternet net) (most_routes mo
           later = later;
           of_tick = of_tick;
           accepted = accepted;
-          message = HeardSap source (SapResponse nearest entries);
+          message = m;
           heard = heard;
           which_entry = k;
-          says = at ∙ named e name same;
+          says = says;
         })
-      where
-        named : (e : SapEntry) (name : List ℕ) → e.name ≡ Some name
-            → Some e ≡ Some (record { kind = e.kind; name = Some name; address = e.address; hops = e.hops })
-        named e name same =
-            let make : Option (List ℕ) → Option SapEntry = λ n. Some (record { kind = e.kind; name = n; address = e.address; hops = e.hops }) in
-            ap make same
 
     abbrev Steps : ℕ → Run → List Step → Type 0
     Steps begun run steps = StepsTell EveryNetwork Served net laws is most_routes most_services begun run steps
 
     event_tells : (begun : ℕ) (earlier : List Step) (router : ℕ) (event : Event) (later : List Step) → tick ≡ earlier ++ Happens router event ∷ later
         → SaysOnly AsksApart (Happens router event)
-        → EventTells EveryNetwork Served (ports_of net router) most_routes most_services begun (history_of (steps_by before earlier).histories router) event
+        → EventTells 0 0 EveryNetwork Served (ports_of net router) most_routes most_services begun (history_of (steps_by before earlier).histories router) event
     event_tells begun earlier router Start later of_tick apart = tt
     event_tells begun earlier router Stop later of_tick apart = tt
     event_tells begun earlier router Second later of_tick apart = tt
     event_tells begun earlier router (Packet number bytes) later of_tick apart =
-        λ accepted m e. harmless begun m
+        λ accepted m e. harmless 0 0 Served begun m
         (message_says earlier router number bytes later of_tick accepted m e (subst (λ (o : Option Heard). IfSome o AsksApart) e apart))
     event_tells begun earlier router (PortDown number) later of_tick apart = tt
     event_tells begun earlier router (PortUp number) later of_tick apart = tt
@@ -155,6 +166,6 @@ module _ (net : Internet) (laws : Layouts) (is : IsInternet net) (most_routes mo
       (ticks_tell net laws is most_routes most_services first ticks 0 [] ticks refl apart) in
       all_then (λ s. IsFineService EveryNetwork IsServed s.service) (λ s. IsAnnounced net most_routes most_services first ticks s.service)
       (λ s fine. record { hops = fine.0; no_more = fine.1; said = fine.2 }) (offers (services_held ports most_services past))
-      (at_last service_reading service_order service_total most_services (map (λ p. p.service_share) ports) (λ s. s.service.hops) (λ s. refl)
+      (at_last service_reading service_order service_total most_services (map (λ p. p.service_share) ports) (λ s. s.service.hops) (λ s. refl) 0 0
       (λ s. IsFineService EveryNetwork IsServed s.service)
       (length ticks + 0) (service_facts ports past) (omega (arith, long)) (rests.routers router within).services)

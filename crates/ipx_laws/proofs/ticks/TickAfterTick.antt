@@ -147,14 +147,14 @@ module _ (net : Internet) (laws : Layouts) (is : IsInternet net) (most_routes mo
       sent (all_both (λ s. IsBytes s.bytes) (IsSpoken foreign (up router) (λ j. P (at router j)) ports) sent bytes spoken)
 
   abbrev pub Lasts : ℕ → ℕ → History → Type 0
-  Lasts router had history = Endures net up foreign most_routes router had history
+  Lasts router had history = Endures 0 0 net up foreign most_routes router had history
 
   -- what is so while a tick goes on, with the seconds that are left of each router
   pub record Going (ticks : ℕ) (left : ℕ → ℕ) (q : Queued) : Type 0 where
     pub are : AreHistories net q.histories
     pub routers : (router had : ℕ) → router < length net → had + left router ≡ ticks → Lasts router had (history_of q.histories router)
     pub few : (router : ℕ) → router < length net → (left router ≤ 1) × (left router ≤ ticks)
-    pub waiting : AllByRecursion (Arrives net up foreign ticks) q.queue
+    pub waiting : AllByRecursion (Arrives 0 0 net up foreign ticks) q.queue
 
   -- ---- one event of a router
 
@@ -181,7 +181,7 @@ module _ (net : Internet) (laws : Layouts) (is : IsInternet net) (most_routes mo
     after = holding ports most_routes most_services now
 
     abbrev pub Told : ℕ → RipEntry → Type 0
-    Told j = RouteSaid net up foreign ticks (at router j)
+    Told j = RouteSaid 0 0 net up foreign ticks (at router j)
 
     pub lasted : Lasts router had past
     lasted =
@@ -221,10 +221,10 @@ module _ (net : Internet) (laws : Layouts) (is : IsInternet net) (most_routes mo
         routers = each_lasts;
         few = λ other inside. fewer other (going.few other inside) (cases_eq other router);
         waiting =
-            all-append (Arrives net up foreign ticks) queue (flat_map (deliveries_of net router) (sends_at net most_routes most_services histories router event)) going.waiting
-            (all_then (λ d. IsDelivery net d × Comes net up foreign (RouteSaid net up foreign ticks) d.to d.bytes) (Arrives net up foreign ticks)
+            all-append (Arrives 0 0 net up foreign ticks) queue (flat_map (deliveries_of net router) (sends_at net most_routes most_services histories router event)) going.waiting
+            (all_then (λ d. IsDelivery net d × Comes net up foreign (RouteSaid 0 0 net up foreign ticks) d.to d.bytes) (Arrives 0 0 net up foreign ticks)
             (λ d both. record { delivery = both.0; says = both.1 }) _
-            (all_come (RouteSaid net up foreign ticks) histories going.are router event on of_bytes spoken));
+            (all_come (RouteSaid 0 0 net up foreign ticks) histories going.are router event on of_bytes spoken));
       }
 
   -- ---- a second
@@ -258,7 +258,7 @@ module _ (net : Internet) (laws : Layouts) (is : IsInternet net) (most_routes mo
       (going : Going ticks left (record { histories = histories; queue = queue })) where
     pub second_lasts : Lasts router (suc (ticks - left router)) (history_of histories router ++ Second ∷ [])
     second_lasts =
-        second_endures net up foreign most_routes router (ticks - left router) (history_of histories router)
+        second_endures 0 0 net up foreign most_routes router (ticks - left router) (history_of histories router)
         (lasted ticks histories queue router Second left rest within tt tt others going)
 
     pub second_goes : Going ticks rest (queued net most_routes most_services (record { histories = histories; queue = queue }) router Second)
@@ -267,9 +267,9 @@ module _ (net : Internet) (laws : Layouts) (is : IsInternet net) (most_routes mo
         let count = suc (ticks - left router) in
         let soon_enough : ticks ≤ count + 1 = let s = soon ticks histories queue router Second left rest within tt tt others going in omega (arith, s) in
         event_goes ticks histories queue router Second left rest within tt tt others going (omega (arith, own)) (omega arith) second_lasts
-        (second_spoken (λ j. RouteSaid net up foreign ticks (at router j)) histories router going.are second_lasts.ups
-        (routes_said net up foreign most_routes router count ticks soon_enough (before_it ++ Second ∷ []) second_lasts)
-        (changes_said net up foreign most_routes router count ticks soon_enough (before_it ++ Second ∷ []) second_lasts
+        (second_spoken (λ j. RouteSaid 0 0 net up foreign ticks (at router j)) histories router going.are second_lasts.ups
+        (routes_said 0 0 net up foreign most_routes router count ticks soon_enough (before_it ++ Second ∷ []) second_lasts)
+        (changes_said 0 0 net up foreign most_routes router count ticks soon_enough (before_it ++ Second ∷ []) second_lasts
         (offers (routes_held (ports_of net router) most_routes before_it))))
 
   -- ---- a delivery
@@ -311,7 +311,7 @@ module _ (net : Internet) (laws : Layouts) (is : IsInternet net) (most_routes mo
 
   module _ (ticks : ℕ) (histories : List History) (queue : List Delivery) (d : Delivery) (left : ℕ → ℕ)
       (going : Going ticks left (record { histories = histories; queue = d ∷ queue })) where
-    abbrev first : Arrives net up foreign ticks d
+    abbrev first : Arrives 0 0 net up foreign ticks d
     first = going.waiting.0
 
     pub inside : d.to.router < length net
@@ -326,7 +326,7 @@ module _ (net : Internet) (laws : Layouts) (is : IsInternet net) (most_routes mo
 
     pub packet_lasts : Lasts d.to.router (ticks - left d.to.router) (history_of histories d.to.router ++ Packet d.to.port d.bytes ∷ [])
     packet_lasts =
-        packet_endures net up foreign most_routes d.to.router (ticks - left d.to.router) ticks d.to.port d.bytes (omega arith) first.says (history_of histories d.to.router) packet_lasted
+        packet_endures 0 0 net up foreign most_routes d.to.router (ticks - left d.to.router) ticks d.to.port d.bytes (omega arith) first.says (history_of histories d.to.router) packet_lasted
 
     pub delivery_goes : Going ticks left
         (queued net most_routes most_services (record { histories = histories; queue = queue }) d.to.router (Packet d.to.port d.bytes))
@@ -337,9 +337,9 @@ module _ (net : Internet) (laws : Layouts) (is : IsInternet net) (most_routes mo
         let soon_enough = soon ticks histories queue router (Packet d.to.port d.bytes) left left inside first.delivery.place first.delivery.bytes (λ other off. refl) going_on in
         event_goes ticks histories queue router (Packet d.to.port d.bytes) left left inside first.delivery.place first.delivery.bytes (λ other off. refl) going_on
         (omega arith) (omega arith) packet_lasts
-        (packet_spoken (λ j. RouteSaid net up foreign ticks (at router j)) (RouteSaid net up foreign ticks) histories going.are d first.delivery first.says packet_lasted.ups packet_lasts.ups
-        (λ m e silent. routes_said net up foreign most_routes router count ticks soon_enough before_it packet_lasted d.to.port)
-        (changes_said net up foreign most_routes router count ticks soon_enough (before_it ++ Packet d.to.port d.bytes ∷ []) packet_lasts
+        (packet_spoken (λ j. RouteSaid 0 0 net up foreign ticks (at router j)) (RouteSaid 0 0 net up foreign ticks) histories going.are d first.delivery first.says packet_lasted.ups packet_lasts.ups
+        (λ m e silent. routes_said 0 0 net up foreign most_routes router count ticks soon_enough before_it packet_lasted d.to.port)
+        (changes_said 0 0 net up foreign most_routes router count ticks soon_enough (before_it ++ Packet d.to.port d.bytes ∷ []) packet_lasts
         (offers (routes_held (ports_of net router) most_routes before_it))))
 
   -- ---- steps
@@ -430,8 +430,8 @@ module _ (net : Internet) (laws : Layouts) (is : IsInternet net) (most_routes mo
     pub routers : (router : ℕ) → router < length net → Lasts router ticks (history_of run.histories router)
     pub quiet : run.waiting ≡ []
 
-  none_waits : (ticks : ℕ) (waiting : List Waiting) → waiting ≡ [] → AllByRecursion (Arrives net up foreign ticks) (map (λ w. w.delivery) waiting)
-  none_waits ticks waiting none = subst (λ (ws : List Waiting). AllByRecursion (Arrives net up foreign ticks) (map (λ w. w.delivery) ws)) (sym none) tt
+  none_waits : (ticks : ℕ) (waiting : List Waiting) → waiting ≡ [] → AllByRecursion (Arrives 0 0 net up foreign ticks) (map (λ w. w.delivery) waiting)
+  none_waits ticks waiting none = subst (λ (ws : List Waiting). AllByRecursion (Arrives 0 0 net up foreign ticks) (map (λ w. w.delivery) ws)) (sym none) tt
 
   -- when a tick begins, and when it is over
   pub begins : (ticks : ℕ) (run : Run) (steps : List Step) → Rests ticks run → IsBusyTick net most_routes most_services run steps

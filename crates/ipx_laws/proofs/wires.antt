@@ -1,0 +1,6 @@
+-- Wires that lose, delay, reorder and repeat what is sent, and clocks that drift: what is so all the same.
+pub mod AnnouncedOnWires
+pub mod BeatAfterBeat
+pub mod FineOnWires
+pub mod GoneOnWires
+pub mod HomeOrOnward

@@ -1,0 +1,77 @@
+//! What becomes true of every internet in time over real wires, which lose, delay, reorder and repeat what is sent, and by clocks that drift.
+//!
+//! A beat is a second of the slowest clock: each router has one second in it, or more. What is sent lands within so many beats, its delay, or
+//! never; it may land any number of times, and in any order. Nothing need ever be quiet. What is gone, or announced, or real, is so whatever is
+//! lost; that tables are right asks that routers are heard.
+ghost use Rattle.std.specs.Prelude.{◌≡◌, ◌≢◌, ℕ, ◌+◌, ◌<◌, ◌≤◌, List, length};
+ghost use Rattle.std.specs.List.{AllByRecursion};
+ghost use Rattle.ipx_wire.specs.declared.network.Network.{Network};
+ghost use Rattle.ipx_router.specs.History.{History};
+ghost use Rattle.ipx_internet.specs.Internet.{Internet, IsInternet};
+ghost use Rattle.ipx_internet.specs.Queue.{Delivery};
+ghost use Rattle.ipx_internet.specs.Rounds.{IsDelivery};
+ghost use Rattle.ipx_internet.specs.Run.{AreHistories};
+ghost use Rattle.ipx_laws.specs.Announces.{AsksApart};
+ghost use Rattle.ipx_laws.specs.Meanwhile.{IsWithoutRoute, IsWithoutService, SaysOnly};
+ghost use Rattle.ipx_laws.specs.Tables.{routes_of, services_of};
+ghost use Rattle.ipx_laws.specs.WireAnnounces.{WasAnnounced};
+ghost use Rattle.ipx_laws.specs.Wires.{WireStep, still, flying, beats_of, KeepGone, AreBeats, EachWireStep, most_beats_gone, most_beats_flying};
+
+/// What is gone is gone everywhere after 2,880 beats and 15 delays, whatever was in the tables before, whatever is lost, late, doubled or
+/// overtaken, and whatever else happens: routers start and stop, ports go down and come up, hosts speak.
+///
+/// No router has a route to a network on which no port was up since then, if no packet of a host said that it is reached (`networks`); and no
+/// router has a service that no host said since then (`services`). What hosts may say is as in `gone_meanwhile`. If anything flies at first,
+/// forged packets too, it takes 18 delays and one beat more (`networks_whatever_flies`, `services_whatever_flies`).
+pub fn gone()
+    ensures networks { (net : Internet) (most_routes most_services delay : ℕ) (histories : List History) (beats : List (List WireStep)) (router : ℕ) (network : Network)
+        → IsInternet net → AreHistories net histories → AreBeats net beats → most_beats_gone delay ≤ length beats → router < length net
+        → KeepGone net most_routes most_services delay network (still histories) beats → EachWireStep (SaysOnly (IsWithoutRoute network)) beats
+        → AllByRecursion (λ r. r.network ≢ network) (routes_of net most_routes (beats_of net most_routes most_services delay (still histories) beats).histories router) }
+    ensures services { (net : Internet) (most_routes most_services delay : ℕ) (histories : List History) (beats : List (List WireStep)) (router : ℕ) (key : ℕ × List ℕ)
+        → IsInternet net → AreHistories net histories → AreBeats net beats → most_beats_gone delay ≤ length beats → router < length net
+        → EachWireStep (SaysOnly (IsWithoutService key)) beats
+        → AllByRecursion (λ s. (s.service.kind, s.service.name) ≢ key)
+        (services_of net most_services (beats_of net most_routes most_services delay (still histories) beats).histories router) }
+    ensures networks_whatever_flies { (net : Internet) (most_routes most_services delay : ℕ) (histories : List History) (deliveries : List Delivery)
+        (beats : List (List WireStep)) (router : ℕ) (network : Network)
+        → IsInternet net → AreHistories net histories → AllByRecursion (IsDelivery net) deliveries → AreBeats net beats
+        → most_beats_flying delay + most_beats_gone delay ≤ length beats → router < length net
+        → KeepGone net most_routes most_services delay network (flying histories deliveries) beats → EachWireStep (SaysOnly (IsWithoutRoute network)) beats
+        → AllByRecursion (λ r. r.network ≢ network)
+        (routes_of net most_routes (beats_of net most_routes most_services delay (flying histories deliveries) beats).histories router) }
+    ensures services_whatever_flies { (net : Internet) (most_routes most_services delay : ℕ) (histories : List History) (deliveries : List Delivery)
+        (beats : List (List WireStep)) (router : ℕ) (key : ℕ × List ℕ)
+        → IsInternet net → AreHistories net histories → AllByRecursion (IsDelivery net) deliveries → AreBeats net beats
+        → most_beats_flying delay + most_beats_gone delay ≤ length beats → router < length net → EachWireStep (SaysOnly (IsWithoutService key)) beats
+        → AllByRecursion (λ s. (s.service.kind, s.service.name) ≢ key)
+        (services_of net most_services (beats_of net most_routes most_services delay (flying histories deliveries) beats).histories router) }
+{
+    ipx_wire::laws::readings();
+    ipx_wire::laws::service_readings();
+    ipx_wire::laws::reread();
+    ipx_router::laws::packets();
+}
+
+/// Every service that a router has was announced by a host: after 2,880 beats and 15 delays it is one that a packet of a host said in them, with
+/// type, name and address as it said, and with no fewer hops, whatever was in the tables before, and whatever the wires do (`services`). The
+/// router to which that packet came heard it or sent it on. A host may ask what it likes, but a request for routes is not sent from the socket
+/// of SAP. If anything flies at first, forged packets too, it takes 18 delays and one beat more (`whatever_flies`).
+pub fn announced()
+    ensures services { (net : Internet) (most_routes most_services delay : ℕ) (histories : List History) (beats : List (List WireStep)) (router : ℕ)
+        → IsInternet net → AreHistories net histories → AreBeats net beats → most_beats_gone delay ≤ length beats → router < length net
+        → EachWireStep (SaysOnly AsksApart) beats
+        → AllByRecursion (λ s. WasAnnounced net most_routes most_services delay (still histories) beats s.service)
+        (services_of net most_services (beats_of net most_routes most_services delay (still histories) beats).histories router) }
+    ensures whatever_flies { (net : Internet) (most_routes most_services delay : ℕ) (histories : List History) (deliveries : List Delivery)
+        (beats : List (List WireStep)) (router : ℕ)
+        → IsInternet net → AreHistories net histories → AllByRecursion (IsDelivery net) deliveries → AreBeats net beats
+        → most_beats_flying delay + most_beats_gone delay ≤ length beats → router < length net → EachWireStep (SaysOnly AsksApart) beats
+        → AllByRecursion (λ s. WasAnnounced net most_routes most_services delay (flying histories deliveries) beats s.service)
+        (services_of net most_services (beats_of net most_routes most_services delay (flying histories deliveries) beats).histories router) }
+{
+    ipx_wire::laws::readings();
+    ipx_wire::laws::service_readings();
+    ipx_wire::laws::reread();
+    ipx_router::laws::packets();
+}
