@@ -18,3 +18,4 @@ pub mod Servers
 pub mod Staying
 pub mod Ticks
 pub mod Upkeep
+pub mod Wiring
