@@ -142,4 +142,4 @@ module _ (net : Internet) (laws : Layouts) (is : IsInternet net) (most_routes mo
       (history_of (beats_of net most_routes most_services delay (flying histories deliveries) beats).histories router)))
       (services_fine net laws is most_routes most_services delay slack histories are deliveries fly over beats all long router within EveryNetwork IsServed
       (ends net laws is most_routes most_services delay slack histories are deliveries fly over beats all long router within EveryNetwork IsServed
-      (λ at number on. tt) (beats_such net laws is most_routes most_services delay slack (flying histories deliveries) beats [] beats refl apart)))
+      (beats_such net laws is most_routes most_services delay slack (flying histories deliveries) beats [] beats refl apart)))

@@ -1,5 +1,5 @@
 -- Beats, one after the other: what is so of each router after so many seconds, and of each flight, stays so, if each event leaves it so.
-use Rattle.std.proofs.Common.{◌≡◌, ◌≢◌, refl, sym, ap, subst, get_or-set_same, ◌⊎◌, ℕ, zero, suc, ◌+◌, ◌-◌, ◌<◌, ◌≤◌, nat_le, true, false, Bool, if◌then◌else◌, List, [], ◌∷◌, ◌++◌, length, map, flat_map, Option, None, Some, slice_get, inl, inr, arith}
+use Rattle.std.proofs.Common.{◌≡◌, ◌≢◌, refl, sym, ap, subst, ◌⊎◌, ℕ, zero, suc, ◌+◌, ◌-◌, ◌<◌, ◌≤◌, nat_le, true, false, Bool, if◌then◌else◌, List, [], ◌∷◌, ◌++◌, length, map, flat_map, Option, None, Some, slice_get, inl, inr, arith}
 use Rattle.std.specs.List.{AllByRecursion}
 use Rattle.std.proofs.lemmas.Bool.{cases_lt, leb-true}
 use Rattle.ipx_wire.specs.Piece.{IsBytes}
@@ -35,11 +35,6 @@ along_first : (net : Internet) (most_routes most_services delay : ℕ) (Is : Wir
     → Along net most_routes most_services delay Is w steps → Is w
 along_first net most_routes most_services delay Is w [] along = along
 along_first net most_routes most_services delay Is w (step ∷ steps) along = along.0
-
-pub each_first : (net : Internet) (most_routes most_services delay : ℕ) (Is : Wires → Type 0) (w : Wires) (beats : List (List WireStep)) → 1 ≤ length beats
-    → EachBeat net most_routes most_services delay (Along net most_routes most_services delay Is) w beats → Is w
-each_first net most_routes most_services delay Is w [] some each = absurd (omega (arith, some))
-each_first net most_routes most_services delay Is w (steps ∷ beats) some each = along_first net most_routes most_services delay Is w steps each.0
 
 -- and says something else
 pub along_then : (net : Internet) (most_routes most_services delay : ℕ) (Is So : Wires → Type 0) → ((w : Wires) → Is w → So w) → (w : Wires) (steps : List WireStep)
@@ -78,7 +73,7 @@ module _ (net : Internet) (laws : Layouts) (is : IsInternet net) (most_routes mo
 
   -- what is asked of each event: of one that comes from outside, and of a flight that lands in time
   pub record Keeps : Type 0 where
-    pub begins : (histories : List History) (router : ℕ) → AreHistories net histories → Good histories → router < length net → Lasts router 0 (history_of histories router)
+    pub weakens : (router : ℕ) (history : History) → Lasts router 1 history → Lasts router 0 history
     pub delivers : (f : Flight) → Flies f → IsDelivery net f.delivery
     pub occurs_leaves : (beats : ℕ) (histories : List History) (router : ℕ) (event : Event) → Place histories router event → Arises beats histories router event
         → Leaves beats histories router event
@@ -130,16 +125,16 @@ module _ (net : Internet) (laws : Layouts) (is : IsInternet net) (most_routes mo
       are_now : AreHistories net now
       are_now = histories_more net w.histories router event going.are place.within place.on place.of_bytes
 
-      itself : history_of now router ≡ past ++ event ∷ []
-      itself = grind (arith, get_or-set_same, listed)
-
       -- with a second less before it
       lasted : (had : ℕ) → had ≤ w.beats + more router → had ≤ suc w.beats → Lasts router had (past ++ event ∷ [])
       lasted had most few = elim (cases_lt had (passed event 0)) [
         | inl less ↦
-            let none : had ≡ 0 = omega (arith, less, passed_few event) in
-            subst (λ (n : ℕ). Lasts router n (past ++ event ∷ [])) (sym none)
-            (subst (λ (h : History). Lasts router 0 h) itself (keeps.begins now router are_now place.good_now place.within))
+            let none : 0 ≡ had = omega (arith, less, passed_few event) in
+            let one : passed event 0 ≡ 1 = omega (arith, less, passed_few event) in
+            subst (λ (n : ℕ). Lasts router n (past ++ event ∷ [])) none
+            (keeps.weakens router (past ++ event ∷ [])
+            (subst (λ (n : ℕ). Lasts router n (past ++ event ∷ [])) one
+            (leaves 0 (omega (arith, one)) (going.routers router 0 place.within (omega arith) (omega arith)))))
         | inr some ↦
             let before = had - passed event 0 in
             let sum : passed event before ≡ had = omega (arith, passed_more event before, some) in
@@ -277,13 +272,14 @@ module _ (net : Internet) (laws : Layouts) (is : IsInternet net) (most_routes mo
         subst (λ (n : ℕ). Going n (λ router. 0) (beats_of net most_routes most_services delay next beats)) sum
         (beats_go (suc so_far) beats next are.1 such.1 (beat_goes so_far steps w are.0 such.0 going))
 
-    pub starts : (histories : List History) (deliveries : List Delivery) → AreHistories net histories → Good histories
+    pub starts : (histories : List History) (deliveries : List Delivery) → AreHistories net histories
+        → ((router : ℕ) → router < length net → Lasts router 0 (history_of histories router))
         → AllByRecursion (λ d. Flies (record { delivery = d; sent = 0 })) deliveries → Going 0 (λ router. 0) (flying histories deliveries)
-    starts histories deliveries are good fly = record {
+    starts histories deliveries are first fly = record {
       count = refl;
       are = are;
       routers = λ router had inside most few.
           let none : 0 ≡ had = omega (arith, most) in
-          subst (λ (n : ℕ). Lasts router n (history_of histories router)) none (keeps.begins histories router are good inside);
+          subst (λ (n : ℕ). Lasts router n (history_of histories router)) none (first router inside);
       flights = all_mapped Flies (λ d. record { delivery = d; sent = 0 }) deliveries fly;
     }

@@ -269,7 +269,7 @@ module _ (delay slack : ℕ) (IsFine : Network → Type 0) (IsServed : Service �
 
     pub keeps : Keeps net laws is most_routes most_services delay Lasts Flies Arises Good
     keeps = record {
-      begins = λ histories router are good within. abides_first delay slack IsFine IsServed (ports_of net router) most_routes most_services (history_of histories router);
+      weakens = λ router history old. abides_first delay slack IsFine IsServed (ports_of net router) most_routes most_services history;
       delivers = λ f flies. flies.delivery;
       occurs_leaves = λ beats histories router event at arises. outside_leaves beats histories router event at arises;
       occurs_sends = λ beats histories router event at arises. outside_sends beats histories router event at arises;

@@ -19,9 +19,9 @@ use Rattle.ipx_laws.specs.Gone.{IsGone}
 use Rattle.ipx_laws.specs.Meanwhile.{IsWithoutRoute, IsWithoutService, SaysOnly}
 use Rattle.ipx_laws.specs.Wires.{Wires, WireStep, flying, beaten, wired, wires_of, beats_of, KeepGone, AreBeats, EachWireStep, EachBeat, Along, most_beats_gone, most_beats_flying}
 use Rattle.ipx_laws.proofs.records.RecordsGrowOld.{at_last}
-use Rattle.ipx_laws.proofs.ticks.FineOrSoonEnded.{IsFineService}
+use Rattle.ipx_laws.proofs.ticks.FineOrSoonEnded.{IsFineService, abides_first}
 use Rattle.ipx_laws.proofs.ticks.GoneWhateverHappens.{EveryNetwork, EveryService, OtherNetwork, OtherService, routeless, serviceless, gone_stays}
-use Rattle.ipx_laws.proofs.wires.BeatAfterBeat.{Going, beats_go, starts, each_first}
+use Rattle.ipx_laws.proofs.wires.BeatAfterBeat.{Going, beats_go, starts}
 use Rattle.ipx_laws.proofs.wires.FineOnWires.{Lasts, Flies, Arises, Good, Such, keeps, such_beats, any_flies}
 
 -- nothing is asked of wires
@@ -70,16 +70,16 @@ module _ (net : Internet) (laws : Layouts) (is : IsInternet net) (most_routes mo
             all_then (IsDelivery net) (λ d. Flies delay slack IsFine IsServed net laws is most_routes most_services (record { delivery = d; sent = 0 }))
             (any_flies delay slack IsFine IsServed net laws is most_routes most_services room) deliveries fly
 
-    pub ends : Good delay slack IsFine IsServed net laws is most_routes most_services histories
-        → EachBeat net most_routes most_services delay (Such delay slack IsFine IsServed net laws is most_routes most_services) (flying histories deliveries) beats → Ends
-    ends good such =
+    pub ends : EachBeat net most_routes most_services delay (Such delay slack IsFine IsServed net laws is most_routes most_services) (flying histories deliveries) beats → Ends
+    ends such =
         let kept = keeps delay slack IsFine IsServed net laws is most_routes most_services in
         beats_go net laws is most_routes most_services delay (Lasts delay slack IsFine IsServed net laws is most_routes most_services)
         (Flies delay slack IsFine IsServed net laws is most_routes most_services) (Arises delay slack IsFine IsServed net laws is most_routes most_services)
         (Good delay slack IsFine IsServed net laws is most_routes most_services) kept 0 beats (flying histories deliveries) all such
         (starts net laws is most_routes most_services delay (Lasts delay slack IsFine IsServed net laws is most_routes most_services)
         (Flies delay slack IsFine IsServed net laws is most_routes most_services) (Arises delay slack IsFine IsServed net laws is most_routes most_services)
-        (Good delay slack IsFine IsServed net laws is most_routes most_services) kept histories deliveries are good begins_fly)
+        (Good delay slack IsFine IsServed net laws is most_routes most_services) kept histories deliveries are
+        (λ other inside. abides_first delay slack IsFine IsServed (ports_of net other) most_routes most_services (history_of histories other)) begins_fly)
 
     pub routes_fine : Ends → AllByRecursion (λ r. IsFine r.network) (offers (routes_held ports most_routes past))
     routes_fine end =
@@ -97,8 +97,7 @@ module _ (net : Internet) (laws : Layouts) (is : IsInternet net) (most_routes mo
   pub no_route : (network : Network) → KeepGone net most_routes most_services delay network (flying histories deliveries) beats
       → EachWireStep (SaysOnly (IsWithoutRoute network)) beats → AllByRecursion (λ r. r.network ≢ network) (offers (routes_held ports most_routes past))
   no_route network gone says =
-      let first = each_first net most_routes most_services delay (λ now. IsGone net now.histories network) (flying histories deliveries) beats (omega (arith, long)) gone in
-      routes_fine (OtherNetwork delay slack network) EveryService (ends (OtherNetwork delay slack network) EveryService (gone_stays net network histories first)
+      routes_fine (OtherNetwork delay slack network) EveryService (ends (OtherNetwork delay slack network) EveryService
       (such_beats delay slack (OtherNetwork delay slack network) EveryService net laws is most_routes most_services (IsWithoutRoute network)
       (routeless delay slack network) (λ now. IsGone net now.histories network) (λ now gone. gone_stays net network now.histories gone)
       (flying histories deliveries) beats gone says))
@@ -110,7 +109,7 @@ module _ (net : Internet) (laws : Layouts) (is : IsInternet net) (most_routes mo
   no_such_service key says =
       all_then (λ s. IsFineService EveryNetwork (OtherService delay slack key) s.service) (λ s. (s.service.kind, s.service.name) ≢ key) (λ s fine. fine.2)
       (offers (services_held ports most_services past))
-      (services_fine EveryNetwork (OtherService delay slack key) (ends EveryNetwork (OtherService delay slack key) (λ at number on. tt)
+      (services_fine EveryNetwork (OtherService delay slack key) (ends EveryNetwork (OtherService delay slack key)
       (such_beats delay slack EveryNetwork (OtherService delay slack key) net laws is most_routes most_services (IsWithoutService key)
       (serviceless delay slack key) AnyWires (λ now any at number on. tt) (flying histories deliveries) beats
       (each_any net most_routes most_services delay (flying histories deliveries) beats) says)))
