@@ -1,6 +1,8 @@
 -- Wires that lose, delay, reorder and repeat what is sent, and clocks that drift: what is so all the same.
 pub mod AnnouncedOnWires
 pub mod BeatAfterBeat
+pub mod EarlyFlights
 pub mod FineOnWires
 pub mod GoneOnWires
 pub mod HomeOrOnward
+pub mod RealOnWires

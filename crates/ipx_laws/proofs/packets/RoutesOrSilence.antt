@@ -210,7 +210,7 @@ module _ (foreign : List Network) (laws : Layouts) (ports : List Port) (are : Al
   module _ (changed : (j : ℕ) → AllByRecursion (P j) (news ports before.routes after.routes j)) (advertised : (m : Heard)
       → heard_after ports history number bytes ≡ Some m → TellsNoRoute m → AllByRecursion (P number) (told ports before.up before.routes number)) where
     -- changes
-    changes_spoken : (m : Heard) → heard_after ports history number bytes ≡ Some m → IsAnswering m → AllByRecursion Spoken sent
+    pub changes_spoken : (m : Heard) → heard_after ports history number bytes ≡ Some m → IsAnswering m → AllByRecursion Spoken sent
     changes_spoken m e answers =
         all_then (IsCast after.up P AnyOne ports) Spoken (cast_spoken foreign after.up P AnyOne ports) sent
         (answered laws ports are most_routes most_services history on of_bytes number bytes within are_bytes P AnyOne changed (λ j. anything _) m e answers)

@@ -1,15 +1,19 @@
 -- What a router has and says while time passes and packets come: routes to networks off a list are of real ways, or so old that they soon end,
 -- and what it says of them too. Hosts may tell of routes to the networks of the list.
-use Rattle.std.proofs.Common.{◌≡◌, ◌≢◌, refl, sym, subst, ◌⊎◌, ℕ, suc, ◌+◌, ◌*◌, ◌<◌, ◌≤◌, ◌==◌, true, false, List, [], ◌∷◌, ◌++◌, map, Option, Some, None, Ok, inl, inr, arith, append-nil, rules}
+use Rattle.std.proofs.Common.{◌≡◌, ◌≢◌, refl, sym, ◌∙◌, subst, ◌⊎◌, ℕ, suc, ◌+◌, ◌*◌, ◌<◌, ◌≤◌, ◌==◌, true, false, List, [], ◌∷◌, ◌++◌, map, Option, Some, None, Ok, inl, inr, arith, append-nil, rules}
 use Rattle.std.specs.List.{AllByRecursion}
 use Rattle.std.proofs.lemmas.Bool.{cases_Bool, eqb-false, both_ways}
 use Rattle.ipx_table.specs.Facts.{Fact}
 use Rattle.ipx_wire.specs.Crossed.{is_among}
 use Rattle.ipx_wire.specs.Packet.{Parts, packet_of}
 use Rattle.ipx_wire.specs.declared.network.Network.{Network}
+use Rattle.ipx_wire.specs.declared.address.Address.{Address}
+use Rattle.ipx_wire.specs.declared.node.Node.{Node}
+use Rattle.ipx_wire.specs.declared.rip.Operation.{Operation}
+use Rattle.ipx_wire.specs.declared.rip.Operation.TheVariants.{Request, Response}
 use Rattle.ipx_wire.specs.declared.rip.RipEntry.{RipEntry}
 use Rattle.ipx_router.specs.Facts.{route_offer, routes_offered, routes_heard, heard_after, route_facts, route_facts_of, routes_held, offers}
-use Rattle.ipx_router.specs.Heard.{Heard, heard_in}
+use Rattle.ipx_router.specs.Heard.{Heard, HeardRip, HeardSap, heard_in}
 use Rattle.ipx_router.specs.History.{History, Second, Packet, running, ports_up}
 use Rattle.ipx_router.specs.News.{news}
 use Rattle.ipx_router.specs.Numbers.{unreachable}
@@ -121,10 +125,47 @@ module _ (delay slack : ℕ) (net : Internet) (up : ℕ → List ℕ) (foreign :
 
     -- ---- a packet
 
+    abbrev pub RouteOldBy : ℕ → RouteOffer → Type 0
+    RouteOldBy =
+        IsOldOffer route_reading network_order network_total most_routes (map (λ p. p.route_share) ports) (λ r. r.hops) (λ r. refl) delay slack (Fine net up foreign router)
+
+    -- if all that is heard of it is fine or old enough
+    pub heard_endures : (had number : ℕ) (bytes : List ℕ) (history : History) → Endures had history
+        → ((o : Option Heard) → heard_after ports history number bytes ≡ o → AllByRecursion (OffersOf (RouteOldBy had)) (routes_heard ports number o))
+        → Endures had (history ++ Packet number bytes ∷ [])
+    heard_endures had number bytes history endures old = record {
+      routes =
+          subst (λ (fs : List (Fact RouteOffer)). RoutesAged had fs) (sym (facts_from-more (route_facts_of ports) [] history (Packet number bytes)))
+          (after_offers route_reading network_order network_total most_routes (map (λ p. p.route_share) ports) (λ r. r.hops) (λ r. refl) delay slack
+          (Fine net up foreign router) had (routes_heard ports number (heard_after ports history number bytes)) (route_facts ports history)
+          (old (heard_after ports history number bytes) refl) endures.routes);
+      ups = ports_stay ports history (Packet number bytes) refl refl (λ port. refl) (λ port. refl) ∙ endures.ups;
+    }
+
+    -- where any offer is old enough, any packet may come
+    pub soon_endures : (had number : ℕ) (bytes : List ℕ) (history : History) → had ≤ slack → Endures had history → Endures had (history ++ Packet number bytes ∷ [])
+    soon_endures had number bytes history soon endures = heard_endures had number bytes history endures (λ o e. any o)
+      where
+        each : (node : Node) (entries : List RipEntry) → AllByRecursion (OffersOf (RouteOldBy had)) (routes_offered ports number node entries)
+        each node [] = tt
+        each node (e ∷ entries) = elim (cases_Bool (takes_no_route ports e.network)) [
+          | inl none ↦ rw none (each node entries)
+          | inr taken ↦ rw taken ((λ near. inr (omega (arith, soon))), each node entries)
+        ]
+
+        by : (source : Address) (operation : Operation) (entries : List RipEntry)
+            → AllByRecursion (OffersOf (RouteOldBy had)) (elim operation [ Response ↦ routes_offered ports number source.node entries | Request ↦ [] ])
+        by source Response entries = each source.node entries
+        by source Request entries = tt
+
+        any : (o : Option Heard) → AllByRecursion (OffersOf (RouteOldBy had)) (routes_heard ports number o)
+        any None = tt
+        any (Some (HeardSap source sap)) = tt
+        any (Some (HeardRip source rip)) = by source rip.operation rip.entries
+
     module _ (had begun : ℕ) (number : ℕ) (bytes : List ℕ) (late : had ≤ delay + begun) (says : Comes net up foreign (RouteSaid begun) (record { router = router; port = number }) bytes) where
       abbrev RouteOld : RouteOffer → Type 0
-      RouteOld =
-          IsOldOffer route_reading network_order network_total most_routes (map (λ p. p.route_share) ports) (λ r. r.hops) (λ r. refl) delay slack (Fine net up foreign router) had
+      RouteOld = RouteOldBy had
 
       routes_old : (from : Place) → Reaches net up from (record { router = router; port = number }) → is_up (up router) number ≡ true → (entries : List RipEntry)
           → AllByRecursion (RouteSaid begun from) entries → AllByRecursion (OffersOf RouteOld) (routes_offered ports number (port_of net from).node entries)
@@ -169,7 +210,7 @@ module _ (delay slack : ℕ) (net : Internet) (up : ℕ → List ℕ) (foreign :
             page_old on came.packet m came.read (near_in (port_at ports number) came.packet m came.near) (heard_message ports history number bytes m e) says
 
         pub packet_endures : Endures had (history ++ Packet number bytes ∷ [])
-        packet_endures = search (rules, facts_from-more, after_offers, network_total, old_heard, ports_stay)
+        packet_endures = heard_endures had number bytes history endures old_heard
 
     -- ---- what it says
 

@@ -48,7 +48,7 @@ module _ (net : Internet) (laws : Layouts) (is : IsInternet net) (most_routes mo
   -- ---- one event of a router, when so many beats have ended
 
   -- where it happens
-  pub record Place (histories : List History) (router : ℕ) (event : Event) : Type 0 where
+  pub record Happening (histories : List History) (router : ℕ) (event : Event) : Type 0 where
     pub are : AreHistories net histories
     pub within : router < length net
     pub on : IsOnPort (ports_of net router) event
@@ -75,13 +75,13 @@ module _ (net : Internet) (laws : Layouts) (is : IsInternet net) (most_routes mo
   pub record Keeps : Type 0 where
     pub weakens : (router : ℕ) (history : History) → Lasts router 1 history → Lasts router 0 history
     pub delivers : (f : Flight) → Flies f → IsDelivery net f.delivery
-    pub occurs_leaves : (beats : ℕ) (histories : List History) (router : ℕ) (event : Event) → Place histories router event → Arises beats histories router event
+    pub occurs_leaves : (beats : ℕ) (histories : List History) (router : ℕ) (event : Event) → Happening histories router event → Arises beats histories router event
         → Leaves beats histories router event
-    pub occurs_sends : (beats : ℕ) (histories : List History) (router : ℕ) (event : Event) → Place histories router event → Arises beats histories router event
+    pub occurs_sends : (beats : ℕ) (histories : List History) (router : ℕ) (event : Event) → Happening histories router event → Arises beats histories router event
         → Sends beats histories router event
-    pub lands_leaves : (beats : ℕ) (histories : List History) (f : Flight) → Place histories f.delivery.to.router (arrival f) → Flies f → beats ≤ f.sent + delay
+    pub lands_leaves : (beats : ℕ) (histories : List History) (f : Flight) → Happening histories f.delivery.to.router (arrival f) → Flies f → beats ≤ f.sent + delay
         → Leaves beats histories f.delivery.to.router (arrival f)
-    pub lands_sends : (beats : ℕ) (histories : List History) (f : Flight) → Place histories f.delivery.to.router (arrival f) → Flies f → beats ≤ f.sent + delay
+    pub lands_sends : (beats : ℕ) (histories : List History) (f : Flight) → Happening histories f.delivery.to.router (arrival f) → Flies f → beats ≤ f.sent + delay
         → Sends beats histories f.delivery.to.router (arrival f)
 
   -- ---- while a beat goes on
@@ -109,7 +109,7 @@ module _ (net : Internet) (laws : Layouts) (is : IsInternet net) (most_routes mo
 
   module _ (keeps : Keeps) where
     -- one event
-    module _ (w : Wires) (seconds more : ℕ → ℕ) (router : ℕ) (event : Event) (place : Place w.histories router event)
+    module _ (w : Wires) (seconds more : ℕ → ℕ) (router : ℕ) (event : Event) (place : Happening w.histories router event)
         (leaves : Leaves w.beats w.histories router event) (sends : Sends w.beats w.histories router event)
         (own : more router ≡ passed event 0 + seconds router) (others : (other : ℕ) → other ≢ router → more other ≡ seconds other)
         (going : Going w.beats seconds w) where
@@ -174,7 +174,7 @@ module _ (net : Internet) (laws : Layouts) (is : IsInternet net) (most_routes mo
     counted : (router : ℕ) (event : Event) (other : ℕ) → other ≢ router → seconds_of other (Happens router event ∷ []) ≡ 0
     counted router event other off = second_there router other event [] off
 
-    event_counts : (w : Wires) (seconds : ℕ → ℕ) (router : ℕ) (event : Event) → Place w.histories router event
+    event_counts : (w : Wires) (seconds : ℕ → ℕ) (router : ℕ) (event : Event) → Happening w.histories router event
         → Leaves w.beats w.histories router event → Sends w.beats w.histories router event → Going w.beats seconds w
         → Going w.beats (λ other. seconds_of other (Happens router event ∷ []) + seconds other) (occurs net most_routes most_services delay w router event)
     event_counts w seconds router event place leaves sends going =
@@ -193,7 +193,7 @@ module _ (net : Internet) (laws : Layouts) (is : IsInternet net) (most_routes mo
           by true e good_now =
               let delivery = keeps.delivers f flies in
               let timely = leb-true w.beats (f.sent + delay) e in
-              let place : Place w.histories f.delivery.to.router (arrival f) = record {
+              let place : Happening w.histories f.delivery.to.router (arrival f) = record {
                 are = going.are;
                 within = there net laws is most_routes most_services w.histories going.are f.delivery delivery;
                 on = delivery.place;
@@ -216,7 +216,7 @@ module _ (net : Internet) (laws : Layouts) (is : IsInternet net) (most_routes mo
         → Good (wired net most_routes most_services delay w step).histories → Going w.beats seconds w
         → Going w.beats (λ router. seconds_of router (as_step step ∷ []) + seconds router) (wired net most_routes most_services delay w step)
     step_counts w seconds (Occurs router event) (within, on, of_bytes) arises good good_now going =
-        let place : Place w.histories router event = record { are = going.are; within = within; on = on; of_bytes = of_bytes; good = good; good_now = good_now } in
+        let place : Happening w.histories router event = record { are = going.are; within = within; on = on; of_bytes = of_bytes; good = good; good_now = good_now } in
         event_counts w seconds router event place (keeps.occurs_leaves w.beats w.histories router event place arises)
         (keeps.occurs_sends w.beats w.histories router event place arises) going
     step_counts w seconds (Lands which) is_step arises good good_now going =

@@ -36,7 +36,8 @@ use Rattle.ipx_laws.proofs.records.RecordsGrowOld.{passed}
 use Rattle.ipx_laws.proofs.ticks.BusyTickAfterTick.{passed_more}
 use Rattle.ipx_laws.proofs.ticks.FineOrSoonEnded.{IsSoon, RouteSaid, EntrySaid, RipAsks, Asks, RipSaid, Said, Tells, EventTells, Abides, said_asks, abides_first, event_abides}
 use Rattle.ipx_laws.proofs.ticks.SaysFineOrSoonEnded.{EventAsks, tells_asks, event_tells}
-use Rattle.ipx_laws.proofs.wires.BeatAfterBeat.{Place, Leaves, Sends, Keeps, StepsArise, AreSuch, arrival, along_then}
+use Rattle.ipx_laws.proofs.wires.BeatAfterBeat.{Happening, Leaves, Sends, Keeps, StepsArise, AreSuch, arrival, along_then}
+use Rattle.ipx_laws.proofs.wires.EarlyFlights.{IsEarly, early_soon, early_onward, early_first}
 use Rattle.ipx_laws.proofs.wires.HomeOrOnward.{IsApart, IsHome, home_moves, Home, Passed, home_or_onward}
 
 module _ (delay slack : ℕ) (IsFine : Network → Type 0) (IsServed : Service → Type 0) where
@@ -54,16 +55,8 @@ module _ (delay slack : ℕ) (IsFine : Network → Type 0) (IsServed : Service �
   abbrev pub IsHarmless : List ℕ → Type 0
   IsHarmless bytes = (begun : ℕ) → Telling begun bytes
 
-  -- what flew at first, and came through that many routers since, so that it was sent soon
-  pub record IsEarly (bytes : List ℕ) (sent : ℕ) : Type 0 where
-    pub through : ℕ
-    pub few : through ≤ most_routers
-    pub soon : sent ≤ through * delay
-    pub control : (p : Parts) → packet_of bytes ≡ Ok p → through ≤ p.header.control
-    pub room : most_beats_flying delay ≤ slack
-
   abbrev pub Speaks : Port → List ℕ → ℕ → Type 0
-  Speaks port bytes sent = IsSaidThen port bytes sent ⊎ (IsHarmless bytes ⊎ IsEarly bytes sent)
+  Speaks port bytes sent = IsSaidThen port bytes sent ⊎ (IsHarmless bytes ⊎ IsEarly delay slack bytes sent)
 
   -- what is early says what it likes
   early_says : (begun : ℕ) → delay + begun ≤ slack → (m : Heard) → Said delay slack IsFine IsServed begun m
@@ -75,15 +68,6 @@ module _ (delay slack : ℕ) (IsFine : Network → Type 0) (IsServed : Service �
   early_says begun soon (HeardSap source (Query nearest kind)) = inr (λ e near. inr (omega (arith, soon)))
   early_says begun soon (HeardSap source (SapResponse nearest entries)) =
       all_of (EntrySaid delay slack IsFine IsServed begun) (λ e near name same. inr (omega (arith, soon))) entries
-
-  -- when it lands
-  early_soon : (bytes : List ℕ) (sent beats : ℕ) → IsEarly bytes sent → beats ≤ sent + delay → delay + suc beats ≤ slack
-  early_soon bytes sent beats early timely =
-      let through = early.through in
-      let most : through * delay ≤ most_routers * delay = mul-le-mul_right {m = through} {n = most_routers} delay early.few in
-      let room = early.room in
-      let soon = early.soon in
-      omega (arith, most, room, soon, timely)
 
   -- what a router asks isn't answered to the other process
   apart_asks : (begun : ℕ) (m : Heard) → IsApart m → Asks delay slack IsFine IsServed begun m
@@ -98,23 +82,6 @@ module _ (delay slack : ℕ) (IsFine : Network → Type 0) (IsServed : Service �
   home_asks : (port : Port) (bytes : List ℕ) (begun : ℕ) → IsHome port bytes → (m : Heard) → message_of bytes ≡ Some m → Asks delay slack IsFine IsServed begun m
   home_asks port bytes begun home m e =
       apart_asks begun m (home.apart m (message_heard home.packet m (of_packet bytes home.packet m home.read e)))
-
-  -- what is sent on of what came early is early
-  early_onward : (port : Port) (came sent : List ℕ) (then beats : ℕ) → IsEarly came then → beats ≤ then + delay → IsOnward port came sent → IsEarly sent beats
-  early_onward port came sent then beats early timely on =
-      let before = early.control on.packet on.read in
-      let few = on.few in
-      let soon = early.soon in
-      record {
-        through = suc early.through;
-        few = omega (arith, before, few);
-        soon = omega (arith, soon, timely);
-        control = λ p read.
-            let same : p ≡ on.further = one_read (packet_of sent) p on.further read on.reread in
-            let more = on.more in
-            subst (λ (q : Parts). suc early.through ≤ q.header.control) (sym same) (omega (arith, before, more));
-        room = early.room;
-      }
 
   module _ (net : Internet) (laws : Layouts) (is : IsInternet net) (most_routes most_services : ℕ) where
     abbrev pub Lasts : ℕ → ℕ → History → Type 0
@@ -134,7 +101,7 @@ module _ (delay slack : ℕ) (IsFine : Network → Type 0) (IsServed : Service �
     Good histories = (router number : ℕ) → is_up (ups net histories router) number ≡ true → IsFine (port_at (ports_of net router) number).network
 
     abbrev At : List History → ℕ → Event → Type 0
-    At = Place net laws is most_routes most_services delay Lasts Flies Arises Good
+    At = Happening net laws is most_routes most_services delay Lasts Flies Arises Good
 
     -- ---- an event
 
@@ -168,7 +135,7 @@ module _ (delay slack : ℕ) (IsFine : Network → Type 0) (IsServed : Service �
 
       -- what it sends flies, if what is sent on does
       sends : EventAsks delay slack IsFine IsServed (suc beats) ports most_routes most_services past event
-          → ((s : Sent) → sents ≢ [] → Passed laws ports event s → IsHarmless s.bytes ⊎ IsEarly s.bytes beats)
+          → ((s : Sent) → sents ≢ [] → Passed laws ports event s → IsHarmless s.bytes ⊎ IsEarly delay slack s.bytes beats)
           → Sends net laws is most_routes most_services delay Lasts Flies Arises Good beats histories router event
       sends asks goes_on old new =
           let parts = home_or_onward laws ports (ports_at net is router) most_routes most_services past (at.are.on_ports router) (at.are.of_bytes router) event at.on at.of_bytes in
@@ -243,7 +210,7 @@ module _ (delay slack : ℕ) (IsFine : Network → Type 0) (IsServed : Service �
           by (inr (inl harmless)) = leaves beats histories router event at (suc beats) (omega arith) (λ accepted. harmless (suc beats))
           by (inr (inr early)) =
               leaves beats histories router event at (suc beats) (omega arith)
-              (λ accepted m e. early_says (suc beats) (early_soon bytes f.sent beats early timely) m)
+              (λ accepted m e. early_says (suc beats) (early_soon delay slack bytes f.sent beats early timely) m)
 
       lands_sends : Sends net laws is most_routes most_services delay Lasts Flies Arises Good beats histories router event
       lands_sends = by flies.speaks
@@ -261,11 +228,11 @@ module _ (delay slack : ℕ) (IsFine : Network → Type 0) (IsServed : Service �
               (tells_asks delay slack IsFine IsServed (suc beats) (ports_of net router) most_routes most_services (history_of histories router) event (λ accepted. harmless (suc beats)))
               (λ s some onward. inl (λ begun m e. harmless begun m (sent_on_message port bytes s.bytes onward m e)))
           by (inr (inr early)) =
-              let soon = early_soon bytes f.sent beats early timely in
+              let soon = early_soon delay slack bytes f.sent beats early timely in
               sends beats histories router event at (
                 (λ m e. said_asks delay slack IsFine IsServed (suc beats) m (early_says (suc beats) soon m)),
                 (λ s some onward m e. early_says (suc beats) soon m),
-              ) (λ s some onward. inr (early_onward port bytes s.bytes f.sent beats early timely onward))
+              ) (λ s some onward. inr (early_onward delay slack port bytes s.bytes f.sent beats early timely onward))
 
     pub keeps : Keeps net laws is most_routes most_services delay Lasts Flies Arises Good
     keeps = record {
@@ -281,7 +248,7 @@ module _ (delay slack : ℕ) (IsFine : Network → Type 0) (IsServed : Service �
     pub any_flies : most_beats_flying delay ≤ slack → (d : Delivery) → IsDelivery net d → Flies (record { delivery = d; sent = 0 })
     any_flies room d delivery = record {
       delivery = delivery;
-      speaks = inr (inr (record { through = 0; few = omega arith; soon = omega arith; control = λ p read. omega arith; room = room }));
+      speaks = inr (inr (early_first delay slack room d.bytes));
     }
 
     -- ---- packets of hosts that do no harm

@@ -3,17 +3,21 @@
 //! A beat is a second of the slowest clock: each router has one second in it, or more. What is sent lands within so many beats, its delay, or
 //! never; it may land any number of times, and in any order. Nothing need ever be quiet. What is gone, or announced, or real, is so whatever is
 //! lost; that tables are right asks that routers are heard.
-ghost use Rattle.std.specs.Prelude.{◌≡◌, ◌≢◌, ℕ, ◌+◌, ◌<◌, ◌≤◌, List, length};
+ghost use Rattle.std.specs.Prelude.{◌≡◌, ◌≢◌, ℕ, ◌+◌, ◌<◌, ◌≤◌, true, List, length};
 ghost use Rattle.std.specs.List.{AllByRecursion};
 ghost use Rattle.ipx_wire.specs.declared.network.Network.{Network};
 ghost use Rattle.ipx_router.specs.History.{History};
+ghost use Rattle.ipx_router.specs.Port.{is_up};
 ghost use Rattle.ipx_internet.specs.Internet.{Internet, IsInternet};
 ghost use Rattle.ipx_internet.specs.Queue.{Delivery};
 ghost use Rattle.ipx_internet.specs.Rounds.{IsDelivery};
 ghost use Rattle.ipx_internet.specs.Run.{AreHistories};
 ghost use Rattle.ipx_laws.specs.Announces.{AsksApart};
-ghost use Rattle.ipx_laws.specs.Meanwhile.{IsWithoutRoute, IsWithoutService, SaysOnly};
+ghost use Rattle.ipx_laws.specs.Apart.{TellsOnlyOf, IsRealApart};
+ghost use Rattle.ipx_laws.specs.Meanwhile.{IsWithoutRoute, IsWithoutService, TellsNoRoute, LeavesPorts, SaysOnly};
+ghost use Rattle.ipx_laws.specs.Real.{IsReal};
 ghost use Rattle.ipx_laws.specs.Tables.{routes_of, services_of};
+ghost use Rattle.ipx_laws.specs.Ups.{ups};
 ghost use Rattle.ipx_laws.specs.WireAnnounces.{WasAnnounced};
 ghost use Rattle.ipx_laws.specs.Wires.{WireStep, still, flying, beats_of, KeepGone, AreBeats, EachWireStep, most_beats_gone, most_beats_flying};
 
@@ -69,6 +73,43 @@ pub fn announced()
         → most_beats_flying delay + most_beats_gone delay ≤ length beats → router < length net → EachWireStep (SaysOnly AsksApart) beats
         → AllByRecursion (λ s. WasAnnounced net most_routes most_services delay (flying histories deliveries) beats s.service)
         (services_of net most_services (beats_of net most_routes most_services delay (flying histories deliveries) beats).histories router) }
+{
+    ipx_wire::laws::readings();
+    ipx_wire::laws::service_readings();
+    ipx_wire::laws::reread();
+    ipx_router::laws::packets();
+}
+
+/// Every route is of a real way after 2,880 beats and 15 delays, whatever was in the tables before, and whatever the wires do (`routes`). If
+/// hosts tell of routes to the networks of a list, true or false, so is every route to another network (`apart`). The port by which a route came
+/// is up after any number of beats (`own_ports`). If anything flies at first, forged packets too, it takes 18 delays and one beat more
+/// (`whatever_flies`).
+///
+/// As in calm ticks, hosts may speak, but nobody starts or stops, no port goes down or comes up, and nothing that may be heard of a host's
+/// packet is a response of routing information, or a query for services that is answered to the socket of RIP.
+pub fn real()
+    ensures routes { (net : Internet) (most_routes most_services delay : ℕ) (histories : List History) (beats : List (List WireStep)) (router : ℕ)
+        → IsInternet net → AreHistories net histories → AreBeats net beats → EachWireStep LeavesPorts beats → EachWireStep (SaysOnly TellsNoRoute) beats
+        → most_beats_gone delay ≤ length beats → router < length net
+        → AllByRecursion (IsReal net (ups net histories) router)
+        (routes_of net most_routes (beats_of net most_routes most_services delay (still histories) beats).histories router) }
+    ensures apart { (net : Internet) (most_routes most_services delay : ℕ) (foreign : List Network) (histories : List History) (beats : List (List WireStep)) (router : ℕ)
+        → IsInternet net → AreHistories net histories → AreBeats net beats → EachWireStep LeavesPorts beats → EachWireStep (SaysOnly (TellsOnlyOf foreign)) beats
+        → most_beats_gone delay ≤ length beats → router < length net
+        → AllByRecursion (IsRealApart net (ups net histories) foreign router)
+        (routes_of net most_routes (beats_of net most_routes most_services delay (still histories) beats).histories router) }
+    ensures own_ports { (net : Internet) (most_routes most_services delay : ℕ) (histories : List History) (beats : List (List WireStep)) (router : ℕ)
+        → IsInternet net → AreHistories net histories → AreBeats net beats → EachWireStep LeavesPorts beats → EachWireStep (SaysOnly TellsNoRoute) beats
+        → router < length net
+        → AllByRecursion (λ r. is_up (ups net histories router) r.port ≡ true)
+        (routes_of net most_routes (beats_of net most_routes most_services delay (still histories) beats).histories router) }
+    ensures whatever_flies { (net : Internet) (most_routes most_services delay : ℕ) (histories : List History) (deliveries : List Delivery)
+        (beats : List (List WireStep)) (router : ℕ)
+        → IsInternet net → AreHistories net histories → AllByRecursion (IsDelivery net) deliveries → AreBeats net beats
+        → EachWireStep LeavesPorts beats → EachWireStep (SaysOnly TellsNoRoute) beats → most_beats_flying delay + most_beats_gone delay ≤ length beats
+        → router < length net
+        → AllByRecursion (IsReal net (ups net histories) router)
+        (routes_of net most_routes (beats_of net most_routes most_services delay (flying histories deliveries) beats).histories router) }
 {
     ipx_wire::laws::readings();
     ipx_wire::laws::service_readings();
