@@ -6,3 +6,4 @@ pub mod FineOnWires
 pub mod GoneOnWires
 pub mod HomeOrOnward
 pub mod RealOnWires
+pub mod SpokenOnWires

@@ -19,9 +19,9 @@ use Rattle.ipx_laws.specs.Wires.{Wires, WireStep, Occurs, Lands, as_step, flying
 use Rattle.ipx_laws.proofs.ticks.FineOrSoonEnded.{IsFineService}
 use Rattle.ipx_laws.proofs.ticks.GoneWhateverHappens.{EveryNetwork}
 use Rattle.ipx_laws.proofs.ticks.ServicesWereAnnounced.{SaysServed, harmless, message_served}
-use Rattle.ipx_laws.proofs.wires.BeatAfterBeat.{StepsArise, along_then}
+use Rattle.ipx_laws.proofs.wires.BeatAfterBeat.{StepsArise, along_all}
 use Rattle.ipx_laws.proofs.wires.FineOnWires.{Lasts, Flies, Arises, Good, Such}
-use Rattle.ipx_laws.proofs.wires.GoneOnWires.{AnyWires, along_any, ends, services_fine}
+use Rattle.ipx_laws.proofs.wires.GoneOnWires.{ends, services_fine}
 
 module _ (net : Internet) (most_routes most_services delay : ℕ) where
   -- steps and beats go on
@@ -114,9 +114,8 @@ module _ (net : Internet) (laws : Layouts) (is : IsInternet net) (most_routes mo
   beats_such before (beat ∷ after) of_beats apart = (
     record {
       arise = steps_arise before beat after of_beats [] beat refl apart.0;
-      good = along_then net most_routes most_services delay AnyWires
-          (λ now. Good delay slack EveryNetwork Served net laws is most_routes most_services now.histories) (λ now any at number on. tt)
-          (beats_by before) beat (along_any net most_routes most_services delay (beats_by before) beat);
+      good = along_all net most_routes most_services delay (λ now. Good delay slack EveryNetwork Served net laws is most_routes most_services now.histories)
+          (λ now at number on. tt) (beats_by before) beat;
     },
     subst (λ (w : Wires). EachBeat net most_routes most_services delay (Such delay slack EveryNetwork Served net laws is most_routes most_services) w after)
         (beats_on net most_routes most_services delay first before beat)

@@ -43,6 +43,21 @@ along_then net most_routes most_services delay Is So so w [] along = so w along
 along_then net most_routes most_services delay Is So so w (step ∷ steps) along =
     (so w along.0, along_then net most_routes most_services delay Is So so (wired net most_routes most_services delay w step) steps along.1)
 
+-- what is always so
+pub along_all : (net : Internet) (most_routes most_services delay : ℕ) (Is : Wires → Type 0) → ((w : Wires) → Is w) → (w : Wires) (steps : List WireStep)
+    → Along net most_routes most_services delay Is w steps
+along_all net most_routes most_services delay Is all w [] = all w
+along_all net most_routes most_services delay Is all w (step ∷ steps) =
+    (all w, along_all net most_routes most_services delay Is all (wired net most_routes most_services delay w step) steps)
+
+pub each_all : (net : Internet) (most_routes most_services delay : ℕ) (Is : Wires → Type 0) → ((w : Wires) → Is w) → (w : Wires) (beats : List (List WireStep))
+    → EachBeat net most_routes most_services delay (Along net most_routes most_services delay Is) w beats
+each_all net most_routes most_services delay Is all w [] = tt
+each_all net most_routes most_services delay Is all w (steps ∷ beats) = (
+  along_all net most_routes most_services delay Is all w steps,
+  each_all net most_routes most_services delay Is all (beaten (wires_of net most_routes most_services delay w steps)) beats,
+)
+
 module _ (net : Internet) (laws : Layouts) (is : IsInternet net) (most_routes most_services delay : ℕ) (Lasts : ℕ → ℕ → History → Type 0) (Flies : Flight → Type 0)
     (Arises : ℕ → List History → ℕ → Event → Type 0) (Good : List History → Type 0) where
   -- ---- one event of a router, when so many beats have ended

@@ -21,21 +21,12 @@ use Rattle.ipx_laws.specs.Wires.{Wires, WireStep, flying, beaten, wired, wires_o
 use Rattle.ipx_laws.proofs.records.RecordsGrowOld.{at_last}
 use Rattle.ipx_laws.proofs.ticks.FineOrSoonEnded.{IsFineService, abides_first}
 use Rattle.ipx_laws.proofs.ticks.GoneWhateverHappens.{EveryNetwork, EveryService, OtherNetwork, OtherService, routeless, serviceless, gone_stays}
-use Rattle.ipx_laws.proofs.wires.BeatAfterBeat.{Going, beats_go, starts}
+use Rattle.ipx_laws.proofs.wires.BeatAfterBeat.{Going, beats_go, starts, each_all}
 use Rattle.ipx_laws.proofs.wires.FineOnWires.{Lasts, Flies, Arises, Good, Such, keeps, such_beats, any_flies}
 
 -- nothing is asked of wires
 abbrev pub AnyWires : Wires → Type 0
 AnyWires w = Unit {0}
-
-module _ (net : Internet) (most_routes most_services delay : ℕ) where
-  pub along_any : (w : Wires) (steps : List WireStep) → Along net most_routes most_services delay AnyWires w steps
-  along_any w [] = tt
-  along_any w (step ∷ steps) = (tt, along_any (wired net most_routes most_services delay w step) steps)
-
-  pub each_any : (w : Wires) (beats : List (List WireStep)) → EachBeat net most_routes most_services delay (Along net most_routes most_services delay AnyWires) w beats
-  each_any w [] = tt
-  each_any w (steps ∷ beats) = (along_any w steps, each_any (beaten (wires_of net most_routes most_services delay w steps)) beats)
 
 module _ (net : Internet) (laws : Layouts) (is : IsInternet net) (most_routes most_services delay slack : ℕ) (histories : List History)
     (are : AreHistories net histories) (deliveries : List Delivery) (fly : AllByRecursion (IsDelivery net) deliveries)
@@ -112,4 +103,4 @@ module _ (net : Internet) (laws : Layouts) (is : IsInternet net) (most_routes mo
       (services_fine EveryNetwork (OtherService delay slack key) (ends EveryNetwork (OtherService delay slack key)
       (such_beats delay slack EveryNetwork (OtherService delay slack key) net laws is most_routes most_services (IsWithoutService key)
       (serviceless delay slack key) AnyWires (λ now any at number on. tt) (flying histories deliveries) beats
-      (each_any net most_routes most_services delay (flying histories deliveries) beats) says)))
+      (each_all net most_routes most_services delay AnyWires (λ now. tt) (flying histories deliveries) beats) says)))

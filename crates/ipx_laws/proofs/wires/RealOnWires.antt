@@ -19,7 +19,7 @@ use Rattle.ipx_internet.specs.Internet.{Internet, IsInternet, Place, ports_of, p
 use Rattle.ipx_internet.specs.Queue.{Delivery, deliveries_of, history_of, sends_at}
 use Rattle.ipx_internet.specs.Rounds.{IsDelivery}
 use Rattle.ipx_internet.specs.Run.{Step, Happens, Settles, AreHistories}
-use Rattle.ipx_internet.proofs.lists.EachElement.{all_then, all-append}
+use Rattle.ipx_internet.proofs.lists.EachElement.{all_of, all_then}
 use Rattle.ipx_internet.proofs.packets.ResponsesAskNothing.{IsAnswering, answering}
 use Rattle.ipx_internet.proofs.packets.SentOnOrReply.{Layouts, IsReply, IsOnward, no_reply, unsaid, all_reply}
 use Rattle.ipx_internet.proofs.places.OneReceiverOfANode.{ports_at, receives_is}
@@ -33,323 +33,70 @@ use Rattle.ipx_laws.specs.Wires.{Flight, Wires, WireStep, Occurs, Lands, as_step
 use Rattle.ipx_laws.proofs.packets.RoutesOrSilence.{TellsApart, IsSpoken, none_of_foreign, changes_spoken}
 use Rattle.ipx_laws.proofs.packets.SentOnSaysTheSame.{of_packet, heard_message, message_heard}
 use Rattle.ipx_laws.proofs.records.RecordsGrowOld.{passed, at_last}
-use Rattle.ipx_laws.proofs.ticks.RealOrSoonEnded.{Comes, RouteSaid, Endures, at_begin, second_endures, packet_endures, soon_endures, routes_said, changes_said}
+use Rattle.ipx_laws.proofs.ticks.RealOrSoonEnded.{at_begin}
 use Rattle.ipx_laws.proofs.ticks.TickAfterTick.{at, all_come, second_spoken, packet_spoken}
-use Rattle.ipx_laws.proofs.wires.BeatAfterBeat.{Happening, Leaves, Sends, Keeps, Going, AreSuch, StepsArise, arrival, beats_go, starts, along_then}
-use Rattle.ipx_laws.proofs.wires.EarlyFlights.{IsEarly, early_soon, early_onward, early_first}
-use Rattle.ipx_laws.proofs.wires.GoneOnWires.{AnyWires, along_any}
+use Rattle.ipx_laws.proofs.wires.BeatAfterBeat.{beats_go, starts, each_all}
+use Rattle.ipx_laws.proofs.wires.SpokenOnWires.{Lasts, Flies, Arises, Good, Extras, Goes, keeps, such_beats, any_flies}
 
-module _ (delay slack : ℕ) (net : Internet) (laws : Layouts) (is : IsInternet net) (most_routes most_services : ℕ) (up : ℕ → List ℕ) (foreign : List Network) where
-  abbrev Told : ℕ → Place → RipEntry → Type 0
-  Told sent = RouteSaid delay slack net up foreign (suc sent)
+module _ (delay slack : ℕ) (net : Internet) (laws : Layouts) (is : IsInternet net) (most_routes most_services : ℕ) (up : ℕ → List ℕ) (foreign : List Network)
+    (histories : List History) (are : AreHistories net histories) (stay : (router : ℕ) → ups net histories router ≡ up router) (deliveries : List Delivery)
+    (fly : AllByRecursion (IsDelivery net) deliveries) (over : (deliveries ≡ []) ⊎ (most_beats_flying delay ≤ slack)) (beats : List (List WireStep))
+    (all : AreBeats net beats) (leave : EachWireStep LeavesPorts beats) (say : EachWireStep (SaysOnly (TellsOnlyOf foreign)) beats) where
+  abbrev Fit : ℕ → History → Type 0
+  Fit router history = Unit {0}
 
-  -- ---- what flies
+  abbrev Extra : ℕ → Place → RipEntry → Type 0
+  Extra sent from e = Unit {0}
 
-  -- an answer to what flew at first: whatever it says is over soon
-  pub record IsOver (port : Port) (bytes : List ℕ) (sent : ℕ) : Type 0 where
-    pub reply : IsReply port bytes
-    pub soon : delay + suc sent ≤ slack
-
-  abbrev pub Speaks : Place → List ℕ → ℕ → Type 0
-  Speaks to bytes sent = Comes net up foreign (Told sent) to bytes ⊎ (IsEarly delay slack bytes sent ⊎ IsOver (port_of net to) bytes sent)
-
-  pub record Flies (f : Flight) : Type 0 where
-    pub delivery : IsDelivery net f.delivery
-    pub speaks : Speaks f.delivery.to f.delivery.bytes f.sent
-
-  -- what a router has, and which ports are up
-  abbrev pub Lasts : ℕ → ℕ → History → Type 0
-  Lasts router had history = Endures delay slack net up foreign most_routes router had history
-
-  -- what comes from outside: seconds, and packets that tell of no other route
-  abbrev pub FromOutside : Event → Type 0
-  FromOutside (Packet number bytes) = TellsApart foreign bytes
-  FromOutside Second = Unit
-  FromOutside event = ⊥
-
-  abbrev pub Arises : ℕ → List History → ℕ → Event → Type 0
-  Arises beats histories router event = FromOutside event
-
-  abbrev pub Good : List History → Type 0
-  Good histories = Unit {0}
-
-  abbrev At : List History → ℕ → Event → Type 0
-  At = Happening net laws is most_routes most_services delay Lasts Flies Arises Good
-
-  abbrev LeavesIt : ℕ → List History → ℕ → Event → Type 0
-  LeavesIt = Leaves net laws is most_routes most_services delay Lasts Flies Arises Good
-
-  abbrev SendsIt : ℕ → List History → ℕ → Event → Type 0
-  SendsIt = Sends net laws is most_routes most_services delay Lasts Flies Arises Good
-
-  -- ---- what a router says itself
-
-  module _ (beats : ℕ) (histories : List History) (router : ℕ) (event : Event) (place : At histories router event) where
-    abbrev past : History
-    past = history_of histories router
-
-    abbrev sents : List Sent
-    sents = sends_at net most_routes most_services histories router event
-
-    abbrev Flying : Delivery → Type 0
-    Flying d = Flies (record { delivery = d; sent = beats })
-
-    spoken_flies : AllByRecursion (IsSpoken foreign (up router) (λ j. Told beats (at net laws is most_routes most_services up foreign router j)) (ports_of net router)) sents
-        → AllByRecursion Flying (flat_map (deliveries_of net router) sents)
-    spoken_flies spoken =
-        all_then (λ d. IsDelivery net d × Comes net up foreign (Told beats) d.to d.bytes) Flying (λ d both. record { delivery = both.0; speaks = inl both.1 })
-        (flat_map (deliveries_of net router) sents)
-        (all_come net laws is most_routes most_services up foreign (Told beats) histories place.are router event place.on place.of_bytes spoken)
-
-    -- or sends for what flew at first
-    others_fly : AllByRecursion (λ s. IsEarly delay slack s.bytes beats ⊎ IsOver (port_at (ports_of net router) s.port) s.bytes beats) sents
-        → AllByRecursion Flying (flat_map (deliveries_of net router) sents)
-    others_fly others =
-        let ports = ports_of net router in
-        let Other : Sent → Type 0 = λ s. IsEarly delay slack s.bytes beats ⊎ IsOver (port_at ports s.port) s.bytes beats in
-        let bytes = laws.bytes ports most_routes most_services past event (ports_at net is router)
-        (all-append (IsOnPort ports) past (event ∷ []) (place.are.on_ports router) (place.on, tt))
-        (all-append IsOfBytes past (event ∷ []) (place.are.of_bytes router) (place.of_bytes, tt)) in
-        each_delivery net most_routes most_services Flying (λ s. IsBytes s.bytes × Other s) router
-        (λ s to both there received. record {
-          delivery = record { place = there; bytes = both.0 };
-          speaks = inr (moves (port_at ports s.port) (port_of net to) s.bytes
-              (receives_is net (record { router = router; port = s.port }) s.link to received).network both.1);
-        })
-        sents (all_both (λ s. IsBytes s.bytes) Other sents bytes others)
-      where
-        moves : (a b : Port) (bytes : List ℕ) → b.network ≡ a.network → IsEarly delay slack bytes beats ⊎ IsOver a bytes beats
-            → IsEarly delay slack bytes beats ⊎ IsOver b bytes beats
-        moves a b bytes same (inl early) = inl early
-        moves a b bytes same (inr over) = inr (record { reply = reply_moves a b bytes same over.reply; soon = over.soon })
-
-  -- ---- seconds
-
-  second_sends : (beats : ℕ) (histories : List History) (router : ℕ) → At histories router Second → SendsIt beats histories router Second
-  second_sends beats histories router place old new =
-      let now = history_of histories router ++ Second ∷ [] in
-      spoken_flies beats histories router Second place
-      (second_spoken net laws is most_routes most_services up foreign (λ j. Told beats (at net laws is most_routes most_services up foreign router j)) histories router place.are new.ups
-      (routes_said delay slack net up foreign most_routes router (suc beats) (suc beats) (omega arith) now new)
-      (changes_said delay slack net up foreign most_routes router (suc beats) (suc beats) (omega arith) now new
-      (offers (routes_held (ports_of net router) most_routes (history_of histories router)))))
-
-  -- ---- packets
-
-  module _ (beats : ℕ) (histories : List History) (d : Delivery) (place : At histories d.to.router (Packet d.to.port d.bytes)) (delivery : IsDelivery net d) where
-    abbrev router : ℕ
-    router = d.to.router
-
-    abbrev ports : List Port
-    ports = ports_of net router
-
-    abbrev before : History
-    before = history_of histories router
-
-    abbrev now : History
-    now = before ++ Packet d.to.port d.bytes ∷ []
-
-    abbrev heard_now : Option Heard
-    heard_now = heard_after ports before d.to.port d.bytes
-
-    abbrev here : List Sent
-    here = sends_at net most_routes most_services histories router (Packet d.to.port d.bytes)
-
-    abbrev Says : ℕ → RipEntry → Type 0
-    Says j = Told beats (at net laws is most_routes most_services up foreign router j)
-
-    -- what is told when it comes
-    packet_sends : (R : Place → RipEntry → Type 0) → Comes net up foreign R d.to d.bytes → SendsIt beats histories router (Packet d.to.port d.bytes)
-    packet_sends R comes old new =
-        spoken_flies beats histories router (Packet d.to.port d.bytes) place
-        (packet_spoken net laws is most_routes most_services up foreign Says R histories place.are d delivery comes old.ups new.ups
-        (λ m e silent. routes_said delay slack net up foreign most_routes router beats (suc beats) (omega arith) before old d.to.port)
-        (changes_said delay slack net up foreign most_routes router beats (suc beats) (omega arith) now new (offers (routes_held ports most_routes before))))
-
-    module _ (soon : delay + suc beats ≤ slack) where
-      -- what is sent for what flew at first, if what is sent on of it is early
-      early_sends : ((s : Sent) → IsOnward (port_at ports d.to.port) d.bytes s.bytes → IsEarly delay slack s.bytes beats)
-          → SendsIt beats histories router (Packet d.to.port d.bytes)
-      early_sends early old new = others_fly beats histories router (Packet d.to.port d.bytes) place (by heard_now refl)
-        where
-          Other : Sent → Type 0
-          Other s = IsEarly delay slack s.bytes beats ⊎ IsOver (port_at ports s.port) s.bytes beats
-
-          by : (o : Option Heard) → heard_now ≡ o → AllByRecursion Other here
-          by None e =
-              all_then (λ s. IsOnward (port_at ports d.to.port) d.bytes s.bytes) Other (λ s onward. inl (early s onward)) here
-              (unsaid laws ports (ports_at net is router) most_routes most_services before (place.are.on_ports router) (place.are.of_bytes router) d.to.port d.bytes
-              delivery.place delivery.bytes e)
-          by (Some m) e =
-              all_then (λ s. IsReply (port_at ports s.port) s.bytes) Other (λ s reply. inr (record { reply = reply; soon = soon })) here
-              (all_reply laws ports (ports_at net is router) most_routes most_services before (place.are.on_ports router) (place.are.of_bytes router) d.to.port d.bytes
-              delivery.place delivery.bytes m e)
-
-    -- for an answer nothing is told but changes
-    over_sends : IsReply (port_of net d.to) d.bytes → SendsIt beats histories router (Packet d.to.port d.bytes)
-    over_sends reply old new =
-        spoken_flies beats histories router (Packet d.to.port d.bytes) place
-        (subst (λ (us : List ℕ). AllByRecursion (IsSpoken foreign us Says ports) here) new.ups (by heard_now refl))
-      where
-        after : List ℕ
-        after = ports_up ports now
-
-        by : (o : Option Heard) → heard_now ≡ o → AllByRecursion (IsSpoken foreign after Says ports) here
-        by None e =
-            all_then (λ s. IsOnward (port_at ports d.to.port) d.bytes s.bytes) (IsSpoken foreign after Says ports)
-            (λ s onward. absurd (no_reply (port_at ports d.to.port) d.bytes s.bytes reply onward)) here
-            (unsaid laws ports (ports_at net is router) most_routes most_services before (place.are.on_ports router) (place.are.of_bytes router) d.to.port d.bytes
-            delivery.place delivery.bytes e)
-        by (Some m) e =
-            let answers : IsAnswering m = answering reply.packet reply.answers m
-            (message_heard reply.packet m (of_packet d.bytes reply.packet m reply.read (heard_message ports before d.to.port d.bytes m e))) in
-            changes_spoken foreign laws ports (ports_at net is router) most_routes most_services before (place.are.on_ports router) (place.are.of_bytes router) d.to.port
-            d.bytes delivery.place delivery.bytes Says
-            (changes_said delay slack net up foreign most_routes router beats (suc beats) (omega arith) now new (offers (routes_held ports most_routes before)))
-            (λ m e silent. subst (λ (us : List ℕ). AllByRecursion (Says d.to.port) (told ports us (offers (routes_held ports most_routes before)) d.to.port)) (sym old.ups)
-            (routes_said delay slack net up foreign most_routes router beats (suc beats) (omega arith) before old d.to.port))
-            m e answers
-
-  -- ---- each event
-
-  module _ (beats : ℕ) (histories : List History) (router : ℕ) where
-    outside_leaves : (event : Event) → At histories router event → FromOutside event → LeavesIt beats histories router event
-    outside_leaves Second place outside had few old = second_endures delay slack net up foreign most_routes router had (history_of histories router) old
-    outside_leaves (Packet number bytes) place outside had few old =
-        packet_endures delay slack net up foreign most_routes router had (suc beats) number bytes (omega (arith, few)) (inr outside) (history_of histories router) old
-    outside_leaves Start place outside had few old = absurd outside
-    outside_leaves Stop place outside had few old = absurd outside
-    outside_leaves (PortDown number) place outside had few old = absurd outside
-    outside_leaves (PortUp number) place outside had few old = absurd outside
-
-    outside_sends : (event : Event) → At histories router event → FromOutside event → SendsIt beats histories router event
-    outside_sends Second place outside = second_sends beats histories router place
-    outside_sends (Packet number bytes) place outside =
-        packet_sends beats histories (record { to = record { router = router; port = number }; bytes = bytes }) place (record { place = place.on; bytes = place.of_bytes })
-        (Told beats) (inr outside)
-    outside_sends Start place outside = absurd outside
-    outside_sends Stop place outside = absurd outside
-    outside_sends (PortDown number) place outside = absurd outside
-    outside_sends (PortUp number) place outside = absurd outside
-
-  module _ (beats : ℕ) (histories : List History) (f : Flight)
-      (place : At histories f.delivery.to.router (Packet f.delivery.to.port f.delivery.bytes)) (flies : Flies f) (timely : beats ≤ f.sent + delay) where
-    abbrev past_there : History
-    past_there = history_of histories f.delivery.to.router
-
-    lands_leaves : LeavesIt beats histories f.delivery.to.router (Packet f.delivery.to.port f.delivery.bytes)
-    lands_leaves had few old = by flies.speaks
-      where
-        soon : had ≤ slack → Lasts f.delivery.to.router had (past_there ++ Packet f.delivery.to.port f.delivery.bytes ∷ [])
-        soon all = soon_endures delay slack net up foreign most_routes f.delivery.to.router had f.delivery.to.port f.delivery.bytes past_there all old
-
-        by : Speaks f.delivery.to f.delivery.bytes f.sent → Lasts f.delivery.to.router had (past_there ++ Packet f.delivery.to.port f.delivery.bytes ∷ [])
-        by (inl comes) =
-            packet_endures delay slack net up foreign most_routes f.delivery.to.router had (suc f.sent) f.delivery.to.port f.delivery.bytes (omega (arith, few, timely)) comes
-            past_there old
-        by (inr (inl early)) = let all = early_soon delay slack f.delivery.bytes f.sent beats early timely in soon (omega (arith, all, few))
-        by (inr (inr over)) = let all = over.soon in soon (omega (arith, all, few, timely))
-
-    lands_sends : SendsIt beats histories f.delivery.to.router (Packet f.delivery.to.port f.delivery.bytes)
-    lands_sends = by flies.speaks
-      where
-        by : Speaks f.delivery.to f.delivery.bytes f.sent → SendsIt beats histories f.delivery.to.router (Packet f.delivery.to.port f.delivery.bytes)
-        by (inl comes) = packet_sends beats histories f.delivery place flies.delivery (Told f.sent) comes
-        by (inr (inl early)) =
-            early_sends beats histories f.delivery place flies.delivery (early_soon delay slack f.delivery.bytes f.sent beats early timely)
-            (λ s onward. early_onward delay slack (port_of net f.delivery.to) f.delivery.bytes s.bytes f.sent beats early timely onward)
-        by (inr (inr over)) = over_sends beats histories f.delivery place flies.delivery over.reply
-
-  pub keeps : Keeps net laws is most_routes most_services delay Lasts Flies Arises Good
-  keeps = record {
-    weakens = λ router history old. at_begin delay slack net up foreign most_routes router history old.ups;
-    delivers = λ f flies. flies.delivery;
-    occurs_leaves = λ beats histories router event place outside. outside_leaves beats histories router event place outside;
-    occurs_sends = λ beats histories router event place outside. outside_sends beats histories router event place outside;
-    lands_leaves = λ beats histories f place flies timely. lands_leaves beats histories f place flies timely;
-    lands_sends = λ beats histories f place flies timely. lands_sends beats histories f place flies timely;
+  -- nothing more is asked of what is said
+  nothing_more : Extras delay slack net laws is most_routes most_services up foreign Fit Extra
+  nothing_more = record {
+    advertised = λ beats had router history enough lasts fit j. all_of (λ e. Unit {0}) (λ e. tt) _;
+    changed = λ beats had later router old new enough enough_then lasts then_lasts fit fit_then j. all_of (λ e. Unit {0}) (λ e. tt) _;
   }
 
-  -- ---- what comes of it
+  abbrev pub Flying : Flight → Type 0
+  Flying = Flies delay slack net laws is most_routes most_services up foreign Fit Extra
 
-  -- hosts tell of no other route, and ports stay as they are
-  abbrev OfStep : Step → Type 0
-  OfStep (Happens place event) = FromOutside event
-  OfStep Settles = Unit
+  abbrev pub Goes_on : ℕ → (ℕ → ℕ) → Wires → Type 0
+  Goes_on = Goes delay slack net laws is most_routes most_services up foreign Fit Extra
 
-  outside : (step : Step) → LeavesPorts step → SaysOnly (TellsOnlyOf foreign) step → OfStep step
-  outside (Happens place Second) leaves says = tt
-  outside (Happens place (Packet number bytes)) leaves says = λ m e. subst (λ (o : Option Heard). IfSome o (TellsOnlyOf foreign)) e says
-  outside (Happens place Start) leaves says = absurd leaves
-  outside (Happens place Stop) leaves says = absurd leaves
-  outside (Happens place (PortDown number)) leaves says = absurd leaves
-  outside (Happens place (PortUp number)) leaves says = absurd leaves
-  outside Settles leaves says = tt
+  abbrev last : Wires
+  last = beats_of net most_routes most_services delay (flying histories deliveries) beats
 
-  abbrev Such : Wires → List WireStep → Type 0
-  Such = AreSuch net laws is most_routes most_services delay Lasts Flies Arises Good
+  pub begins : Goes_on 0 (λ router. 0) (flying histories deliveries)
+  begins =
+      starts net laws is most_routes most_services delay (Lasts delay slack net laws is most_routes most_services up foreign Fit Extra) Flying (Arises delay slack net laws is most_routes most_services up foreign Fit Extra) (Good delay slack net laws is most_routes most_services up foreign Fit Extra)
+      (keeps delay slack net laws is most_routes most_services up foreign Fit Extra nothing_more) histories deliveries are
+      (λ router inside. at_begin delay slack net up foreign most_routes router (history_of histories router) (stay router)) (by over)
+    where
+      by : (deliveries ≡ []) ⊎ (most_beats_flying delay ≤ slack) → AllByRecursion (λ d. Flying (record { delivery = d; sent = 0 })) deliveries
+      by (inl none) = subst (λ (ds : List Delivery). AllByRecursion (λ d. Flying (record { delivery = d; sent = 0 })) ds) (sym none) tt
+      by (inr room) = all_then (IsDelivery net) (λ d. Flying (record { delivery = d; sent = 0 })) (any_flies delay slack net laws is most_routes most_services up foreign Fit Extra room) deliveries fly
 
-  steps_arise : (w : Wires) (steps : List WireStep) → AllByRecursion (λ step. LeavesPorts (as_step step)) steps
-      → AllByRecursion (λ step. SaysOnly (TellsOnlyOf foreign) (as_step step)) steps
-      → StepsArise net laws is most_routes most_services delay Lasts Flies Arises Good w steps
-  steps_arise w [] leave say = tt
-  steps_arise w (Occurs router event ∷ steps) leave say =
-      (outside (Happens router event) leave.0 say.0, steps_arise (wired net most_routes most_services delay w (Occurs router event)) steps leave.1 say.1)
-  steps_arise w (Lands which ∷ steps) leave say = (tt, steps_arise (wired net most_routes most_services delay w (Lands which)) steps leave.1 say.1)
+  pub ends : Goes_on (length beats + 0) (λ router. 0) last
+  ends =
+      beats_go net laws is most_routes most_services delay (Lasts delay slack net laws is most_routes most_services up foreign Fit Extra) Flying (Arises delay slack net laws is most_routes most_services up foreign Fit Extra) (Good delay slack net laws is most_routes most_services up foreign Fit Extra)
+      (keeps delay slack net laws is most_routes most_services up foreign Fit Extra nothing_more) 0 beats (flying histories deliveries) all
+      (such_beats delay slack net laws is most_routes most_services up foreign Fit Extra (flying histories deliveries) beats
+      (each_all net most_routes most_services delay (λ now. (router : ℕ) → router < length net → Unit {0}) (λ now router inside. tt) (flying histories deliveries) beats) leave say)
+      begins
 
-  pub such_beats : (w : Wires) (beats : List (List WireStep)) → EachWireStep LeavesPorts beats → EachWireStep (SaysOnly (TellsOnlyOf foreign)) beats
-      → EachBeat net most_routes most_services delay Such w beats
-  such_beats w [] leave say = tt
-  such_beats w (steps ∷ beats) leave say = (
-    record {
-      arise = steps_arise w steps leave.0 say.0;
-      good = along_any net most_routes most_services delay w steps;
-    },
-    such_beats (beaten (wires_of net most_routes most_services delay w steps)) beats leave.1 say.1,
-  )
+  module _ (router : ℕ) (within : router < length net) where
+    abbrev there : History
+    there = history_of last.histories router
 
-  abbrev pub Going_on : ℕ → (ℕ → ℕ) → Wires → Type 0
-  Going_on = Going net laws is most_routes most_services delay Lasts Flies Arises Good
+    -- what is held came by ports that were up all the time
+    pub all_on : AllByRecursion (λ r. is_up (up router) r.port ≡ true) (offers (routes_held (ports_of net router) most_routes there))
+    all_on =
+        subst (λ (us : List ℕ). AllByRecursion (λ r. is_up us r.port ≡ true) (offers (routes_held (ports_of net router) most_routes there)))
+        (ends.routers router 0 within (omega arith) (omega arith)).ups (held_routes_up (ports_of net router) most_routes there)
 
-  -- whatever flies at first is early
-  any_flies : most_beats_flying delay ≤ slack → (d : Delivery) → IsDelivery net d → Flies (record { delivery = d; sent = 0 })
-  any_flies room d delivery = record { delivery = delivery; speaks = inr (inl (early_first delay slack room d.bytes)) }
-
-  module _ (histories : List History) (are : AreHistories net histories) (stay : (router : ℕ) → ups net histories router ≡ up router) (deliveries : List Delivery)
-      (fly : AllByRecursion (IsDelivery net) deliveries) (over : (deliveries ≡ []) ⊎ (most_beats_flying delay ≤ slack)) (beats : List (List WireStep))
-      (all : AreBeats net beats) (leave : EachWireStep LeavesPorts beats) (say : EachWireStep (SaysOnly (TellsOnlyOf foreign)) beats) where
-    abbrev last : Wires
-    last = beats_of net most_routes most_services delay (flying histories deliveries) beats
-
-    pub begins : Going_on 0 (λ router. 0) (flying histories deliveries)
-    begins =
-        starts net laws is most_routes most_services delay Lasts Flies Arises Good keeps histories deliveries are
-        (λ router inside. at_begin delay slack net up foreign most_routes router (history_of histories router) (stay router)) (by over)
-      where
-        by : (deliveries ≡ []) ⊎ (most_beats_flying delay ≤ slack) → AllByRecursion (λ d. Flies (record { delivery = d; sent = 0 })) deliveries
-        by (inl none) = subst (λ (ds : List Delivery). AllByRecursion (λ d. Flies (record { delivery = d; sent = 0 })) ds) (sym none) tt
-        by (inr room) = all_then (IsDelivery net) (λ d. Flies (record { delivery = d; sent = 0 })) (any_flies room) deliveries fly
-
-    pub ends : Going_on (length beats + 0) (λ router. 0) last
-    ends =
-        beats_go net laws is most_routes most_services delay Lasts Flies Arises Good keeps 0 beats (flying histories deliveries) all
-        (such_beats (flying histories deliveries) beats leave say) begins
-
-    module _ (router : ℕ) (within : router < length net) where
-      abbrev there : History
-      there = history_of last.histories router
-
-      -- what is held came by ports that were up all the time
-      pub all_on : AllByRecursion (λ r. is_up (up router) r.port ≡ true) (offers (routes_held (ports_of net router) most_routes there))
-      all_on =
-          subst (λ (us : List ℕ). AllByRecursion (λ r. is_up us r.port ≡ true) (offers (routes_held (ports_of net router) most_routes there)))
-          (ends.routers router 0 within (omega arith) (omega arith)).ups (held_routes_up (ports_of net router) most_routes there)
-
-      pub all_real : slack + most_beats_gone delay ≤ length beats → AllByRecursion (IsRealApart net up foreign router) (offers (routes_held (ports_of net router) most_routes there))
-      all_real long =
-          at_last route_reading network_order network_total most_routes (map (λ p. p.route_share) (ports_of net router)) (λ r. r.hops) (λ r. refl) delay slack
-          (IsRealApart net up foreign router) (length beats) (route_facts (ports_of net router) there) long
-          (ends.routers router (length beats) within (omega arith) (omega arith)).routes
+    pub all_real : slack + most_beats_gone delay ≤ length beats → AllByRecursion (IsRealApart net up foreign router) (offers (routes_held (ports_of net router) most_routes there))
+    all_real long =
+        at_last route_reading network_order network_total most_routes (map (λ p. p.route_share) (ports_of net router)) (λ r. r.hops) (λ r. refl) delay slack
+        (IsRealApart net up foreign router) (length beats) (route_facts (ports_of net router) there) long
+        (ends.routers router (length beats) within (omega arith) (omega arith)).routes
 
 -- ---- where hosts tell of no route
 

@@ -1,0 +1,380 @@
+-- What flies where ports stay as they are and hosts tell of no route but to the networks of a list: a router's own pages, which say what was so
+-- when they were sent; what tells of no other route; and what flew at first, which is over soon.
+use Rattle.std.proofs.Common.{◌≡◌, ◌≢◌, refl, sym, ap, ◌∙◌, subst, ◌⊎◌, ℕ, suc, ◌+◌, ◌<◌, ◌≤◌, true, false, List, [], ◌∷◌, ◌++◌, length, map, flat_map, Option, None, Some, IfSome, inl, inr, arith, get_or-set_same}
+use Rattle.std.specs.List.{AllByRecursion}
+use Rattle.ipx_wire.specs.Piece.{IsBytes}
+use Rattle.ipx_wire.specs.declared.network.Network.{Network}
+use Rattle.ipx_wire.specs.declared.rip.RipEntry.{RipEntry}
+use Rattle.ipx_router.specs.Facts.{heard_after, route_facts, routes_held, offers}
+use Rattle.ipx_router.specs.Heard.{Heard}
+use Rattle.ipx_router.specs.History.{Event, History, Start, Stop, Second, Packet, PortDown, PortUp, IsOnPort, IsOfBytes, ports_up, running}
+use Rattle.ipx_router.specs.News.{news}
+use Rattle.ipx_router.specs.Port.{Port, port_at, is_up}
+use Rattle.ipx_router.specs.Relays.{Sent}
+use Rattle.ipx_router.specs.Routes.{route_reading, network_order}
+use Rattle.ipx_router.specs.Told.{told}
+use Rattle.ipx_router.specs.declared.route_offer.RouteOffer.{RouteOffer}
+use Rattle.ipx_router.proofs.bounds.PacketsOfEachEvent.{network_total}
+use Rattle.ipx_router.proofs.lists.EachElement.{all_both}
+use Rattle.ipx_router.proofs.tables.HeldCameByPortsUp.{held_routes_up}
+use Rattle.ipx_internet.specs.Internet.{Internet, IsInternet, Place, ports_of, port_of}
+use Rattle.ipx_internet.specs.Queue.{Delivery, deliveries_of, history_of, sends_at}
+use Rattle.ipx_internet.specs.Rounds.{IsDelivery}
+use Rattle.ipx_internet.specs.Run.{Step, Happens, Settles, AreHistories}
+use Rattle.ipx_internet.proofs.lists.EachElement.{all_then, all-append}
+use Rattle.ipx_internet.proofs.packets.ResponsesAskNothing.{IsAnswering, answering}
+use Rattle.ipx_internet.proofs.packets.SentOnOrReply.{Layouts, IsReply, IsOnward, no_reply, unsaid, all_reply}
+use Rattle.ipx_internet.proofs.places.OneReceiverOfANode.{ports_at, receives_is}
+use Rattle.ipx_internet.proofs.rounds.OneRound.{each_delivery}
+use Rattle.ipx_internet.proofs.rounds.SentOnRunsOut.{reply_moves}
+use Rattle.ipx_laws.specs.Apart.{TellsOnlyOf, IsRealApart}
+use Rattle.ipx_laws.specs.Meanwhile.{message_of, SaysOnly, LeavesPorts, TellsNoRoute}
+use Rattle.ipx_laws.specs.Real.{IsReal}
+use Rattle.ipx_laws.specs.Ups.{ups}
+use Rattle.ipx_laws.specs.Wires.{Flight, Wires, WireStep, Occurs, Lands, as_step, flying, beaten, wired, wires_of, beats_of, Along, EachBeat, AreBeats, EachWireStep, most_beats_gone, most_beats_flying}
+use Rattle.ipx_laws.proofs.packets.RoutesOrSilence.{TellsApart, IsOwnPage, IsSpoken, changes_spoken}
+use Rattle.ipx_laws.proofs.packets.SentOnSaysTheSame.{of_packet, heard_message, message_heard}
+use Rattle.ipx_laws.proofs.records.RecordsGrowOld.{passed, at_last}
+use Rattle.ipx_laws.proofs.ticks.RealOrSoonEnded.{Comes, RouteSaid, Endures, at_begin, second_endures, packet_endures, soon_endures, routes_said, changes_said}
+use Rattle.ipx_laws.proofs.ticks.TickAfterTick.{at, all_come, second_spoken, packet_spoken}
+use Rattle.ipx_laws.proofs.wires.BeatAfterBeat.{Happening, Leaves, Sends, Keeps, Going, AreSuch, StepsArise, arrival, beats_go, starts, along_then}
+use Rattle.ipx_laws.proofs.wires.EarlyFlights.{IsEarly, early_soon, early_onward, early_first}
+
+-- a page of entries of which something follows
+own_page_then : (P Q : RipEntry → Type 0) → ((e : RipEntry) → P e → Q e) → (port : Port) (bytes : List ℕ) → IsOwnPage P port bytes → IsOwnPage Q port bytes
+own_page_then P Q step port bytes is = record {
+  to = is.to;
+  home = is.home;
+  page = record { page = is.page.page; some = is.page.some; each = all_then P Q step is.page.page is.page.each; read = is.page.read; says = is.page.says };
+}
+
+pub comes_then : (net : Internet) (up : ℕ → List ℕ) (foreign : List Network) (P Q : Place → RipEntry → Type 0) → ((from : Place) (e : RipEntry) → P from e → Q from e)
+    → (to : Place) (bytes : List ℕ) → Comes net up foreign P to bytes → Comes net up foreign Q to bytes
+comes_then net up foreign P Q step to bytes (inl (from, reaches, own)) =
+    inl (from, reaches, own_page_then (P from) (Q from) (step from) (port_of net from) bytes own)
+comes_then net up foreign P Q step to bytes (inr tells) = inr tells
+
+-- what is so of each router's history at any moment, and so of each entry that the router sends then
+module _ (delay slack : ℕ) (net : Internet) (laws : Layouts) (is : IsInternet net) (most_routes most_services : ℕ) (up : ℕ → List ℕ) (foreign : List Network)
+    (Fit : ℕ → History → Type 0) (Extra : ℕ → Place → RipEntry → Type 0) where
+  abbrev pub Real : ℕ → Place → RipEntry → Type 0
+  Real sent = RouteSaid delay slack net up foreign (suc sent)
+
+  abbrev pub Told : ℕ → Place → RipEntry → Type 0
+  Told sent from e = Real sent from e × Extra sent from e
+
+  -- ---- what flies
+
+  -- an answer to what flew at first: whatever it says is over soon
+  pub record IsOver (port : Port) (bytes : List ℕ) (sent : ℕ) : Type 0 where
+    pub reply : IsReply port bytes
+    pub soon : delay + suc sent ≤ slack
+
+  abbrev pub Speaks : Place → List ℕ → ℕ → Type 0
+  Speaks to bytes sent = Comes net up foreign (Told sent) to bytes ⊎ (IsEarly delay slack bytes sent ⊎ IsOver (port_of net to) bytes sent)
+
+  pub record Flies (f : Flight) : Type 0 where
+    pub delivery : IsDelivery net f.delivery
+    pub speaks : Speaks f.delivery.to f.delivery.bytes f.sent
+
+  -- what a router has, and which ports are up
+  abbrev pub Lasts : ℕ → ℕ → History → Type 0
+  Lasts router had history = Endures delay slack net up foreign most_routes router had history
+
+  -- what comes from outside: seconds, and packets that tell of no other route
+  abbrev pub FromOutside : Event → Type 0
+  FromOutside (Packet number bytes) = TellsApart foreign bytes
+  FromOutside Second = Unit
+  FromOutside event = ⊥
+
+  abbrev pub Arises : ℕ → List History → ℕ → Event → Type 0
+  Arises beats histories router event = FromOutside event
+
+  abbrev pub Good : List History → Type 0
+  Good histories = (router : ℕ) → router < length net → Fit router (history_of histories router)
+
+  abbrev pub routes_in : ℕ → History → List RouteOffer
+  routes_in router history = offers (routes_held (ports_of net router) most_routes history)
+
+  abbrev pub own_port : ℕ → ℕ → Place
+  own_port router j = record { router = router; port = j }
+
+  -- so of all that a router advertises then, and of its changes
+  pub record Extras : Type 0 where
+    pub advertised : (beats had router : ℕ) (history : History) → beats ≤ had → Lasts router had history → Fit router history → (j : ℕ)
+        → AllByRecursion (Extra beats (own_port router j)) (told (ports_of net router) (up router) (routes_in router history) j)
+    pub changed : (beats had later router : ℕ) (old new : History) → beats ≤ had → beats ≤ later → Lasts router had old → Lasts router later new
+        → Fit router old → Fit router new → (j : ℕ)
+        → AllByRecursion (Extra beats (own_port router j)) (news (ports_of net router) (routes_in router old) (routes_in router new) j)
+
+  abbrev At : List History → ℕ → Event → Type 0
+  At = Happening net laws is most_routes most_services delay Lasts Flies Arises Good
+
+  abbrev LeavesIt : ℕ → List History → ℕ → Event → Type 0
+  LeavesIt = Leaves net laws is most_routes most_services delay Lasts Flies Arises Good
+
+  abbrev SendsIt : ℕ → List History → ℕ → Event → Type 0
+  SendsIt = Sends net laws is most_routes most_services delay Lasts Flies Arises Good
+
+  -- the history with an event more is the one that is there then
+  fit_now : (histories : List History) (router : ℕ) (event : Event) → At histories router event → Fit router (history_of histories router ++ event ∷ [])
+  fit_now histories router event place =
+      let within = place.within in
+      let each = place.are.each in
+      let listed : router < length histories = omega (arith, within, each) in
+      subst (λ (h : History). Fit router h) (get_or-set_same histories router (history_of histories router ++ event ∷ []) [] listed) (place.good_now router within)
+
+  -- ---- what a router says itself
+
+  module _ (beats : ℕ) (histories : List History) (router : ℕ) (event : Event) (place : At histories router event) where
+    abbrev past : History
+    past = history_of histories router
+
+    abbrev sents : List Sent
+    sents = sends_at net most_routes most_services histories router event
+
+    abbrev Flying : Delivery → Type 0
+    Flying d = Flies (record { delivery = d; sent = beats })
+
+    spoken_flies : AllByRecursion (IsSpoken foreign (up router) (λ j. Told beats (own_port router j)) (ports_of net router)) sents
+        → AllByRecursion Flying (flat_map (deliveries_of net router) sents)
+    spoken_flies spoken =
+        all_then (λ d. IsDelivery net d × Comes net up foreign (Told beats) d.to d.bytes) Flying (λ d both. record { delivery = both.0; speaks = inl both.1 })
+        (flat_map (deliveries_of net router) sents)
+        (all_come net laws is most_routes most_services up foreign (Told beats) histories place.are router event place.on place.of_bytes spoken)
+
+    -- or sends for what flew at first
+    others_fly : AllByRecursion (λ s. IsEarly delay slack s.bytes beats ⊎ IsOver (port_at (ports_of net router) s.port) s.bytes beats) sents
+        → AllByRecursion Flying (flat_map (deliveries_of net router) sents)
+    others_fly others =
+        let ports = ports_of net router in
+        let Other : Sent → Type 0 = λ s. IsEarly delay slack s.bytes beats ⊎ IsOver (port_at ports s.port) s.bytes beats in
+        let bytes = laws.bytes ports most_routes most_services past event (ports_at net is router)
+        (all-append (IsOnPort ports) past (event ∷ []) (place.are.on_ports router) (place.on, tt))
+        (all-append IsOfBytes past (event ∷ []) (place.are.of_bytes router) (place.of_bytes, tt)) in
+        each_delivery net most_routes most_services Flying (λ s. IsBytes s.bytes × Other s) router
+        (λ s to both there received. record {
+          delivery = record { place = there; bytes = both.0 };
+          speaks = inr (moves (port_at ports s.port) (port_of net to) s.bytes
+              (receives_is net (record { router = router; port = s.port }) s.link to received).network both.1);
+        })
+        sents (all_both (λ s. IsBytes s.bytes) Other sents bytes others)
+      where
+        moves : (a b : Port) (bytes : List ℕ) → b.network ≡ a.network → IsEarly delay slack bytes beats ⊎ IsOver a bytes beats
+            → IsEarly delay slack bytes beats ⊎ IsOver b bytes beats
+        moves a b bytes same (inl early) = inl early
+        moves a b bytes same (inr over) = inr (record { reply = reply_moves a b bytes same over.reply; soon = over.soon })
+
+  module _ (extras : Extras) where
+    all_told : (beats had router : ℕ) (history : History) → beats ≤ had → Lasts router had history → Fit router history → (j : ℕ)
+        → AllByRecursion (Told beats (own_port router j)) (told (ports_of net router) (up router) (routes_in router history) j)
+    all_told beats had router history enough lasts fit j =
+        all_both (Real beats (own_port router j)) (Extra beats (own_port router j)) (told (ports_of net router) (up router) (routes_in router history) j)
+        (routes_said delay slack net up foreign most_routes router had (suc beats) (omega (arith, enough)) history lasts j)
+        (extras.advertised beats had router history enough lasts fit j)
+
+    all_news : (beats had later router : ℕ) (old new : History) → beats ≤ had → beats ≤ later → Lasts router had old → Lasts router later new → Fit router old
+        → Fit router new → (j : ℕ) → AllByRecursion (Told beats (own_port router j)) (news (ports_of net router) (routes_in router old) (routes_in router new) j)
+    all_news beats had later router old new enough enough_then lasts then_lasts fit fit_then j =
+        all_both (Real beats (own_port router j)) (Extra beats (own_port router j)) (news (ports_of net router) (routes_in router old) (routes_in router new) j)
+        (changes_said delay slack net up foreign most_routes router later (suc beats) (omega (arith, enough_then)) new then_lasts (routes_in router old) j)
+        (extras.changed beats had later router old new enough enough_then lasts then_lasts fit fit_then j)
+
+    -- ---- seconds
+
+    second_sends : (beats : ℕ) (histories : List History) (router : ℕ) → At histories router Second → SendsIt beats histories router Second
+    second_sends beats histories router place old new =
+        let now = history_of histories router ++ Second ∷ [] in
+        let fit_then = fit_now histories router Second place in
+        spoken_flies beats histories router Second place
+        (second_spoken net laws is most_routes most_services up foreign (λ j. Told beats (own_port router j)) histories router place.are new.ups
+        (all_told beats (suc beats) router now (omega arith) new fit_then)
+        (all_news beats beats (suc beats) router (history_of histories router) now (omega arith) (omega arith) old new (place.good router place.within) fit_then))
+
+    -- ---- packets
+
+    module _ (beats : ℕ) (histories : List History) (d : Delivery) (place : At histories d.to.router (Packet d.to.port d.bytes)) (delivery : IsDelivery net d) where
+      abbrev router : ℕ
+      router = d.to.router
+
+      abbrev ports : List Port
+      ports = ports_of net router
+
+      abbrev before : History
+      before = history_of histories router
+
+      abbrev now : History
+      now = before ++ Packet d.to.port d.bytes ∷ []
+
+      abbrev heard_now : Option Heard
+      heard_now = heard_after ports before d.to.port d.bytes
+
+      abbrev here : List Sent
+      here = sends_at net most_routes most_services histories router (Packet d.to.port d.bytes)
+
+      fit : Fit router before
+      fit = place.good router place.within
+
+      fit_then : Fit router now
+      fit_then = fit_now histories router (Packet d.to.port d.bytes) place
+
+      abbrev Says : ℕ → RipEntry → Type 0
+      Says j = Told beats (own_port router j)
+
+      -- what is told when it comes
+      packet_sends : (R : Place → RipEntry → Type 0) → Comes net up foreign R d.to d.bytes → SendsIt beats histories router (Packet d.to.port d.bytes)
+      packet_sends R comes old new =
+          spoken_flies beats histories router (Packet d.to.port d.bytes) place
+          (packet_spoken net laws is most_routes most_services up foreign Says R histories place.are d delivery comes old.ups new.ups
+          (λ m e silent. all_told beats beats router before (omega arith) old fit d.to.port)
+          (all_news beats beats beats router before now (omega arith) (omega arith) old new fit fit_then))
+
+      module _ (soon : delay + suc beats ≤ slack) where
+        -- what is sent for what flew at first, if what is sent on of it is early
+        early_sends : ((s : Sent) → IsOnward (port_at ports d.to.port) d.bytes s.bytes → IsEarly delay slack s.bytes beats)
+            → SendsIt beats histories router (Packet d.to.port d.bytes)
+        early_sends early old new = others_fly beats histories router (Packet d.to.port d.bytes) place (by heard_now refl)
+          where
+            Other : Sent → Type 0
+            Other s = IsEarly delay slack s.bytes beats ⊎ IsOver (port_at ports s.port) s.bytes beats
+
+            by : (o : Option Heard) → heard_now ≡ o → AllByRecursion Other here
+            by None e =
+                all_then (λ s. IsOnward (port_at ports d.to.port) d.bytes s.bytes) Other (λ s onward. inl (early s onward)) here
+                (unsaid laws ports (ports_at net is router) most_routes most_services before (place.are.on_ports router) (place.are.of_bytes router) d.to.port d.bytes
+                delivery.place delivery.bytes e)
+            by (Some m) e =
+                all_then (λ s. IsReply (port_at ports s.port) s.bytes) Other (λ s reply. inr (record { reply = reply; soon = soon })) here
+                (all_reply laws ports (ports_at net is router) most_routes most_services before (place.are.on_ports router) (place.are.of_bytes router) d.to.port d.bytes
+                delivery.place delivery.bytes m e)
+
+      -- for an answer nothing is told but changes
+      over_sends : IsReply (port_of net d.to) d.bytes → SendsIt beats histories router (Packet d.to.port d.bytes)
+      over_sends reply old new =
+          spoken_flies beats histories router (Packet d.to.port d.bytes) place
+          (subst (λ (us : List ℕ). AllByRecursion (IsSpoken foreign us Says ports) here) new.ups (by heard_now refl))
+        where
+          after : List ℕ
+          after = ports_up ports now
+
+          by : (o : Option Heard) → heard_now ≡ o → AllByRecursion (IsSpoken foreign after Says ports) here
+          by None e =
+              all_then (λ s. IsOnward (port_at ports d.to.port) d.bytes s.bytes) (IsSpoken foreign after Says ports)
+              (λ s onward. absurd (no_reply (port_at ports d.to.port) d.bytes s.bytes reply onward)) here
+              (unsaid laws ports (ports_at net is router) most_routes most_services before (place.are.on_ports router) (place.are.of_bytes router) d.to.port d.bytes
+              delivery.place delivery.bytes e)
+          by (Some m) e =
+              let answers : IsAnswering m = answering reply.packet reply.answers m
+              (message_heard reply.packet m (of_packet d.bytes reply.packet m reply.read (heard_message ports before d.to.port d.bytes m e))) in
+              changes_spoken foreign laws ports (ports_at net is router) most_routes most_services before (place.are.on_ports router) (place.are.of_bytes router) d.to.port
+              d.bytes delivery.place delivery.bytes Says
+              (all_news beats beats beats router before now (omega arith) (omega arith) old new fit fit_then)
+              (λ m e silent. subst (λ (us : List ℕ). AllByRecursion (Says d.to.port) (told ports us (offers (routes_held ports most_routes before)) d.to.port)) (sym old.ups)
+              (all_told beats beats router before (omega arith) old fit d.to.port))
+              m e answers
+
+    -- ---- each event
+
+    module _ (beats : ℕ) (histories : List History) (router : ℕ) where
+      outside_leaves : (event : Event) → At histories router event → FromOutside event → LeavesIt beats histories router event
+      outside_leaves Second place outside had few old = second_endures delay slack net up foreign most_routes router had (history_of histories router) old
+      outside_leaves (Packet number bytes) place outside had few old =
+          packet_endures delay slack net up foreign most_routes router had (suc beats) number bytes (omega (arith, few)) (inr outside) (history_of histories router) old
+      outside_leaves Start place outside had few old = absurd outside
+      outside_leaves Stop place outside had few old = absurd outside
+      outside_leaves (PortDown number) place outside had few old = absurd outside
+      outside_leaves (PortUp number) place outside had few old = absurd outside
+
+      outside_sends : (event : Event) → At histories router event → FromOutside event → SendsIt beats histories router event
+      outside_sends Second place outside = second_sends beats histories router place
+      outside_sends (Packet number bytes) place outside =
+          packet_sends beats histories (record { to = record { router = router; port = number }; bytes = bytes }) place (record { place = place.on; bytes = place.of_bytes })
+          (Told beats) (inr outside)
+      outside_sends Start place outside = absurd outside
+      outside_sends Stop place outside = absurd outside
+      outside_sends (PortDown number) place outside = absurd outside
+      outside_sends (PortUp number) place outside = absurd outside
+
+    module _ (beats : ℕ) (histories : List History) (f : Flight)
+        (place : At histories f.delivery.to.router (Packet f.delivery.to.port f.delivery.bytes)) (flies : Flies f) (timely : beats ≤ f.sent + delay) where
+      abbrev past_there : History
+      past_there = history_of histories f.delivery.to.router
+
+      lands_leaves : LeavesIt beats histories f.delivery.to.router (Packet f.delivery.to.port f.delivery.bytes)
+      lands_leaves had few old = by flies.speaks
+        where
+          soon : had ≤ slack → Lasts f.delivery.to.router had (past_there ++ Packet f.delivery.to.port f.delivery.bytes ∷ [])
+          soon all = soon_endures delay slack net up foreign most_routes f.delivery.to.router had f.delivery.to.port f.delivery.bytes past_there all old
+
+          by : Speaks f.delivery.to f.delivery.bytes f.sent → Lasts f.delivery.to.router had (past_there ++ Packet f.delivery.to.port f.delivery.bytes ∷ [])
+          by (inl comes) =
+              packet_endures delay slack net up foreign most_routes f.delivery.to.router had (suc f.sent) f.delivery.to.port f.delivery.bytes (omega (arith, few, timely))
+              (comes_then net up foreign (Told f.sent) (Real f.sent) (λ from e both. both.0) f.delivery.to f.delivery.bytes comes)
+              past_there old
+          by (inr (inl early)) = let all = early_soon delay slack f.delivery.bytes f.sent beats early timely in soon (omega (arith, all, few))
+          by (inr (inr over)) = let all = over.soon in soon (omega (arith, all, few, timely))
+
+      lands_sends : SendsIt beats histories f.delivery.to.router (Packet f.delivery.to.port f.delivery.bytes)
+      lands_sends = by flies.speaks
+        where
+          by : Speaks f.delivery.to f.delivery.bytes f.sent → SendsIt beats histories f.delivery.to.router (Packet f.delivery.to.port f.delivery.bytes)
+          by (inl comes) = packet_sends beats histories f.delivery place flies.delivery (Told f.sent) comes
+          by (inr (inl early)) =
+              early_sends beats histories f.delivery place flies.delivery (early_soon delay slack f.delivery.bytes f.sent beats early timely)
+              (λ s onward. early_onward delay slack (port_of net f.delivery.to) f.delivery.bytes s.bytes f.sent beats early timely onward)
+          by (inr (inr over)) = over_sends beats histories f.delivery place flies.delivery over.reply
+
+    pub keeps : Keeps net laws is most_routes most_services delay Lasts Flies Arises Good
+    keeps = record {
+      weakens = λ router history old. at_begin delay slack net up foreign most_routes router history old.ups;
+      delivers = λ f flies. flies.delivery;
+      occurs_leaves = λ beats histories router event place outside. outside_leaves beats histories router event place outside;
+      occurs_sends = λ beats histories router event place outside. outside_sends beats histories router event place outside;
+      lands_leaves = λ beats histories f place flies timely. lands_leaves beats histories f place flies timely;
+      lands_sends = λ beats histories f place flies timely. lands_sends beats histories f place flies timely;
+    }
+
+  -- ---- what comes of it
+
+  -- hosts tell of no other route, and ports stay as they are
+  abbrev OfStep : Step → Type 0
+  OfStep (Happens place event) = FromOutside event
+  OfStep Settles = Unit
+
+  outside : (step : Step) → LeavesPorts step → SaysOnly (TellsOnlyOf foreign) step → OfStep step
+  outside (Happens place Second) leaves says = tt
+  outside (Happens place (Packet number bytes)) leaves says = λ m e. subst (λ (o : Option Heard). IfSome o (TellsOnlyOf foreign)) e says
+  outside (Happens place Start) leaves says = absurd leaves
+  outside (Happens place Stop) leaves says = absurd leaves
+  outside (Happens place (PortDown number)) leaves says = absurd leaves
+  outside (Happens place (PortUp number)) leaves says = absurd leaves
+  outside Settles leaves says = tt
+
+  abbrev pub Such : Wires → List WireStep → Type 0
+  Such = AreSuch net laws is most_routes most_services delay Lasts Flies Arises Good
+
+  pub steps_arise : (w : Wires) (steps : List WireStep) → AllByRecursion (λ step. LeavesPorts (as_step step)) steps
+      → AllByRecursion (λ step. SaysOnly (TellsOnlyOf foreign) (as_step step)) steps
+      → StepsArise net laws is most_routes most_services delay Lasts Flies Arises Good w steps
+  steps_arise w [] leave say = tt
+  steps_arise w (Occurs router event ∷ steps) leave say =
+      (outside (Happens router event) leave.0 say.0, steps_arise (wired net most_routes most_services delay w (Occurs router event)) steps leave.1 say.1)
+  steps_arise w (Lands which ∷ steps) leave say = (tt, steps_arise (wired net most_routes most_services delay w (Lands which)) steps leave.1 say.1)
+
+  abbrev pub AllGood : Wires → List WireStep → Type 0
+  AllGood w steps = Along net most_routes most_services delay (λ now. Good now.histories) w steps
+
+  pub such_beats : (w : Wires) (beats : List (List WireStep)) → EachBeat net most_routes most_services delay AllGood w beats → EachWireStep LeavesPorts beats
+      → EachWireStep (SaysOnly (TellsOnlyOf foreign)) beats → EachBeat net most_routes most_services delay Such w beats
+  such_beats w [] good leave say = tt
+  such_beats w (steps ∷ beats) good leave say = (
+    record { arise = steps_arise w steps leave.0 say.0; good = good.0 },
+    such_beats (beaten (wires_of net most_routes most_services delay w steps)) beats good.1 leave.1 say.1,
+  )
+
+  abbrev pub Goes : ℕ → (ℕ → ℕ) → Wires → Type 0
+  Goes = Going net laws is most_routes most_services delay Lasts Flies Arises Good
+
+  -- whatever flies at first is early
+  pub any_flies : most_beats_flying delay ≤ slack → (d : Delivery) → IsDelivery net d → Flies (record { delivery = d; sent = 0 })
+  any_flies room d delivery = record { delivery = delivery; speaks = inr (inl (early_first delay slack room d.bytes)) }
