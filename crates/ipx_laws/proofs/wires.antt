@@ -5,5 +5,7 @@ pub mod EarlyFlights
 pub mod FineOnWires
 pub mod GoneOnWires
 pub mod HomeOrOnward
+pub mod PartsOfBeats
 pub mod RealOnWires
 pub mod SpokenOnWires
+pub mod WordsOnWires

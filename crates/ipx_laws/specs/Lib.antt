@@ -31,3 +31,5 @@ pub mod Upkeep
 -- Wires, WireAnnounces
 pub mod Wires
 pub mod WireAnnounces
+-- InTime
+pub mod InTime

@@ -31,7 +31,7 @@ passed_few : (event : Event) → passed event 0 ≤ 1
 passed_few event = grind arith
 
 -- what is so along a beat is so before it
-along_first : (net : Internet) (most_routes most_services delay : ℕ) (Is : Wires → Type 0) (w : Wires) (steps : List WireStep)
+pub along_first : (net : Internet) (most_routes most_services delay : ℕ) (Is : Wires → Type 0) (w : Wires) (steps : List WireStep)
     → Along net most_routes most_services delay Is w steps → Is w
 along_first net most_routes most_services delay Is w [] along = along
 along_first net most_routes most_services delay Is w (step ∷ steps) along = along.0
@@ -239,7 +239,7 @@ module _ (net : Internet) (laws : Layouts) (is : IsInternet net) (most_routes mo
         fewer w.beats seconds (λ router. seconds_of router (as_step (Lands which) ∷ []) + seconds router) next (λ router. omega arith)
         (found_goes w seconds going good (slice_get w.flights which) (λ f e. found_at Flies w.flights which f going.flights e) good_now)
 
-    step_goes : (beats : ℕ) (w : Wires) (seconds : ℕ → ℕ) (step : WireStep) → IsStep net (as_step step) → StepArises w step → Good w.histories
+    pub step_goes : (beats : ℕ) (w : Wires) (seconds : ℕ → ℕ) (step : WireStep) → IsStep net (as_step step) → StepArises w step → Good w.histories
         → Good (wired net most_routes most_services delay w step).histories → Going beats seconds w
         → Going beats (λ router. seconds_of router (as_step step ∷ []) + seconds router) (wired net most_routes most_services delay w step)
     step_goes beats w seconds step is_step arises good good_now going =
@@ -262,9 +262,23 @@ module _ (net : Internet) (laws : Layouts) (is : IsInternet net) (most_routes mo
         (steps_go beats steps next (λ router. seconds_of router (as_step step ∷ []) + seconds router) are.1
         (record { arise = such.arise.1; good = such.good.1 }) later)
 
+    -- what follows from it is so at each moment
+    pub steps_each : (Is : Wires → Type 0) (beats : ℕ) → ((seconds : ℕ → ℕ) (now : Wires) → Going beats seconds now → Is now) → (steps : List WireStep) (w : Wires)
+        (seconds : ℕ → ℕ) → AllByRecursion (λ step. IsStep net (as_step step)) steps → AreSuch w steps → Going beats seconds w
+        → Along net most_routes most_services delay Is w steps
+    steps_each Is beats so [] w seconds are such going = so seconds w going
+    steps_each Is beats so (step ∷ steps) w seconds are such going =
+        let next = wired net most_routes most_services delay w step in
+        let counted_now : ℕ → ℕ = λ router. seconds_of router (as_step step ∷ []) + seconds router in (
+          so seconds w going,
+          steps_each Is beats so steps next counted_now are.1 (record { arise = such.arise.1; good = such.good.1 })
+              (step_goes beats w seconds step are.0 such.arise.0 such.good.0
+              (along_first net most_routes most_services delay (λ now. Good now.histories) next steps such.good.1) going),
+        )
+
     -- ---- beats
 
-    beat_goes : (beats : ℕ) (steps : List WireStep) (w : Wires) → IsBeat net steps → AreSuch w steps → Going beats (λ router. 0) w
+    pub beat_goes : (beats : ℕ) (steps : List WireStep) (w : Wires) → IsBeat net steps → AreSuch w steps → Going beats (λ router. 0) w
         → Going (suc beats) (λ router. 0) (beaten (wires_of net most_routes most_services delay w steps))
     beat_goes beats steps w beat such going =
         let after = steps_go beats steps w (λ router. 0) beat.happens such going in

@@ -1,0 +1,127 @@
+-- Beats in parts: what is so of each of them, of those before and of those behind; how many have ended, and how old what flies is.
+use Rattle.std.proofs.Common.{◌≡◌, refl, sym, ap, ◌∙◌, subst, ℕ, zero, suc, ◌+◌, ◌<◌, ◌≤◌, nat_le, Bool, true, false, if◌then◌else◌, List, [], ◌∷◌, ◌++◌, length, map, flat_map, Option, None, Some, slice_get, arith, append_assoc, append-nil}
+use Rattle.std.specs.List.{AllByRecursion}
+use Rattle.ipx_router.specs.History.{Event, Packet}
+use Rattle.ipx_internet.specs.Internet.{Internet}
+use Rattle.ipx_internet.specs.Queue.{Delivery, deliveries_of, sends_at}
+use Rattle.ipx_internet.proofs.lists.EachElement.{all_of, all_then, all-append, all_mapped}
+use Rattle.ipx_laws.specs.Wires.{Flight, Wires, WireStep, Occurs, Lands, beaten, occurs, lands, wired, wires_of, beats_of, Along, EachBeat}
+
+module _ (net : Internet) (most_routes most_services delay : ℕ) where
+  abbrev by : Wires → List (List WireStep) → Wires
+  by = beats_of net most_routes most_services delay
+
+  abbrev Each : (Wires → List WireStep → Type 0) → Wires → List (List WireStep) → Type 0
+  Each = EachBeat net most_routes most_services delay
+
+  -- ---- one after the other
+
+  pub beats_more : (w : Wires) (front rest : List (List WireStep)) → by w (front ++ rest) ≡ by (by w front) rest
+  beats_more w [] rest = refl
+  beats_more w (steps ∷ front) rest = beats_more (beaten (wires_of net most_routes most_services delay w steps)) front rest
+
+  pub each_parts : (Is : Wires → List WireStep → Type 0) (w : Wires) (front rest : List (List WireStep)) → Each Is w (front ++ rest)
+      → Each Is w front × Each Is (by w front) rest
+  each_parts Is w [] rest each = (tt, each)
+  each_parts Is w (steps ∷ front) rest each =
+      let parts = each_parts Is (beaten (wires_of net most_routes most_services delay w steps)) front rest each.1 in ((each.0, parts.0), parts.1)
+
+  -- what is so of each of the rest, after those before it
+  pub each_at : (Is : Wires → List WireStep → Type 0) (w : Wires) (front rest : List (List WireStep))
+      → ((earlier : List (List WireStep)) (steps : List WireStep) (later : List (List WireStep)) → rest ≡ earlier ++ steps ∷ later → Is (by w (front ++ earlier)) steps)
+      → Each Is (by w front) rest
+  each_at Is w front [] so = tt
+  each_at Is w front (steps ∷ rest) so = (
+    subst (λ (f : List (List WireStep)). Is (by w f) steps) (append-nil front) (so [] steps rest refl),
+    subst (λ (v : Wires). Each Is v rest) (beats_more w front (steps ∷ []))
+        (each_at Is w (front ++ steps ∷ []) rest (λ earlier next later e.
+        subst (λ (f : List (List WireStep)). Is (by w f) next) (sym (append_assoc front (steps ∷ []) earlier)) (so (steps ∷ earlier) next later (ap (λ r. steps ∷ r) e)))),
+  )
+
+  -- what is so of each of something, all along
+  pub along_each : {X : Type 0} (Is : X → Wires → Type 0) (w : Wires) (steps : List WireStep) → ((x : X) → Along net most_routes most_services delay (Is x) w steps)
+      → Along net most_routes most_services delay (λ now. (x : X) → Is x now) w steps
+  along_each Is w [] all = all
+  along_each Is w (step ∷ steps) all =
+      ((λ x. (all x).0), along_each Is (wired net most_routes most_services delay w step) steps (λ x. (all x).1))
+
+  pub along_both : (Is So : Wires → Type 0) (w : Wires) (steps : List WireStep) → Along net most_routes most_services delay Is w steps
+      → Along net most_routes most_services delay So w steps → Along net most_routes most_services delay (λ now. Is now × So now) w steps
+  along_both Is So w [] one two = (one, two)
+  along_both Is So w (step ∷ steps) one two = ((one.0, two.0), along_both Is So (wired net most_routes most_services delay w step) steps one.1 two.1)
+
+  -- after the first of the steps
+  pub along_prefix : (Is : Wires → Type 0) (w : Wires) (steps rest : List WireStep) → Along net most_routes most_services delay Is w (steps ++ rest)
+      → Is (wires_of net most_routes most_services delay w steps)
+  along_prefix Is w [] [] along = along
+  along_prefix Is w [] (step ∷ rest) along = along.0
+  along_prefix Is w (step ∷ steps) rest along = along_prefix Is (wired net most_routes most_services delay w step) steps rest along.1
+
+  -- ---- stamps
+
+  abbrev Stamped : ℕ → Wires → Type 0
+  Stamped most w = AllByRecursion (λ f. f.sent ≤ most) w.flights
+
+  -- so many beats have ended, and nothing was sent later
+  pub record IsAt (beats : ℕ) (w : Wires) : Type 0 where
+    pub count : w.beats ≡ beats
+    pub stamped : Stamped beats w
+
+  occurs_at : (beats : ℕ) (w : Wires) (router : ℕ) (event : Event) → IsAt beats w → IsAt beats (occurs net most_routes most_services delay w router event)
+  occurs_at beats w router event is = record {
+    count = is.count;
+    stamped =
+        all-append (λ f. f.sent ≤ beats) w.flights _ is.stamped
+        (all_mapped (λ f. f.sent ≤ beats) (λ d. record { delivery = d; sent = w.beats })
+        (flat_map (deliveries_of net router) (sends_at net most_routes most_services w.histories router event))
+        (all_of (λ d. w.beats ≤ beats) (λ d. let same = is.count in omega (arith, same))
+        (flat_map (deliveries_of net router) (sends_at net most_routes most_services w.histories router event))));
+  }
+
+  lands_at : (beats : ℕ) (w : Wires) (f : Flight) → IsAt beats w → IsAt beats (lands net most_routes most_services delay w f)
+  lands_at beats w f is = either (nat_le w.beats (f.sent + delay))
+    where
+      at : Wires
+      at = occurs net most_routes most_services delay w f.delivery.to.router (Packet f.delivery.to.port f.delivery.bytes)
+
+      either : (c : Bool) → IsAt beats (if c then at else w)
+      either true = occurs_at beats w f.delivery.to.router (Packet f.delivery.to.port f.delivery.bytes) is
+      either false = is
+
+  abbrev landed : Wires → Option Flight → Wires
+  landed w o = elim o [ Some f ↦ lands net most_routes most_services delay w f | None ↦ w ]
+
+  step_at : (beats : ℕ) (w : Wires) (step : WireStep) → IsAt beats w → IsAt beats (wired net most_routes most_services delay w step)
+  step_at beats w (Occurs router event) is = occurs_at beats w router event is
+  step_at beats w (Lands which) is = found (slice_get w.flights which)
+    where
+      found : (o : Option Flight) → IsAt beats (landed w o)
+      found None = is
+      found (Some f) = lands_at beats w f is
+
+  steps_at : (beats : ℕ) (w : Wires) (steps : List WireStep) → IsAt beats w → IsAt beats (wires_of net most_routes most_services delay w steps)
+  steps_at beats w [] is = is
+  steps_at beats w (step ∷ steps) is = steps_at beats (wired net most_routes most_services delay w step) steps (step_at beats w step is)
+
+  -- when a beat begins, what flies was sent in one that has ended
+  pub record Begins (beats : ℕ) (w : Wires) : Type 0 where
+    pub count : w.beats ≡ beats
+    pub before : AllByRecursion (λ f. f.sent < beats) w.flights
+
+  pub beats_begin : (beats : ℕ) (w : Wires) (steps : List WireStep) (rest : List (List WireStep)) → IsAt beats w → Begins (length (steps ∷ rest) + beats) (by w (steps ∷ rest))
+  beats_begin beats w steps [] is =
+      let after = steps_at beats w steps is in
+      let sum : suc beats ≡ length (steps ∷ []) + beats = omega arith in
+      subst (λ (n : ℕ). Begins n (by w (steps ∷ []))) sum (record {
+        count = ap suc after.count;
+        before = all_then (λ f. f.sent ≤ beats) (λ f. f.sent < suc beats) (λ f less. omega (arith, less)) _ after.stamped;
+      })
+  beats_begin beats w steps (more ∷ rest) is =
+      let after = steps_at beats w steps is in
+      let next = beaten (wires_of net most_routes most_services delay w steps) in
+      let sum : length (more ∷ rest) + suc beats ≡ length (steps ∷ more ∷ rest) + beats = omega arith in
+      subst (λ (n : ℕ). Begins n (by w (steps ∷ more ∷ rest))) sum
+      (beats_begin (suc beats) next more rest (record {
+        count = ap suc after.count;
+        stamped = all_then (λ f. f.sent ≤ beats) (λ f. f.sent ≤ suc beats) (λ f less. omega (arith, less)) _ after.stamped;
+      }))

@@ -1,0 +1,69 @@
+-- Routers that are heard in time over wires, and how soon tables are right then.
+use Rattle.std.specs.Prelude.{◌≡◌, ◌≢◌, ℕ, ◌+◌, ◌*◌, ◌<◌, ◌≤◌, true, List, [], ◌∷◌, ◌++◌, length, map, Option, None, Some, slice_get, ◌⊎◌}
+use Rattle.std.specs.List.{AllByRecursion}
+use Rattle.ipx_wire.specs.Crossed.{is_among}
+use Rattle.ipx_wire.specs.declared.network.Network.{Network}
+use Rattle.ipx_wire.specs.declared.node.Node.{Node}
+use Rattle.ipx_wire.specs.declared.rip.Operation.TheVariants.{Response}
+use Rattle.ipx_router.specs.Facts.{heard_after}
+use Rattle.ipx_router.specs.Heard.{Heard, HeardRip, HeardSap}
+use Rattle.ipx_router.specs.Port.{is_up}
+use Rattle.ipx_router.specs.Told.{told}
+use Rattle.ipx_internet.specs.Internet.{Internet, Place, ports_of, port_of, network_of}
+use Rattle.ipx_internet.specs.Queue.{history_of}
+use Rattle.ipx_internet.specs.Ticks.{seconds_of}
+use Rattle.ipx_laws.specs.Least.{Way}
+use Rattle.ipx_laws.specs.Tables.{routes_of}
+use Rattle.ipx_laws.specs.Ups.{ups}
+use Rattle.ipx_laws.specs.Wires.{Flight, Wires, WireStep, Occurs, Lands, as_step, beaten, wired, wires_of, beats_of, Along, EachBeat, most_beats_gone}
+
+-- a response of routing information from that node, an entry of which names that network
+abbrev pub Names : Node → Network → Heard → Type 0
+Names node network (HeardRip source rip) =
+    (source.node ≡ node) × (rip.operation ≡ Response) × (is_among network (map (λ e. e.network) rip.entries) ≡ true)
+Names node network (HeardSap source sap) = ⊥
+
+module _ (net : Internet) (most_routes most_services delay : ℕ) where
+  -- in a step a flight lands on a port, not too late, and such a response is heard of it there
+  abbrev pub IsHeardFrom : Place → Node → Network → Wires → WireStep → Type 0
+  IsHeardFrom to node network w (Occurs router event) = ⊥
+  IsHeardFrom to node network w (Lands which) =
+      (f : Flight) × (slice_get w.flights which ≡ Some f) × (f.delivery.to ≡ to) × (w.beats ≤ f.sent + delay)
+      × (m : Heard) × (heard_after (ports_of net to.router) (history_of w.histories to.router) to.port f.delivery.bytes ≡ Some m) × Names node network m
+
+  -- in one of some steps, or what comes after them is so
+  abbrev pub HeardInSteps : Place → Node → Network → (Wires → Type 0) → Wires → List WireStep → Type 0
+  HeardInSteps to node network Later w [] = Later w
+  HeardInSteps to node network Later w (step ∷ steps) =
+      IsHeardFrom to node network w step ⊎ HeardInSteps to node network Later (wired net most_routes most_services delay w step) steps
+
+  -- in one of some beats
+  abbrev pub HeardInBeats : Place → Node → Network → Wires → List (List WireStep) → Type 0
+  HeardInBeats to node network w [] = ⊥
+  HeardInBeats to node network w (steps ∷ beats) = HeardInSteps to node network (λ next. HeardInBeats to node network (beaten next) beats) w steps
+
+  -- what a router advertises on a port names that network
+  abbrev pub Advertises : Place → Network → Wires → Type 0
+  Advertises from network w =
+      is_among network (map (λ e. e.network)
+      (told (ports_of net from.router) (ups net w.histories from.router) (routes_of net most_routes w.histories from.router) from.port)) ≡ true
+
+  -- what a router advertises all the time, for that many beats in a row, each router beside it hears in them, by ports that are up
+  abbrev pub AreHeardInTime : ℕ → (ℕ → List ℕ) → Wires → List (List WireStep) → Type 0
+  AreHeardInTime window up w beats =
+      (from to : Place) (network : Network) (before within after : List (List WireStep))
+      → is_up (up from.router) from.port ≡ true → is_up (up to.router) to.port ≡ true → from.router ≢ to.router → network_of net from ≡ network_of net to
+      → beats ≡ before ++ within ++ after → length within ≡ window
+      → EachBeat net most_routes most_services delay (Along net most_routes most_services delay (Advertises from network))
+      (beats_of net most_routes most_services delay w before) within
+      → HeardInBeats to (port_of net from).node network (beats_of net most_routes most_services delay w before) within
+
+-- the fastest clock has at most that many seconds in a beat
+abbrev pub IsSlow : Internet → ℕ → List WireStep → Type 0
+IsSlow net fastest steps = (router : ℕ) → router < length net → seconds_of router (map as_step steps) ≤ fastest
+
+-- the beats after which a router is right about a network: those after which every route is of a real way, and for each hop of the least way what
+-- still flies and a window in which its neighbours are heard
+abbrev pub beats_right : (delay window : ℕ) → Option Way → ℕ
+beats_right delay window None = most_beats_gone delay
+beats_right delay window (Some way) = most_beats_gone delay + way.hops * (window + delay)
