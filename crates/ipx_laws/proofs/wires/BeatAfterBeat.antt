@@ -22,7 +22,7 @@ use Rattle.ipx_laws.proofs.ticks.BusyTickAfterTick.{passed_more, own_seconds, ea
 use Rattle.ipx_laws.proofs.ticks.TickAfterTick.{second_there}
 
 -- what is so of each of a list is so of one that is found in it
-found_at : {X : Type 0} (P : X → Type 0) (xs : List X) (k : ℕ) (x : X) → AllByRecursion P xs → slice_get xs k ≡ Some x → P x
+pub found_at : {X : Type 0} (P : X → Type 0) (xs : List X) (k : ℕ) (x : X) → AllByRecursion P xs → slice_get xs k ≡ Some x → P x
 found_at P [] k x all e = nothing e
 found_at P (y ∷ xs) zero x all e = it_is P x y e all.0
 found_at P (y ∷ xs) (suc k) x all e = found_at P xs k x all.1 e
@@ -246,7 +246,7 @@ module _ (net : Internet) (laws : Layouts) (is : IsInternet net) (most_routes mo
         subst (λ (n : ℕ). Going n (λ router. seconds_of router (as_step step ∷ []) + seconds router) (wired net most_routes most_services delay w step)) going.count
         (step_counts w seconds step is_step arises good good_now (subst (λ (n : ℕ). Going n seconds w) (sym going.count) going))
 
-    more_seconds : (step : WireStep) (steps : List WireStep) (router : ℕ)
+    pub more_seconds : (step : WireStep) (steps : List WireStep) (router : ℕ)
         → seconds_of router (map as_step (step ∷ steps)) ≡ seconds_of router (as_step step ∷ []) + seconds_of router (map as_step steps)
     more_seconds step steps router = seconds_more router (as_step step ∷ []) (map as_step steps)
 
