@@ -8,5 +8,6 @@ pub mod HeardOnWires
 pub mod HomeOrOnward
 pub mod PartsOfBeats
 pub mod RealOnWires
+pub mod RightOnWires
 pub mod SpokenOnWires
 pub mod WordsOnWires

@@ -38,6 +38,13 @@ module _ (net : Internet) (most_routes most_services delay : ℕ) where
         subst (λ (f : List (List WireStep)). Is (by w f) next) (sym (append_assoc front (steps ∷ []) earlier)) (so (steps ∷ earlier) next later (ap (λ r. steps ∷ r) e)))),
   )
 
+  -- and says something else
+  pub each_then : (Is So : Wires → List WireStep → Type 0) → ((w : Wires) (steps : List WireStep) → Is w steps → So w steps) → (w : Wires)
+      (beats : List (List WireStep)) → Each Is w beats → Each So w beats
+  each_then Is So so w [] each = tt
+  each_then Is So so w (steps ∷ beats) each =
+      (so w steps each.0, each_then Is So so (beaten (wires_of net most_routes most_services delay w steps)) beats each.1)
+
   -- what is so of each of something, all along
   pub along_each : {X : Type 0} (Is : X → Wires → Type 0) (w : Wires) (steps : List WireStep) → ((x : X) → Along net most_routes most_services delay (Is x) w steps)
       → Along net most_routes most_services delay (λ now. (x : X) → Is x now) w steps

@@ -36,49 +36,46 @@ use Rattle.ipx_laws.proofs.records.RecordsGrowOld.{passed, at_last}
 use Rattle.ipx_laws.proofs.ticks.RealOrSoonEnded.{at_begin}
 use Rattle.ipx_laws.proofs.ticks.TickAfterTick.{at, all_come, second_spoken, packet_spoken}
 use Rattle.ipx_laws.proofs.wires.BeatAfterBeat.{beats_go, starts, each_all}
-use Rattle.ipx_laws.proofs.wires.SpokenOnWires.{Lasts, Flies, Arises, Good, Extras, Goes, keeps, such_beats, any_flies}
+use Rattle.ipx_laws.proofs.wires.SpokenOnWires.{AnyHistory, AnyEntry, Lasts, Flies, Arises, Good, Extras, Goes, keeps, such_beats, any_flies}
+
+-- nothing more is asked of what is said
+pub nothing_more : (delay slack : ℕ) (net : Internet) (laws : Layouts) (is : IsInternet net) (most_routes most_services : ℕ) (up : ℕ → List ℕ) (foreign : List Network)
+    → Extras delay slack net laws is most_routes most_services up foreign AnyHistory AnyEntry
+nothing_more delay slack net laws is most_routes most_services up foreign = record {
+  advertised = λ beats had router history enough lasts fit j. all_of (λ e. Unit {0}) (λ e. tt) _;
+  changed = λ beats had later router old new enough enough_then lasts then_lasts fit fit_then j. all_of (λ e. Unit {0}) (λ e. tt) _;
+}
 
 module _ (delay slack : ℕ) (net : Internet) (laws : Layouts) (is : IsInternet net) (most_routes most_services : ℕ) (up : ℕ → List ℕ) (foreign : List Network)
     (histories : List History) (are : AreHistories net histories) (stay : (router : ℕ) → ups net histories router ≡ up router) (deliveries : List Delivery)
     (fly : AllByRecursion (IsDelivery net) deliveries) (over : (deliveries ≡ []) ⊎ (most_beats_flying delay ≤ slack)) (beats : List (List WireStep))
     (all : AreBeats net beats) (leave : EachWireStep LeavesPorts beats) (say : EachWireStep (SaysOnly (TellsOnlyOf foreign)) beats) where
-  abbrev Fit : ℕ → History → Type 0
-  Fit router history = Unit {0}
-
-  abbrev Extra : ℕ → Place → RipEntry → Type 0
-  Extra sent from e = Unit {0}
-
-  -- nothing more is asked of what is said
-  nothing_more : Extras delay slack net laws is most_routes most_services up foreign Fit Extra
-  nothing_more = record {
-    advertised = λ beats had router history enough lasts fit j. all_of (λ e. Unit {0}) (λ e. tt) _;
-    changed = λ beats had later router old new enough enough_then lasts then_lasts fit fit_then j. all_of (λ e. Unit {0}) (λ e. tt) _;
-  }
-
   abbrev pub Flying : Flight → Type 0
-  Flying = Flies delay slack net laws is most_routes most_services up foreign Fit Extra
+  Flying = Flies delay slack net laws is most_routes most_services up foreign AnyHistory AnyEntry
 
   abbrev pub Goes_on : ℕ → (ℕ → ℕ) → Wires → Type 0
-  Goes_on = Goes delay slack net laws is most_routes most_services up foreign Fit Extra
+  Goes_on = Goes delay slack net laws is most_routes most_services up foreign AnyHistory AnyEntry
 
   abbrev last : Wires
   last = beats_of net most_routes most_services delay (flying histories deliveries) beats
 
   pub begins : Goes_on 0 (λ router. 0) (flying histories deliveries)
   begins =
-      starts net laws is most_routes most_services delay (Lasts delay slack net laws is most_routes most_services up foreign Fit Extra) Flying (Arises delay slack net laws is most_routes most_services up foreign Fit Extra) (Good delay slack net laws is most_routes most_services up foreign Fit Extra)
-      (keeps delay slack net laws is most_routes most_services up foreign Fit Extra nothing_more) histories deliveries are
+      starts net laws is most_routes most_services delay (Lasts delay slack net laws is most_routes most_services up foreign AnyHistory AnyEntry) Flying (Arises delay slack net laws is most_routes most_services up foreign AnyHistory AnyEntry) (Good delay slack net laws is most_routes most_services up foreign AnyHistory AnyEntry)
+      (keeps delay slack net laws is most_routes most_services up foreign AnyHistory AnyEntry
+      (nothing_more delay slack net laws is most_routes most_services up foreign)) histories deliveries are
       (λ router inside. at_begin delay slack net up foreign most_routes router (history_of histories router) (stay router)) (by over)
     where
       by : (deliveries ≡ []) ⊎ (most_beats_flying delay ≤ slack) → AllByRecursion (λ d. Flying (record { delivery = d; sent = 0 })) deliveries
       by (inl none) = subst (λ (ds : List Delivery). AllByRecursion (λ d. Flying (record { delivery = d; sent = 0 })) ds) (sym none) tt
-      by (inr room) = all_then (IsDelivery net) (λ d. Flying (record { delivery = d; sent = 0 })) (any_flies delay slack net laws is most_routes most_services up foreign Fit Extra room) deliveries fly
+      by (inr room) = all_then (IsDelivery net) (λ d. Flying (record { delivery = d; sent = 0 })) (any_flies delay slack net laws is most_routes most_services up foreign AnyHistory AnyEntry room) deliveries fly
 
   pub ends : Goes_on (length beats + 0) (λ router. 0) last
   ends =
-      beats_go net laws is most_routes most_services delay (Lasts delay slack net laws is most_routes most_services up foreign Fit Extra) Flying (Arises delay slack net laws is most_routes most_services up foreign Fit Extra) (Good delay slack net laws is most_routes most_services up foreign Fit Extra)
-      (keeps delay slack net laws is most_routes most_services up foreign Fit Extra nothing_more) 0 beats (flying histories deliveries) all
-      (such_beats delay slack net laws is most_routes most_services up foreign Fit Extra (flying histories deliveries) beats
+      beats_go net laws is most_routes most_services delay (Lasts delay slack net laws is most_routes most_services up foreign AnyHistory AnyEntry) Flying (Arises delay slack net laws is most_routes most_services up foreign AnyHistory AnyEntry) (Good delay slack net laws is most_routes most_services up foreign AnyHistory AnyEntry)
+      (keeps delay slack net laws is most_routes most_services up foreign AnyHistory AnyEntry
+      (nothing_more delay slack net laws is most_routes most_services up foreign)) 0 beats (flying histories deliveries) all
+      (such_beats delay slack net laws is most_routes most_services up foreign AnyHistory AnyEntry (flying histories deliveries) beats
       (each_all net most_routes most_services delay (λ now. (router : ℕ) → router < length net → Unit {0}) (λ now router inside. tt) (flying histories deliveries) beats) leave say)
       begins
 

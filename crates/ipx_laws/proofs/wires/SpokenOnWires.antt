@@ -54,6 +54,13 @@ comes_then net up foreign P Q step to bytes (inl (from, reaches, own)) =
     inl (from, reaches, own_page_then (P from) (Q from) (step from) (port_of net from) bytes own)
 comes_then net up foreign P Q step to bytes (inr tells) = inr tells
 
+-- any history, and any entry
+abbrev pub AnyHistory : ℕ → History → Type 0
+AnyHistory router history = Unit {0}
+
+abbrev pub AnyEntry : ℕ → Place → RipEntry → Type 0
+AnyEntry sent from e = Unit {0}
+
 -- what is so of each router's history at any moment, and so of each entry that the router sends then
 module _ (delay slack : ℕ) (net : Internet) (laws : Layouts) (is : IsInternet net) (most_routes most_services : ℕ) (up : ℕ → List ℕ) (foreign : List Network)
     (Fit : ℕ → History → Type 0) (Extra : ℕ → Place → RipEntry → Type 0) where

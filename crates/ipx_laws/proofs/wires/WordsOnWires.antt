@@ -80,7 +80,7 @@ module _ (delay slack : ℕ) (given : Given) where
   HasIt router w history =
       (h : Held RouteOffer) × (f : Place) × (known_of given router w (route_facts (ports_of net router) history) ≡ Some h) × RightFor given router w f h.offer
 
-  a_hop : (router : ℕ) (w : Wants given router) → 1 ≤ w.v.hops
+  pub a_hop : (router : ℕ) (w : Wants given router) → 1 ≤ w.v.hops
   a_hop router w =
       let c = came net up in_ports network 14 router w.v w.off w.least in
       let h = ap (λ (y : Way). y.hops) c.by in

@@ -1,0 +1,353 @@
+-- Over wires all tables become right, hop by hop: where all routers are right whose least ways have fewer hops, those with one hop more are after what
+-- still flies and a window in which their neighbours are heard.
+use Rattle.std.proofs.Common.{◌≡◌, ◌≢◌, refl, sym, ap, ◌∙◌, subst, ◌⊎◌, ℕ, zero, suc, ◌+◌, ◌-◌, ◌*◌, ◌<◌, ◌≤◌, true, false, List, [], ◌∷◌, ◌++◌, length, map, find, Option, None, Some, option_map, inl, inr, arith, append_assoc, append-nil, length-append, is_eq}
+use Rattle.std.specs.List.{AllByRecursion}
+use Rattle.std.proofs.lemmas.Bool.{cases_lt}
+use Rattle.ipx_table.specs.Alive.{lifetime}
+use Rattle.ipx_wire.specs.declared.network.Network.{Network}
+use Rattle.ipx_wire.specs.declared.rip.RipEntry.{RipEntry}
+use Rattle.ipx_router.specs.History.{History}
+use Rattle.ipx_router.specs.Outgoing.{route_to}
+use Rattle.ipx_router.specs.Port.{is_up}
+use Rattle.ipx_router.specs.Routes.{network_order}
+use Rattle.ipx_router.specs.declared.route_offer.RouteOffer.{RouteOffer}
+use Rattle.ipx_router.proofs.lists.EachElement.{all_before, all_behind, all_both}
+use Rattle.ipx_internet.specs.Internet.{Place, ports_of, port_of, network_of}
+use Rattle.ipx_internet.specs.Queue.{Delivery, history_of}
+use Rattle.ipx_internet.specs.Rounds.{IsDelivery}
+use Rattle.ipx_internet.specs.Run.{IsStep, AreHistories}
+use Rattle.ipx_internet.proofs.lists.EachElement.{all_of, all_then, all_mapped}
+use Rattle.ipx_internet.proofs.trees.RunIsALog.{router_there}
+use Rattle.ipx_laws.specs.Apart.{TellsOnlyOf}
+use Rattle.ipx_laws.specs.Gone.{most_ticks_gone}
+use Rattle.ipx_laws.specs.InTime.{Advertises, HeardInBeats, AreHeardInTime, IsSlow, beats_right}
+use Rattle.ipx_laws.specs.Least.{Way, is_on, least_route, way_of}
+use Rattle.ipx_laws.specs.Meanwhile.{LeavesPorts, SaysOnly}
+use Rattle.ipx_laws.specs.Ups.{ups}
+use Rattle.ipx_laws.specs.Wires.{Flight, Wires, WireStep, as_step, flying, wires_of, beats_of, Along, EachBeat, IsBeat, AreBeats, EachWireStep, most_beats_gone, most_beats_flying}
+use Rattle.ipx_laws.proofs.tables.Given.{Given}
+use Rattle.ipx_laws.proofs.tables.GoodRoutesStay.{right_way}
+use Rattle.ipx_laws.proofs.tables.LeastWays.{within, on_or_off, OnOrOff, few, is_there, same_some}
+use Rattle.ipx_laws.proofs.tables.NoRouteIsBetter.{a_source}
+use Rattle.ipx_laws.proofs.tables.SaysWhatItKnows.{Wants, wants, SourceOf, found_there}
+use Rattle.ipx_laws.proofs.tables.TablesAreRight.{none_on, none_without}
+use Rattle.ipx_laws.proofs.wires.BeatAfterBeat.{Going, along_all, along_then, beats_go, steps_each}
+use Rattle.ipx_laws.proofs.wires.HeardOnWires.{window_right, beat_right}
+use Rattle.ipx_laws.proofs.wires.PartsOfBeats.{Begins, beats_more, each_at, each_then, along_each, along_both, along_prefix, beats_begin}
+use Rattle.ipx_laws.proofs.wires.RealOnWires.{ends, nothing_more}
+use Rattle.ipx_laws.proofs.wires.SpokenOnWires.{AnyHistory, AnyEntry, Flies, Speaks, Lasts, Arises, Good, Goes, AllGood, Such, keeps, such_beats, steps_arise, comes_then, Told}
+use Rattle.ipx_laws.proofs.wires.WordsOnWires.{Lasting, HasIt, Fit, Extra, as_in_ticks, extras, advertises, a_hop, routes_in}
+
+-- a list in two parts, the first of that length
+parted : {X : Type 0} (k : ℕ) (xs : List X) → k ≤ length xs → (front : List X) × (back : List X) × (xs ≡ front ++ back) × (length front ≡ k)
+parted zero xs some = ([], xs, refl, refl)
+parted (suc k) [] some = absurd (omega (arith, some))
+parted (suc k) (x ∷ xs) some =
+    let (front, back, same, count) = parted k xs (omega (arith, some)) in (x ∷ front, back, ap (λ (ys : List _). x ∷ ys) same, ap suc count)
+
+module _ (delay slack : ℕ) (given : Given) where
+  open given use {net, laws, is, cheap, up, in_ports, most_routes, most_services, foreign, network, suffice}
+
+  -- ---- a router is right
+
+  -- by the route of its least way, or without one
+  module _ (x had : ℕ) (long : slack + most_beats_gone delay ≤ had) (history : History) (lasts : Lasting delay slack given x had history) where
+    abbrev routes : List RouteOffer
+    routes = routes_in delay slack given x history
+
+    abbrev found : Option RouteOffer
+    found = find (λ o. is_eq (network_order o.network network)) routes
+
+    by_number : route_to routes network.0 ≡ found
+    by_number = grind arith
+
+    pub table_right : ((w : Wants given x) → least_route net up x network ≡ Some w.v → HasIt delay slack given x w history)
+        → option_map way_of (route_to routes network.0) ≡ least_route net up x network
+    table_right has = ap (option_map way_of) by_number ∙ by (on_or_off net up in_ports network x) (within net up in_ports network 15 x) refl
+      where
+        by : OnOrOff net up in_ports network x → (o : Option Way) → within net up in_ports network 15 x ≡ o → option_map way_of found ≡ least_route net up x network
+        by (inl on) o e = ap (option_map way_of) (none_on given x most_ticks_gone (omega arith) history (as_in_ticks delay slack given x had long history lasts) on) ∙ rw on refl
+        by (inr off) None e =
+            ap (option_map way_of) (none_without given x most_ticks_gone (omega arith) history (as_in_ticks delay slack given x had long history lasts) e) ∙ rw off (sym e)
+        by (inr off) (Some v) e =
+            let w = wants given x v off e in
+            let same = same_some net up in_ports network (within net up in_ports network 15 x) w.v v w.least e in
+            let should : least_route net up x network ≡ Some v = rw off e in
+            let (h, f, some, right) = has w (should ∙ ap Some (sym same)) in
+            let way = right_way given x w.v w.off w.least f h.offer right in
+            ap (option_map way_of) (found_there given x w history h some (ap (λ (r : RouteOffer). r.network) right.same) way) ∙ ap Some (way ∙ same) ∙ rw off (sym e)
+
+  -- ---- beats
+
+  module _ (window fastest : ℕ) (quick : suc window * fastest < lifetime) (histories : List History) (are : AreHistories net histories)
+      (stay : (router : ℕ) → ups net histories router ≡ up router) (deliveries : List Delivery) (fly : AllByRecursion (IsDelivery net) deliveries)
+      (over : (deliveries ≡ []) ⊎ (most_beats_flying delay ≤ slack)) (beats : List (List WireStep)) (all : AreBeats net beats)
+      (leave : EachWireStep LeavesPorts beats) (say : EachWireStep (SaysOnly (TellsOnlyOf foreign)) beats) (slow : AllByRecursion (IsSlow net fastest) beats)
+      (hear : AreHeardInTime net most_routes most_services delay window up (flying histories deliveries) beats) where
+    abbrev at : List (List WireStep) → Wires
+    at front = beats_of net most_routes most_services delay (flying histories deliveries) front
+
+    abbrev StepsLeave : List WireStep → Type 0
+    StepsLeave steps = AllByRecursion (λ step. LeavesPorts (as_step step)) steps
+
+    abbrev StepsSay : List WireStep → Type 0
+    StepsSay steps = AllByRecursion (λ step. SaysOnly (TellsOnlyOf foreign) (as_step step)) steps
+
+    -- ---- parts of them
+
+    module _ (front rest : List (List WireStep)) (parts : beats ≡ front ++ rest) where
+      part_of : (P : List WireStep → Type 0) → AllByRecursion P beats → AllByRecursion P front
+      part_of P every = all_before P front rest (subst (λ (bs : List (List WireStep)). AllByRecursion P bs) parts every)
+
+      rest_of : (P : List WireStep → Type 0) → AllByRecursion P beats → AllByRecursion P rest
+      rest_of P every = all_behind P front rest (subst (λ (bs : List (List WireStep)). AllByRecursion P bs) parts every)
+
+      -- after the first of them
+      reals : Goes delay slack net laws is most_routes most_services up foreign AnyHistory AnyEntry (length front + 0) (λ router. 0) (at front)
+      reals =
+          ends delay slack net laws is most_routes most_services up foreign histories are stay deliveries fly over front (part_of (IsBeat net) all)
+          (part_of StepsLeave leave) (part_of StepsSay say)
+
+      -- what flies was sent before
+      sent_before : 1 ≤ length front → Begins net most_routes most_services delay (length front) (at front)
+      sent_before some = by front some
+        where
+          by : (f : List (List WireStep)) → 1 ≤ length f → Begins net most_routes most_services delay (length f) (at f)
+          by [] none = absurd (omega (arith, none))
+          by (steps ∷ more) some =
+              let sum : length (steps ∷ more) + 0 ≡ length (steps ∷ more) = omega arith in
+              subst (λ (n : ℕ). Begins net most_routes most_services delay n (at (steps ∷ more))) sum
+              (beats_begin net most_routes most_services delay 0 (flying histories deliveries) steps more (record {
+                count = refl;
+                stamped =
+                    all_mapped (λ f. f.sent ≤ 0) (λ d. record { delivery = d; sent = 0 }) deliveries (all_of (λ d. 0 ≤ 0) (λ d. omega arith) deliveries);
+              }))
+
+    -- ---- where those of fewer hops are right
+
+    abbrev steps_right_from : ℕ → ℕ
+    steps_right_from n = slack + most_beats_gone delay + n * (window + delay)
+
+    -- all those of at most so many hops, at each moment of each beat from that one on
+    abbrev Moments : (n : ℕ) → suc n ≤ 15 → Type 0
+    Moments n most =
+        (front : List (List WireStep)) (steps : List WireStep) (rest : List (List WireStep)) → beats ≡ front ++ steps ∷ rest → steps_right_from n ≤ length front
+        → Along net most_routes most_services delay (λ now. (router : ℕ) → router < length net → Fit delay slack given (suc n) most router (history_of now.histories router))
+        (at front) steps
+
+    -- nobody wants a route of no hop
+    first_moments : (most : 1 ≤ 15) → Moments 0 most
+    first_moments most front steps rest parts long =
+        steps_each net laws is most_routes most_services delay (Lasts delay slack net laws is most_routes most_services up foreign AnyHistory AnyEntry)
+        (Flies delay slack net laws is most_routes most_services up foreign AnyHistory AnyEntry)
+        (Arises delay slack net laws is most_routes most_services up foreign AnyHistory AnyEntry)
+        (Good delay slack net laws is most_routes most_services up foreign AnyHistory AnyEntry)
+        (keeps delay slack net laws is most_routes most_services up foreign AnyHistory AnyEntry (nothing_more delay slack net laws is most_routes most_services up foreign))
+        (λ now. (router : ℕ) → router < length net → Fit delay slack given 1 most router (history_of now.histories router)) (length front + 0)
+        (λ seconds now going router inside. record {
+          ups = (going.routers router 0 inside (omega arith) (omega arith)).ups;
+          has = λ w less. let some = a_hop delay slack given router w in absurd (omega (arith, less, some));
+        })
+        steps (at front) (λ router. 0) (here_are front steps rest parts).happens (here_such front steps rest parts) (reals front (steps ∷ rest) parts)
+      where
+        here_are : (front : List (List WireStep)) (steps : List WireStep) (rest : List (List WireStep)) → beats ≡ front ++ steps ∷ rest → IsBeat net steps
+        here_are front steps rest parts = (rest_of front (steps ∷ rest) parts (IsBeat net) all).0
+
+        here_such : (front : List (List WireStep)) (steps : List WireStep) (rest : List (List WireStep)) → beats ≡ front ++ steps ∷ rest
+            → Such delay slack net laws is most_routes most_services up foreign AnyHistory AnyEntry (at front) steps
+        here_such front steps rest parts = record {
+          arise =
+              steps_arise delay slack net laws is most_routes most_services up foreign AnyHistory AnyEntry (at front) steps (rest_of front (steps ∷ rest) parts StepsLeave leave).0
+              (rest_of front (steps ∷ rest) parts StepsSay say).0;
+          good =
+              along_all net most_routes most_services delay (λ now. (router : ℕ) → router < length net → Unit {0}) (λ now router inside. tt) (at front) steps;
+        }
+
+    module _ (n : ℕ) (most : suc n ≤ 15) (moments : Moments n most) where
+      abbrev start : ℕ
+      start = steps_right_from n
+
+      long : slack + most_beats_gone delay ≤ start
+      long = omega arith
+
+      abbrev F : ℕ → History → Type 0
+      F = Fit delay slack given (suc n) most
+
+      abbrev X : ℕ → Place → RipEntry → Type 0
+      X = Extra delay slack given (suc n) most start long
+
+      abbrev L : ℕ → ℕ → History → Type 0
+      L = Lasts delay slack net laws is most_routes most_services up foreign F X
+
+      abbrev Fl : Flight → Type 0
+      Fl = Flies delay slack net laws is most_routes most_services up foreign F X
+
+      abbrev GoesOn : ℕ → (ℕ → ℕ) → Wires → Type 0
+      GoesOn = Goes delay slack net laws is most_routes most_services up foreign F X
+
+      abbrev SuchBeat : Wires → List WireStep → Type 0
+      SuchBeat = Such delay slack net laws is most_routes most_services up foreign F X
+
+      abbrev GoodBeat : Wires → List WireStep → Type 0
+      GoodBeat = AllGood delay slack net laws is most_routes most_services up foreign F X
+
+      -- ---- parts of the beats from then on
+
+      module _ (front part rest : List (List WireStep)) (parts : beats ≡ front ++ (part ++ rest)) where
+        of_part : (P : List WireStep → Type 0) → AllByRecursion P beats → AllByRecursion P part
+        of_part P every = all_before P part rest (rest_of front (part ++ rest) parts P every)
+
+        module _ (late : start ≤ length front) where
+          good_in : EachBeat net most_routes most_services delay GoodBeat (at front) part
+          good_in =
+              each_at net most_routes most_services delay GoodBeat (flying histories deliveries) front part (λ earlier steps later e.
+              let sum = length-append front earlier in
+              moments (front ++ earlier) steps (later ++ rest) (parts ∙ ap (λ (p : List (List WireStep)). front ++ (p ++ rest)) e ∙ ap (λ (p : List (List WireStep)). front ++ p)
+              (append_assoc earlier (steps ∷ later) rest) ∙ sym (append_assoc front earlier (steps ∷ (later ++ rest)))) (omega (arith, late, sum)))
+
+          such_in : EachBeat net most_routes most_services delay SuchBeat (at front) part
+          such_in =
+              such_beats delay slack net laws is most_routes most_services up foreign F X (at front) part good_in (of_part StepsLeave leave) (of_part StepsSay say)
+
+      -- ---- what flies when they begin
+
+      module _ (zeroth rest : List (List WireStep)) (parts : beats ≡ zeroth ++ rest) (count : length zeroth ≡ start) where
+        stage : GoesOn start (λ router. 0) (at zeroth)
+        stage =
+            let real = reals zeroth rest parts in
+            let number = real.count in
+            let begins = sent_before zeroth rest parts (omega (arith, count)) in
+            record {
+              count = omega (arith, number, count);
+              are = real.are;
+              routers = λ router had inside many last. real.routers router had inside (omega (arith, many, count)) (omega (arith, last, count));
+              flights =
+                  all_then (λ f. (f.sent < length zeroth) × Flies delay slack net laws is most_routes most_services up foreign AnyHistory AnyEntry f) Fl
+                  (λ f both. record { delivery = both.1.delivery; speaks = speaks f both.0 both.1.speaks }) (at zeroth).flights
+                  (all_both (λ f. f.sent < length zeroth) (Flies delay slack net laws is most_routes most_services up foreign AnyHistory AnyEntry) (at zeroth).flights
+                  begins.before real.flights);
+            }
+          where
+            speaks : (f : Flight) → f.sent < length zeroth
+                → Speaks delay slack net laws is most_routes most_services up foreign AnyHistory AnyEntry f.delivery.to f.delivery.bytes f.sent
+                → Speaks delay slack net laws is most_routes most_services up foreign F X f.delivery.to f.delivery.bytes f.sent
+            speaks f before (inl comes) =
+                inl (comes_then net up foreign (Told delay slack net laws is most_routes most_services up foreign AnyHistory AnyEntry f.sent)
+                (Told delay slack net laws is most_routes most_services up foreign F X f.sent)
+                (λ from e both. (both.0, λ late. absurd (omega (arith, late, before, count)))) f.delivery.to f.delivery.bytes comes)
+            speaks f before (inr (inl early)) = inr (inl early)
+            speaks f before (inr (inr over_soon)) = inr (inr (record { reply = over_soon.reply; soon = over_soon.soon }))
+
+        going : (before after : List (List WireStep)) → rest ≡ before ++ after → GoesOn (length before + start) (λ router. 0) (at (zeroth ++ before))
+        going before after same =
+            let part = parts ∙ ap (λ (r : List (List WireStep)). zeroth ++ r) same in
+            subst (λ (v : Wires). GoesOn (length before + start) (λ router. 0) v) (sym (beats_more net most_routes most_services delay (flying histories deliveries) zeroth before))
+            (beats_go net laws is most_routes most_services delay L Fl (Arises delay slack net laws is most_routes most_services up foreign F X)
+            (Good delay slack net laws is most_routes most_services up foreign F X)
+            (keeps delay slack net laws is most_routes most_services up foreign F X (extras delay slack given (suc n) most start long)) start before (at zeroth)
+            (of_part zeroth before after part (IsBeat net) all) (such_in zeroth before after part (omega (arith, count))) stage)
+
+      -- ---- one hop more
+
+      -- a part in which nothing of the time before still flies, and a window
+      record Parts (front : List (List WireStep)) : Type 0 where
+        zeroth : List (List WireStep)
+        before : List (List WireStep)
+        inside : List (List WireStep)
+        same : front ≡ (zeroth ++ before) ++ inside
+        count : length zeroth ≡ start
+        flushed : delay ≤ length before
+        wide : length inside ≡ window
+
+      parts_of : (front : List (List WireStep)) → steps_right_from (suc n) ≤ length front → Parts front
+      parts_of front late =
+          let step : suc n * (window + delay) ≡ window + delay + n * (window + delay) = omega arith in
+          let (zeroth, tail, one, count) = parted start front (omega (arith, late, step)) in
+          let sum : length front ≡ length zeroth + length tail = ap length one ∙ length-append zeroth tail in
+          let (before, inside, two, flush) = parted (length tail - window) tail (omega arith) in
+          let total : length tail ≡ length before + length inside = ap length two ∙ length-append before inside in
+          record {
+            zeroth = zeroth;
+            before = before;
+            inside = inside;
+            same = one ∙ ap (λ (t : List (List WireStep)). zeroth ++ t) two ∙ sym (append_assoc zeroth before inside);
+            count = count;
+            flushed = omega (arith, late, step, sum, count, flush);
+            wide = omega (arith, late, step, sum, count, flush, total);
+          }
+
+      module _ (x : ℕ) (w : Wants given x) (exact : w.v.hops ≡ suc n) (front rest : List (List WireStep)) (parts : beats ≡ front ++ rest)
+          (late : steps_right_from (suc n) ≤ length front) where
+        cut : Parts front
+        cut = parts_of front late
+
+        abbrev behind : List (List WireStep)
+        behind = cut.zeroth ++ cut.before
+
+        whole : beats ≡ behind ++ (cut.inside ++ rest)
+        whole = parts ∙ ap (λ (f : List (List WireStep)). f ++ rest) cut.same ∙ append_assoc behind cut.inside rest
+
+        from_start : beats ≡ cut.zeroth ++ (cut.before ++ (cut.inside ++ rest))
+        from_start = whole ∙ append_assoc cut.zeroth cut.before (cut.inside ++ rest)
+
+        late_behind : start ≤ length behind
+        late_behind =
+            let sum = length-append cut.zeroth cut.before in
+            let count = cut.count in
+            omega (arith, sum, count)
+
+        there : x < length net
+        there = is_there net up in_ports network 15 x w.v w.least
+
+        going_in : GoesOn (length cut.before + start) (λ router. 0) (at behind)
+        going_in = going cut.zeroth (cut.before ++ (cut.inside ++ rest)) from_start cut.count cut.before (cut.inside ++ rest) refl
+
+        heard : (port : ℕ) (f : Place) → SourceOf given x w.v port f
+            → HeardInBeats net most_routes most_services delay (record { router = x; port = port }) (port_of net f).node network (at behind) cut.inside
+        heard port f source =
+            hear f (record { router = x; port = port }) network behind cut.inside rest source.neighbour.on_there source.neighbour.on_here source.neighbour.other
+            (sym source.neighbour.network) (parts ∙ ap (λ (f : List (List WireStep)). f ++ rest) cut.same) cut.wide
+            (each_then net most_routes most_services delay GoodBeat (Along net most_routes most_services delay (Advertises net most_routes most_services delay f network))
+            (λ v steps good. along_then net most_routes most_services delay
+            (λ now. Good delay slack net laws is most_routes most_services up foreign F X now.histories) (Advertises net most_routes most_services delay f network)
+            (λ now fit. advertises delay slack given (suc n) most x port w f source exact (history_of now.histories f.router)
+            (fit f.router (router_there net f.router f.port source.neighbour.place))) v steps good)
+            (at behind) cut.inside (good_in behind cut.inside rest whole late_behind))
+
+        abbrev then_at : Wires
+        then_at = beats_of net most_routes most_services delay (at behind) cut.inside
+
+        is_then : at front ≡ then_at
+        is_then = ap at cut.same ∙ beats_more net most_routes most_services delay (flying histories deliveries) behind cut.inside
+
+        enough : start + delay ≤ length cut.before + start
+        enough = let flushed = cut.flushed in omega (arith, flushed)
+
+        fast : suc (length cut.inside) * fastest < lifetime
+        fast = subst (λ (k : ℕ). suc k * fastest < lifetime) (sym cut.wide) quick
+
+        bound : HasIt delay slack given x w (history_of (at front).histories x)
+        bound =
+            subst (λ (v : Wires). HasIt delay slack given x w (history_of v.histories x)) (sym is_then)
+            (window_right delay slack given (suc n) most start long x w exact there fastest (length cut.before + start) enough cut.inside (at behind)
+            (of_part behind cut.inside rest whole (IsBeat net) all) (of_part behind cut.inside rest whole (IsSlow net fastest) slow)
+            (such_in behind cut.inside rest whole late_behind) going_in fast heard
+            (a_source net is cheap up in_ports network suffice x w.v w.off w.least))
+
+        bound_on : (steps : List WireStep) (more : List (List WireStep)) → rest ≡ steps ∷ more
+            → Along net most_routes most_services delay (λ now. HasIt delay slack given x w (history_of now.histories x)) (at front) steps
+        bound_on steps more next =
+            let goes_then : GoesOn (length cut.inside + (length cut.before + start)) (λ router. 0) then_at =
+            beats_go net laws is most_routes most_services delay L Fl (Arises delay slack net laws is most_routes most_services up foreign F X)
+            (Good delay slack net laws is most_routes most_services up foreign F X)
+            (keeps delay slack net laws is most_routes most_services up foreign F X (extras delay slack given (suc n) most start long)) (length cut.before + start)
+            cut.inside (at behind) (of_part behind cut.inside rest whole (IsBeat net) all) (such_in behind cut.inside rest whole late_behind) going_in in
+            let last = parts ∙ ap (λ (r : List (List WireStep)). front ++ r) next in
+            let such_now = (such_in front (steps ∷ []) more last (omega (arith, late))).0 in
+            subst (λ (v : Wires). Along net most_routes most_services delay (λ now. HasIt delay slack given x w (history_of now.histories x)) v steps) (sym is_then)
+            (beat_right delay slack given (suc n) most start long x w exact there fastest (length cut.before + start) enough cut.inside (at behind)
+            (of_part behind cut.inside rest whole (IsBeat net) all) (of_part behind cut.inside rest whole (IsSlow net fastest) slow)
+            (such_in behind cut.inside rest whole late_behind) going_in fast heard
+            (a_source net is cheap up in_ports network suffice x w.v w.off w.least) steps
+            (of_part front (steps ∷ []) more last (IsBeat net) all).0 (of_part front (steps ∷ []) more last (IsSlow net fastest) slow).0
+            (subst (λ (v : Wires). SuchBeat v steps) is_then such_now) goes_then)
