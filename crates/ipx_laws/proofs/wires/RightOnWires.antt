@@ -135,6 +135,18 @@ module _ (delay slack : ℕ) (given : Given) where
         → Along net most_routes most_services delay (λ now. (router : ℕ) → router < length net → Fit delay slack given (suc n) most router (history_of now.histories router))
         (at front) steps
 
+    beat_is : (front : List (List WireStep)) (steps : List WireStep) (rest : List (List WireStep)) → beats ≡ front ++ steps ∷ rest → IsBeat net steps
+    beat_is front steps rest parts = (rest_of front (steps ∷ rest) parts (IsBeat net) all).0
+
+    such_real : (front : List (List WireStep)) (steps : List WireStep) (rest : List (List WireStep)) → beats ≡ front ++ steps ∷ rest
+        → Such delay slack net laws is most_routes most_services up foreign AnyHistory AnyEntry (at front) steps
+    such_real front steps rest parts = record {
+      arise =
+          steps_arise delay slack net laws is most_routes most_services up foreign AnyHistory AnyEntry (at front) steps (rest_of front (steps ∷ rest) parts StepsLeave leave).0
+          (rest_of front (steps ∷ rest) parts StepsSay say).0;
+      good = along_all net most_routes most_services delay (λ now. (router : ℕ) → router < length net → Unit {0}) (λ now router inside. tt) (at front) steps;
+    }
+
     -- nobody wants a route of no hop
     first_moments : (most : 1 ≤ 15) → Moments 0 most
     first_moments most front steps rest parts long =
@@ -148,20 +160,7 @@ module _ (delay slack : ℕ) (given : Given) where
           ups = (going.routers router 0 inside (omega arith) (omega arith)).ups;
           has = λ w less. let some = a_hop delay slack given router w in absurd (omega (arith, less, some));
         })
-        steps (at front) (λ router. 0) (here_are front steps rest parts).happens (here_such front steps rest parts) (reals front (steps ∷ rest) parts)
-      where
-        here_are : (front : List (List WireStep)) (steps : List WireStep) (rest : List (List WireStep)) → beats ≡ front ++ steps ∷ rest → IsBeat net steps
-        here_are front steps rest parts = (rest_of front (steps ∷ rest) parts (IsBeat net) all).0
-
-        here_such : (front : List (List WireStep)) (steps : List WireStep) (rest : List (List WireStep)) → beats ≡ front ++ steps ∷ rest
-            → Such delay slack net laws is most_routes most_services up foreign AnyHistory AnyEntry (at front) steps
-        here_such front steps rest parts = record {
-          arise =
-              steps_arise delay slack net laws is most_routes most_services up foreign AnyHistory AnyEntry (at front) steps (rest_of front (steps ∷ rest) parts StepsLeave leave).0
-              (rest_of front (steps ∷ rest) parts StepsSay say).0;
-          good =
-              along_all net most_routes most_services delay (λ now. (router : ℕ) → router < length net → Unit {0}) (λ now router inside. tt) (at front) steps;
-        }
+        steps (at front) (λ router. 0) (beat_is front steps rest parts).happens (such_real front steps rest parts) (reals front (steps ∷ rest) parts)
 
     module _ (n : ℕ) (most : suc n ≤ 15) (moments : Moments n most) where
       abbrev start : ℕ
@@ -351,3 +350,113 @@ module _ (delay slack : ℕ) (given : Given) where
             (a_source net is cheap up in_ports network suffice x w.v w.off w.least) steps
             (of_part front (steps ∷ []) more last (IsBeat net) all).0 (of_part front (steps ∷ []) more last (IsSlow net fastest) slow).0
             (subst (λ (v : Wires). SuchBeat v steps) is_then such_now) goes_then)
+
+    -- ---- however many hops
+
+    abbrev pub Right_now : ℕ → Wires → Type 0
+    Right_now x now = option_map way_of (route_to (routes_in delay slack given x (history_of now.histories x)) network.0) ≡ least_route net up x network
+
+    next_moments : (n : ℕ) (most : suc (suc n) ≤ 15) (fewer : suc n ≤ 15) → Moments n fewer → Moments (suc n) most
+    next_moments n most fewer moments front steps rest parts late =
+        along_each net most_routes most_services delay (λ (router : ℕ) now. router < length net → Fit delay slack given (suc (suc n)) most router (history_of now.histories router))
+        (at front) steps (λ router. along_each net most_routes most_services delay
+        (λ (inside : router < length net) now. Fit delay slack given (suc (suc n)) most router (history_of now.histories router)) (at front) steps (λ inside.
+        along_then net most_routes most_services delay (λ now. Before router now × Exact router now)
+        (λ now. Fit delay slack given (suc (suc n)) most router (history_of now.histories router)) (λ now both. both_then router now both.0 both.1) (at front) steps
+        (along_both net most_routes most_services delay (Before router) (Exact router) (at front) steps
+        (along_then net most_routes most_services delay
+        (λ now. (k : ℕ) → k < length net → Fit delay slack given (suc n) fewer k (history_of now.histories k)) (Before router) (λ now all. all router inside) (at front) steps
+        (moments front steps rest parts sooner))
+        (along_each net most_routes most_services delay (λ (w : Wants given router) now. w.v.hops ≡ suc n → HasIt delay slack given router w (history_of now.histories router))
+        (at front) steps (λ w. along_each net most_routes most_services delay
+        (λ (exact : w.v.hops ≡ suc n) now. HasIt delay slack given router w (history_of now.histories router)) (at front) steps (λ exact.
+        bound_on n fewer moments router w exact front (steps ∷ rest) parts late steps rest refl))))))
+      where
+        sooner : steps_right_from n ≤ length front
+        sooner =
+            let step : suc n * (window + delay) ≡ window + delay + n * (window + delay) = omega arith in
+            omega (arith, late, step)
+
+        Before : ℕ → Wires → Type 0
+        Before router now = Fit delay slack given (suc n) fewer router (history_of now.histories router)
+
+        Exact : ℕ → Wires → Type 0
+        Exact router now = (w : Wants given router) → w.v.hops ≡ suc n → HasIt delay slack given router w (history_of now.histories router)
+
+        both_then : (router : ℕ) (now : Wires) → Before router now → Exact router now → Fit delay slack given (suc (suc n)) most router (history_of now.histories router)
+        both_then router now before exact = record {
+          ups = before.ups;
+          has = λ w less. elim (cases_lt w.v.hops (suc n)) [
+            | inl few_hops ↦ before.has w few_hops
+            | inr many ↦ exact w (omega (arith, less, many))
+          ];
+        }
+
+    all_moments : (n : ℕ) (most : suc n ≤ 15) → Moments n most
+    all_moments zero most = first_moments most
+    all_moments (suc n) most = let fewer : suc n ≤ 15 = omega (arith, most) in next_moments n most fewer (all_moments n fewer)
+
+    -- ---- tables
+
+    module _ (x : ℕ) (inside : x < length net) (front rest : List (List WireStep)) (parts : beats ≡ front ++ rest)
+        (enough : slack + beats_right delay window (least_route net up x network) ≤ length front) where
+      some_beats : slack + most_beats_gone delay ≤ length front
+      some_beats = by (least_route net up x network) enough
+        where
+          by : (o : Option Way) → slack + beats_right delay window o ≤ length front → slack + most_beats_gone delay ≤ length front
+          by None all_of_them = omega (arith, all_of_them)
+          by (Some way) all_of_them = omega (arith, all_of_them)
+
+      module _ (w : Wants given x) (should : least_route net up x network ≡ Some w.v) where
+        abbrev hops_before : ℕ
+        hops_before = w.v.hops - 1
+
+        exact : w.v.hops ≡ suc hops_before
+        exact = let some = a_hop delay slack given x w in omega (arith, some)
+
+        most_fifteen : suc hops_before ≤ 15
+        most_fifteen = let most = few net up in_ports network 15 x w.v w.least in omega (arith, most, exact)
+
+        late_for_it : steps_right_from (suc hops_before) ≤ length front
+        late_for_it =
+            let due : slack + beats_right delay window (Some w.v) ≤ length front =
+            subst (λ (o : Option Way). slack + beats_right delay window o ≤ length front) should enough in
+            subst (λ (k : ℕ). steps_right_from k ≤ length front) exact (omega (arith, due))
+
+      -- at the end of these beats
+      pub right_at : Right_now x (at front)
+      right_at =
+          let real = reals front rest parts in
+          table_right x (length front) some_beats (history_of (at front).histories x) (real.routers x (length front) inside (omega arith) (omega arith)) (λ w should.
+          bound (hops_before w should) (most_fifteen w should) (all_moments (hops_before w should) (most_fifteen w should)) x w (exact w should) front rest parts
+          (late_for_it w should))
+
+      -- and at each moment of the next
+      pub right_in : (steps : List WireStep) (more : List (List WireStep)) → rest ≡ steps ∷ more → Along net most_routes most_services delay (Right_now x) (at front) steps
+      right_in steps more next =
+          along_then net most_routes most_services delay (λ now. Lasting delay slack given x (length front) (history_of now.histories x) × Has now) (Right_now x)
+          (λ now both. table_right x (length front) some_beats (history_of now.histories x) both.0 both.1) (at front) steps
+          (along_both net most_routes most_services delay (λ now. Lasting delay slack given x (length front) (history_of now.histories x)) Has (at front) steps lasting
+          (along_each net most_routes most_services delay
+          (λ (w : Wants given x) now. least_route net up x network ≡ Some w.v → HasIt delay slack given x w (history_of now.histories x)) (at front) steps (λ w.
+          along_each net most_routes most_services delay
+          (λ (should : least_route net up x network ≡ Some w.v) now. HasIt delay slack given x w (history_of now.histories x)) (at front) steps (λ should.
+          bound_on (hops_before w should) (most_fifteen w should) (all_moments (hops_before w should) (most_fifteen w should)) x w (exact w should) front rest parts
+          (late_for_it w should) steps more next))))
+        where
+          Has : Wires → Type 0
+          Has now = (w : Wants given x) → least_route net up x network ≡ Some w.v → HasIt delay slack given x w (history_of now.histories x)
+
+          last : beats ≡ front ++ steps ∷ more
+          last = parts ∙ ap (λ (r : List (List WireStep)). front ++ r) next
+
+          lasting : Along net most_routes most_services delay (λ now. Lasting delay slack given x (length front) (history_of now.histories x)) (at front) steps
+          lasting =
+              steps_each net laws is most_routes most_services delay (Lasts delay slack net laws is most_routes most_services up foreign AnyHistory AnyEntry)
+              (Flies delay slack net laws is most_routes most_services up foreign AnyHistory AnyEntry)
+              (Arises delay slack net laws is most_routes most_services up foreign AnyHistory AnyEntry)
+              (Good delay slack net laws is most_routes most_services up foreign AnyHistory AnyEntry)
+              (keeps delay slack net laws is most_routes most_services up foreign AnyHistory AnyEntry (nothing_more delay slack net laws is most_routes most_services up foreign))
+              (λ now. Lasting delay slack given x (length front) (history_of now.histories x)) (length front + 0)
+              (λ seconds now going. going.routers x (length front) inside (omega arith) (omega arith)) steps (at front) (λ router. 0)
+              (beat_is front steps more last).happens (such_real front steps more last) (reals front (steps ∷ more) last)

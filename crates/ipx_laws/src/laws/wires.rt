@@ -3,9 +3,10 @@
 //! A beat is a second of the slowest clock: each router has one second in it, or more. What is sent lands within so many beats, its delay, or
 //! never; it may land any number of times, and in any order. Nothing need ever be quiet. What is gone, or announced, or real, is so whatever is
 //! lost; that tables are right asks that routers are heard.
-ghost use Rattle.std.specs.Prelude.{◌≡◌, ◌≢◌, ℕ, ◌+◌, ◌<◌, ◌≤◌, true, List, length};
+ghost use Rattle.std.specs.Prelude.{◌≡◌, ◌≢◌, ℕ, suc, ◌+◌, ◌*◌, ◌<◌, ◌≤◌, true, List, [], ◌∷◌, ◌++◌, length};
 ghost use Rattle.std.specs.List.{AllByRecursion};
 ghost use Rattle.ipx_wire.specs.declared.network.Network.{Network};
+ghost use Rattle.ipx_table.specs.Alive.{lifetime};
 ghost use Rattle.ipx_router.specs.History.{History};
 ghost use Rattle.ipx_router.specs.Port.{is_up};
 ghost use Rattle.ipx_internet.specs.Internet.{Internet, IsInternet};
@@ -13,13 +14,16 @@ ghost use Rattle.ipx_internet.specs.Queue.{Delivery};
 ghost use Rattle.ipx_internet.specs.Rounds.{IsDelivery};
 ghost use Rattle.ipx_internet.specs.Run.{AreHistories};
 ghost use Rattle.ipx_laws.specs.Announces.{AsksApart};
-ghost use Rattle.ipx_laws.specs.Apart.{TellsOnlyOf, IsRealApart};
+ghost use Rattle.ipx_laws.specs.Apart.{TellsOnlyOf, IsRealApart, IsSettingBeside};
+ghost use Rattle.ipx_laws.specs.InTime.{AreHeardInTime, IsSlow, beats_right};
+ghost use Rattle.ipx_laws.specs.Least.{least_route};
 ghost use Rattle.ipx_laws.specs.Meanwhile.{IsWithoutRoute, IsWithoutService, TellsNoRoute, LeavesPorts, SaysOnly};
 ghost use Rattle.ipx_laws.specs.Real.{IsReal};
-ghost use Rattle.ipx_laws.specs.Tables.{routes_of, services_of};
+ghost use Rattle.ipx_laws.specs.Setting.{IsSetting};
+ghost use Rattle.ipx_laws.specs.Tables.{routes_of, IsRight, services_of};
 ghost use Rattle.ipx_laws.specs.Ups.{ups};
 ghost use Rattle.ipx_laws.specs.WireAnnounces.{WasAnnounced};
-ghost use Rattle.ipx_laws.specs.Wires.{WireStep, still, flying, beats_of, KeepGone, AreBeats, EachWireStep, most_beats_gone, most_beats_flying};
+ghost use Rattle.ipx_laws.specs.Wires.{WireStep, still, flying, wires_of, beats_of, KeepGone, AreBeats, EachWireStep, most_beats_gone, most_beats_flying};
 
 /// What is gone is gone everywhere after 2,880 beats and 15 delays, whatever was in the tables before, whatever is lost, late, doubled or
 /// overtaken, and whatever else happens: routers start and stop, ports go down and come up, hosts speak.
@@ -110,6 +114,53 @@ pub fn real()
         → router < length net
         → AllByRecursion (IsReal net (ups net histories) router)
         (routes_of net most_routes (beats_of net most_routes most_services delay (flying histories deliveries) beats).histories router) }
+{
+    ipx_wire::laws::readings();
+    ipx_wire::laws::service_readings();
+    ipx_wire::laws::reread();
+    ipx_router::laws::packets();
+}
+
+/// Every table becomes right and stays so, whatever was in it before, hop by hop: a router has the route of its least way to a network of h hops
+/// after 2,880 beats and 15 delays, in which every route becomes real, and for each hop a window of beats and one delay more (`tables`); where
+/// there is no way it has none, after the first of these. So it is at each moment from then on, whatever flies then (`meanwhile`). If hosts
+/// tell of routes to networks of a list, that is so of each network off the list (`apart`). If anything flies at first, forged packets too, it
+/// takes 18 delays and one beat more (`whatever_flies`).
+///
+/// It asks what `right` asks of an internet and of hosts. And routers are heard in time (`AreHeardInTime`): what a router advertises on a port all
+/// the time of a window of beats in a row, each router beside it hears in them, by ports that are up; packets may be lost, late, doubled and
+/// overtaken besides. One beat more than a window has fewer than 180 seconds by every clock, the lifetime of an offer. So where routers
+/// broadcast each minute, of any two broadcasts in a row one must arrive: of three isn't enough.
+pub fn right()
+    ensures tables { (net : Internet) (most_routes most_services delay window fastest : ℕ) (histories : List History) (beats : List (List WireStep)) (router : ℕ) (network : Network)
+        → IsSetting net most_routes histories network → AreBeats net beats → EachWireStep LeavesPorts beats → EachWireStep (SaysOnly TellsNoRoute) beats
+        → AllByRecursion (IsSlow net fastest) beats → suc window * fastest < lifetime
+        → AreHeardInTime net most_routes most_services delay window (ups net histories) (still histories) beats
+        → router < length net → beats_right delay window (least_route net (ups net histories) router network) ≤ length beats
+        → IsRight net most_routes (beats_of net most_routes most_services delay (still histories) beats).histories (ups net histories) router network }
+    ensures meanwhile { (net : Internet) (most_routes most_services delay window fastest : ℕ) (histories : List History) (beats : List (List WireStep)) (steps more : List WireStep)
+        (router : ℕ) (network : Network)
+        → IsSetting net most_routes histories network → AreBeats net (beats ++ (steps ++ more) ∷ []) → EachWireStep LeavesPorts (beats ++ (steps ++ more) ∷ [])
+        → EachWireStep (SaysOnly TellsNoRoute) (beats ++ (steps ++ more) ∷ [])
+        → AllByRecursion (IsSlow net fastest) (beats ++ (steps ++ more) ∷ []) → suc window * fastest < lifetime
+        → AreHeardInTime net most_routes most_services delay window (ups net histories) (still histories) (beats ++ (steps ++ more) ∷ [])
+        → router < length net → beats_right delay window (least_route net (ups net histories) router network) ≤ length beats
+        → IsRight net most_routes (wires_of net most_routes most_services delay (beats_of net most_routes most_services delay (still histories) beats) steps).histories
+        (ups net histories) router network }
+    ensures apart { (net : Internet) (most_routes most_services delay window fastest : ℕ) (foreign : List Network) (histories : List History) (beats : List (List WireStep))
+        (router : ℕ) (network : Network)
+        → IsSettingBeside net most_routes foreign histories network → AreBeats net beats → EachWireStep LeavesPorts beats
+        → EachWireStep (SaysOnly (TellsOnlyOf foreign)) beats → AllByRecursion (IsSlow net fastest) beats → suc window * fastest < lifetime
+        → AreHeardInTime net most_routes most_services delay window (ups net histories) (still histories) beats
+        → router < length net → beats_right delay window (least_route net (ups net histories) router network) ≤ length beats
+        → IsRight net most_routes (beats_of net most_routes most_services delay (still histories) beats).histories (ups net histories) router network }
+    ensures whatever_flies { (net : Internet) (most_routes most_services delay window fastest : ℕ) (histories : List History) (deliveries : List Delivery)
+        (beats : List (List WireStep)) (router : ℕ) (network : Network)
+        → IsSetting net most_routes histories network → AllByRecursion (IsDelivery net) deliveries → AreBeats net beats → EachWireStep LeavesPorts beats
+        → EachWireStep (SaysOnly TellsNoRoute) beats → AllByRecursion (IsSlow net fastest) beats → suc window * fastest < lifetime
+        → AreHeardInTime net most_routes most_services delay window (ups net histories) (flying histories deliveries) beats → router < length net
+        → most_beats_flying delay + beats_right delay window (least_route net (ups net histories) router network) ≤ length beats
+        → IsRight net most_routes (beats_of net most_routes most_services delay (flying histories deliveries) beats).histories (ups net histories) router network }
 {
     ipx_wire::laws::readings();
     ipx_wire::laws::service_readings();
