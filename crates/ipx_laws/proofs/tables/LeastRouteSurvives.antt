@@ -91,7 +91,8 @@ module _ (given : Given) (router : ℕ) (v : Way) (off : is_on (ports_of given.n
 
     pub goes_on : (facts : List (Fact RouteOffer)) (o : RouteOffer) → Such facts → Fit o → Such (facts ++ Offered o ∷ [])
     goes_on facts o aged fit =
-        after_offers route_reading network_order network_total most_routes ss (λ r. r.hops) (λ r. refl) RealOf had (Offered o ∷ []) facts ((λ near. inl (fit near)), tt) aged
+        after_offers route_reading network_order network_total most_routes ss (λ r. r.hops) (λ r. refl) RealOf had (Offered o ∷ []) facts
+        ((λ near. inl (fit near)), tt) aged
 
     module _ (Fresh : Place → ℕ → Type 0) (now : (f : Place) → Fresh f 0) (Same : RouteOffer → Type 0) where
       abbrev pub Fits : RouteOffer → Type 0
@@ -162,8 +163,8 @@ module _ (given : Given) (router : ℕ) (v : Way) (off : is_on (ports_of given.n
           → (es : List RipEntry) (facts : List (Fact RouteOffer)) → AllByRecursion EntryIs es → AnyIs (λ e. e.network ≡ network) es → RoutesAged had facts
           → StateOf Fresh Late Later Same (known facts) → StateOf Fresh (λ f age. Late f age × (f ≢ from)) ⊥ Same (known (facts ++ offered es))
       entries_come Late Later free source es facts all any =
-          offers_come route_reading network_order network_total most_routes ss network to_it RealOf RightOf Fresh now Same (Best had long) (Such had long) (Fit had long) (real_known had long)
-          (goes_on had long) has_place from Late Later free (offered es) facts (all_fit es all) (among es all any)
+          offers_come route_reading network_order network_total most_routes ss network to_it RealOf RightOf Fresh now Same
+          (Best had long) (Such had long) (Fit had long) (real_known had long) (goes_on had long) has_place from Late Later free (offered es) facts (all_fit es all) (among es all any)
         where
           has_place : (facts : List (Fact RouteOffer)) (f : Place) (o : RouteOffer) → Such had long facts → RightOf f o → RealOf o
               → HasPlace route_reading network_order network_total most_routes ss network to_it RealOf RightOf (records facts) o
