@@ -16,5 +16,6 @@ pub mod Premises
 pub mod Rights
 pub mod Servers
 pub mod Staying
+pub mod Telling
 pub mod Ticks
 pub mod Upkeep

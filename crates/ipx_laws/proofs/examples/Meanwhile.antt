@@ -31,7 +31,7 @@ use Rattle.ipx_laws.proofs.examples.Ticks.{said, before, networks}
 abbrev entry : ℕ → RipEntry
 entry n = record { network = network n; hops = 1; ticks = 2 }
 
-abbrev news : List ℕ
+abbrev pub news : List ℕ
 news = said 0x10 0xAA (entry 0x77 ∷ [])
 
 abbrev busy : List Step
