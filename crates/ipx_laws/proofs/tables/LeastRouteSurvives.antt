@@ -91,8 +91,7 @@ module _ (given : Given) (router : ℕ) (v : Way) (off : is_on (ports_of given.n
 
     pub goes_on : (facts : List (Fact RouteOffer)) (o : RouteOffer) → Such facts → Fit o → Such (facts ++ Offered o ∷ [])
     goes_on facts o aged fit =
-        after_offers route_reading network_order network_total most_routes ss (λ r. r.hops) (λ r. refl) RealOf had (Offered o ∷ []) facts
-        ((λ near. inl (fit near)), tt) aged
+        after_offers route_reading network_order network_total most_routes ss (λ r. r.hops) (λ r. refl) RealOf had (Offered o ∷ []) facts ((λ near. inl (fit near)), tt) aged
 
     module _ (Fresh : Place → ℕ → Type 0) (now : (f : Place) → Fresh f 0) (Same : RouteOffer → Type 0) where
       abbrev pub Fits : RouteOffer → Type 0

@@ -151,8 +151,7 @@ module _ (given : Given) (before : ℕ) (long : most_ticks_gone ≤ before) (clo
         facts_now =
             let c = came net up in_ports network 14 x w.v w.off w.least in
             facts_from-more (route_facts_of ports) [] past Second
-            ∙ ap (λ b. route_facts ports past ++ (if b then PassedSecond ∷ [] else []))
-            (runs_where net up foreign most_routes x c.port before past c.neighbour.on_here endured)
+            ∙ ap (λ b. route_facts ports past ++ (if b then PassedSecond ∷ [] else [])) (runs_where net up foreign most_routes x c.port before past c.neighbour.on_here endured)
 
     abbrev GoodNow : Type 0
     GoodNow = GoodBy given x (route_facts ports now)

@@ -207,8 +207,7 @@ module _ (net : Internet) (up : ℕ → List ℕ) (foreign : List Network) where
           e = told_at (port_at ports j).cost (entry_of r)
 
           by : Fine router r ⊎ (had < lifetime * (r.hops + 1))
-              → ((to : Place) → Reaches net up (place j) to → Hears net up to e → Fine to.router (route_offer to.port (port_of net (place j)).node e))
-              ⊎ (begun ≤ lifetime * e.hops)
+              → ((to : Place) → Reaches net up (place j) to → Hears net up to e → Fine to.router (route_offer to.port (port_of net (place j)).node e)) ⊎ (begun ≤ lifetime * e.hops)
           by (inr old) = inr (omega (arith, old, soon))
           by (inl fine) =
               inl (λ to reaches hears off. farther (place j) r (eqb-false r.port j apart)

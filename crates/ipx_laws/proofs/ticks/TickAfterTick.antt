@@ -221,8 +221,7 @@ module _ (net : Internet) (laws : Layouts) (is : IsInternet net) (most_routes mo
         routers = each_lasts;
         few = λ other inside. fewer other (going.few other inside) (cases_eq other router);
         waiting =
-            all-append (Arrives net up foreign ticks) queue
-            (flat_map (deliveries_of net router) (sends_at net most_routes most_services histories router event)) going.waiting
+            all-append (Arrives net up foreign ticks) queue (flat_map (deliveries_of net router) (sends_at net most_routes most_services histories router event)) going.waiting
             (all_then (λ d. IsDelivery net d × Comes net up foreign (RouteSaid net up foreign ticks) d.to d.bytes) (Arrives net up foreign ticks)
             (λ d both. record { delivery = both.0; says = both.1 }) _
             (all_come (RouteSaid net up foreign ticks) histories going.are router event on of_bytes spoken));
@@ -329,8 +328,7 @@ module _ (net : Internet) (laws : Layouts) (is : IsInternet net) (most_routes mo
 
     pub packet_lasts : Lasts d.to.router (ticks - left d.to.router) (history_of histories d.to.router ++ Packet d.to.port d.bytes ∷ [])
     packet_lasts =
-        packet_endures net up foreign most_routes d.to.router (ticks - left d.to.router) ticks d.to.port d.bytes (omega arith) first.says
-        (history_of histories d.to.router) packet_lasted
+        packet_endures net up foreign most_routes d.to.router (ticks - left d.to.router) ticks d.to.port d.bytes (omega arith) first.says (history_of histories d.to.router) packet_lasted
 
     pub delivery_goes : Going ticks left
         (queued net most_routes most_services (record { histories = histories; queue = queue }) d.to.router (Packet d.to.port d.bytes))
@@ -341,8 +339,7 @@ module _ (net : Internet) (laws : Layouts) (is : IsInternet net) (most_routes mo
         let soon_enough = soon ticks histories queue router (Packet d.to.port d.bytes) left left inside first.delivery.place first.delivery.bytes (λ other off. refl) going_on in
         event_goes ticks histories queue router (Packet d.to.port d.bytes) left left inside first.delivery.place first.delivery.bytes (λ other off. refl) going_on
         (omega arith) (omega arith) packet_lasts
-        (packet_spoken (λ j. RouteSaid net up foreign ticks (at router j)) (RouteSaid net up foreign ticks) histories going.are d first.delivery first.says
-        packet_lasted.ups packet_lasts.ups
+        (packet_spoken (λ j. RouteSaid net up foreign ticks (at router j)) (RouteSaid net up foreign ticks) histories going.are d first.delivery first.says packet_lasted.ups packet_lasts.ups
         (λ m e silent. routes_said net up foreign most_routes router count ticks soon_enough before_it packet_lasted d.to.port)
         (changes_said net up foreign most_routes router count ticks soon_enough (before_it ++ Packet d.to.port d.bytes ∷ []) packet_lasts
         (offers (routes_held (ports_of net router) most_routes before_it))))
