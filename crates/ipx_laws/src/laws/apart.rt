@@ -11,12 +11,13 @@ ghost use Rattle.ipx_internet.specs.Run.{Step, AreHistories, Run};
 ghost use Rattle.ipx_internet.specs.Ticks.{ticked};
 ghost use Rattle.ipx_internet.specs.Traced.{routers_after};
 ghost use Rattle.ipx_internet.specs.Tree.{root};
-ghost use Rattle.ipx_laws.specs.Apart.{AreTicksBeside, AreTicksBesideAfter, IsRealApart, AreRealApart, IsSettingBeside};
+ghost use Rattle.ipx_laws.specs.Apart.{AreTicksBeside, AreTicksBesideAfter, IsRealApart, AreRealApart, RouteStays, IsSettingBeside};
 ghost use Rattle.ipx_laws.specs.Arriving.{CanArrive, Arrives};
 ghost use Rattle.ipx_laws.specs.Gone.{most_ticks_gone};
-ghost use Rattle.ipx_laws.specs.Least.{Way, least_route, ticks_right};
+ghost use Rattle.ipx_laws.specs.Least.{Way, least_route, ticks_right, most_ticks_right};
 ghost use Rattle.ipx_laws.specs.Real.{IsReal, led_over};
 ghost use Rattle.ipx_laws.specs.Tables.{routes_of, route_of, IsRight};
+ghost use Rattle.ipx_laws.specs.Upkeep.{steps_of};
 ghost use Rattle.ipx_laws.specs.Ups.{ups};
 
 /// Every route to a network off the list is of a real way after 2,880 ticks, whatever was in the tables before (`routes`), and so of none that
@@ -53,8 +54,8 @@ pub fn real_apart()
 
 /// Every table becomes right about each network off the list, and stays so, whatever was in it before and whatever hosts tell of the networks of
 /// the list meanwhile: after 2,940 ticks every router has the route of the least way to such a network, and where there is no way it has none,
-/// after 2,880 (`tables`). From then on it is the same route at the end of each tick, with hops, ticks, port and neighbour (`stay`). Where
-/// every route to a network off the list is of a real way from the first and nothing waits, 60 ticks are enough (`sooner`, `sooner_stay`).
+/// after 2,880 (`tables`). From then on it is the same route at the end of each tick, with hops, ticks, port and neighbour (`stay`), and after
+/// 2,940 also after each step of a tick (`each_step`). Where every route to a network off the list is of a real way from the first and nothing waits, 60 ticks are enough (`sooner`, `sooner_stay`).
 ///
 /// In these ticks hosts may speak as in `real_apart`. The internet is as for `laws::right`, but every table has room for the networks of the list
 /// besides those that its router has no port on, and so has the share of each port (`HasRoomBeside`). A network of the internet may be on the
@@ -72,6 +73,12 @@ pub fn right_apart()
         → router < length net → ticks_right (least_route net (ups net run.histories) router network) ≤ length ticks
         → route_of net most_routes (ticked net most_routes most_services run (first ∷ ticks ++ further)).histories router network
         ≡ route_of net most_routes (ticked net most_routes most_services run (first ∷ ticks)).histories router network }
+    ensures each_step { (net : Internet) (most_routes most_services : ℕ) (foreign : List Network) (run : Run) (first : List Step) (ticks further : List (List Step))
+        (network : Network)
+        → IsSettingBeside net most_routes foreign run.histories network
+        → AreTicksBesideAfter net most_routes most_services foreign run first (ticks ++ further) → most_ticks_right ≤ length ticks
+        → let now = ticked net most_routes most_services run (first ∷ ticks) in
+        RouteStays net most_routes most_services network now.histories now (steps_of further) }
     ensures sooner { (net : Internet) (most_routes most_services : ℕ) (foreign : List Network) (run : Run) (ticks : List (List Step)) (router : ℕ) (network : Network)
         → IsSettingBeside net most_routes foreign run.histories network → AreRealApart net most_routes run.histories (ups net run.histories) foreign
         → run.waiting ≡ [] → AreTicksBeside net most_routes most_services foreign run ticks → router < length net
