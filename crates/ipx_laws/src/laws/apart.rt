@@ -1,5 +1,5 @@
-//! What holds of all other networks where hosts tell of routes to the networks of a list, true or not: a NetWare server to its internal network,
-//! another maker's router to those behind it, a hostile client to any that it likes.
+//! What holds for all other networks while hosts advertise routes to the networks on a list, true or not: a NetWare server its internal network,
+//! another maker's router those behind it, a hostile client any that it likes.
 ghost use Rattle.std.specs.Prelude.{◌≡◌, ◌≢◌, ℕ, ◌+◌, ◌<◌, ◌≤◌, true, false, List, [], ◌∷◌, ◌++◌, length, Some};
 ghost use Rattle.std.specs.List.{AllByRecursion};
 ghost use Rattle.ipx_wire.specs.Crossed.{is_among};
@@ -23,9 +23,9 @@ ghost use Rattle.ipx_laws.specs.Ups.{ups};
 /// Every route to a network off the list is of a real way after 2,880 ticks, whatever was in the tables before (`routes`), and so of none that
 /// leads over a port that has been down that long (`down`). The port by which a route came is up after any number of ticks (`own_ports`).
 ///
-/// In these ticks ports stay as they are and routers run on, as in `laws::real`, and hosts may tell of routes to the networks of the list, true
+/// In these ticks ports stay as they are and routers run on, as in `laws::real`, and hosts may advertise routes to the networks on the list, true
 /// or not, with any hops and ticks, in the name of any node. But no entry of a response from outside names a network off the list, not even
-/// to say that this isn't reached, and no query for services is answered to the socket of RIP (`TellsOnlyOf`). With an empty list this is
+/// to withdraw it, and no query for services is answered to the socket of RIP (`TellsOnlyOf`). With an empty list this is
 /// `laws::real`.
 pub fn real_apart()
     ensures routes { (net : Internet) (most_routes most_services : ℕ) (foreign : List Network) (run : Run) (first : List Step) (ticks : List (List Step)) (router : ℕ)
@@ -52,12 +52,13 @@ pub fn real_apart()
     ipx_router::laws::packets();
 }
 
-/// Every table becomes right about each network off the list, and stays so, whatever was in it before and whatever hosts tell of the networks of
-/// the list meanwhile: after 2,940 ticks every router has the route of the least way to such a network, and where there is no way it has none,
+/// Every table becomes right about each network off the list, and stays so, whatever was in it before and whatever hosts advertise of the networks
+/// on the list meanwhile: after 2,940 ticks every router has the route of the least way to such a network, and where there is no way it has none,
 /// after 2,880 (`tables`). From then on it is the same route at the end of each tick, with hops, ticks, port and neighbour (`stay`), and after
-/// 2,940 also after each step of a tick (`each_step`). Where every route to a network off the list is of a real way from the first and nothing waits, 60 ticks are enough (`sooner`, `sooner_stay`).
+/// 2,940 also after each step of a tick (`each_step`). Where every route to a network off the list is of a real way from the first and nothing
+/// waits, 60 ticks are enough (`sooner`, `sooner_stay`).
 ///
-/// In these ticks hosts may speak as in `real_apart`. The internet is as for `laws::right`, but every table has room for the networks of the list
+/// In these ticks hosts may speak as in `real_apart`. The internet is as for `laws::right`, but every table has room for the networks on the list
 /// besides those that its router has no port on, and so has the share of each port (`HasRoomBeside`). A network of the internet may be on the
 /// list; of that one nothing is said. With an empty list this is `laws::right`.
 pub fn right_apart()
@@ -98,7 +99,7 @@ pub fn right_apart()
     ipx_router::laws::packets();
 }
 
-/// So packets for a network off the list arrive, as by `laws::arrives`, whatever hosts tell of the networks of the list: of a default route, too.
+/// So packets for a network off the list arrive, as by `laws::arrives`, whatever hosts advertise of the networks on the list, even a default route.
 /// After 2,940 ticks, or 2,880 where the router's least way has no hop, a packet of a host goes through as many routers more as that way has
 /// hops, one at a time, and the last one sends it out on that network, for the node that it is for.
 pub fn arrives_apart()
