@@ -26,3 +26,5 @@ pub mod Gains
 pub mod Arriving
 -- Upkeep
 pub mod Upkeep
+-- Edges
+pub mod Edges

@@ -4,6 +4,7 @@
 //! those of one tick. So whatever waits, forged packets too, one tick more is enough; hosts may say anything in it.
 pub mod changes;
 mod costs;
+pub mod edges;
 pub mod services;
 
 ghost use Rattle.std.specs.Prelude.{◌≡◌, ◌≢◌, ℕ, ◌+◌, ◌<◌, ◌≤◌, true, false, List, [], ◌∷◌, ◌++◌, length, map, flat_map, Option, Some};
