@@ -4,6 +4,7 @@ pub mod Arrivals
 pub mod Asking
 pub mod Changes
 pub mod Crowded
+pub mod Edges
 pub mod Horizons
 pub mod Hosts
 pub mod Leasts

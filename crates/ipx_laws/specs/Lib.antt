@@ -28,3 +28,5 @@ pub mod Arriving
 pub mod Apart
 -- Upkeep
 pub mod Upkeep
+-- Edges
+pub mod Edges

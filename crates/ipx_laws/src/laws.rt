@@ -5,6 +5,7 @@
 mod apart;
 pub mod changes;
 mod costs;
+pub mod edges;
 pub mod services;
 
 ghost use Rattle.std.specs.Prelude.{◌≡◌, ◌≢◌, ℕ, ◌+◌, ◌<◌, ◌≤◌, true, false, List, [], ◌∷◌, ◌++◌, length, map, flat_map, Option, Some};
