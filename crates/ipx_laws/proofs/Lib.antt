@@ -1,3 +1,4 @@
+pub mod edges
 pub mod examples
 pub mod gains
 pub mod lists

@@ -4,6 +4,7 @@ pub mod Arrivals
 pub mod Asking
 pub mod Changes
 pub mod Crowded
+pub mod Edges
 pub mod Horizons
 pub mod Hosts
 pub mod Leasts
@@ -16,6 +17,7 @@ pub mod Premises
 pub mod Rights
 pub mod Servers
 pub mod Staying
+pub mod Telling
 pub mod Ticks
 pub mod Upkeep
 pub mod Wiring

@@ -1,5 +1,5 @@
 -- Hosts that tell of routes to networks of a list, and what is asked of an internet in which they do: what comes of all other networks.
-use Rattle.std.specs.Prelude.{◌≡◌, ◌≢◌, ℕ, ◌<◌, ◌≤◌, true, false, List, ◌++◌, length}
+use Rattle.std.specs.Prelude.{◌≡◌, ◌≢◌, ℕ, ◌<◌, ◌≤◌, true, false, List, [], ◌∷◌, ◌++◌, length}
 use Rattle.std.specs.List.{AllByRecursion}
 use Rattle.ipx_wire.specs.Crossed.{is_among}
 use Rattle.ipx_wire.specs.declared.network.Network.{Network}
@@ -12,12 +12,12 @@ use Rattle.ipx_router.specs.History.{History}
 use Rattle.ipx_router.specs.Numbers.{rip_socket}
 use Rattle.ipx_router.specs.declared.route_offer.RouteOffer.{RouteOffer}
 use Rattle.ipx_internet.specs.Internet.{Internet, IsInternet, NodesDiffer}
-use Rattle.ipx_internet.specs.Run.{Step, AreHistories, Run, run_of}
+use Rattle.ipx_internet.specs.Run.{Step, AreHistories, Run, stepped, run_of}
 use Rattle.ipx_laws.specs.Least.{AreCheap, FifteenSuffice, others_of}
 use Rattle.ipx_laws.specs.Meanwhile.{LeavesPorts, SaysOnly, EachStep, AreTicksOfHosts}
 use Rattle.ipx_laws.specs.Real.{IsReal}
 use Rattle.ipx_laws.specs.Setting.{ComesToRest}
-use Rattle.ipx_laws.specs.Tables.{routes_of}
+use Rattle.ipx_laws.specs.Tables.{routes_of, route_of}
 use Rattle.ipx_laws.specs.Ups.{ups}
 
 -- ---- what hosts may say
@@ -54,6 +54,18 @@ IsRealApart net up foreign router r = is_among r.network foreign ≡ false → I
 abbrev pub AreRealApart : Internet → ℕ → List History → (ℕ → List ℕ) → List Network → Type 0
 AreRealApart net most_routes histories up foreign =
     (router : ℕ) → router < length net → AllByRecursion (IsRealApart net up foreign router) (routes_of net most_routes histories router)
+
+module _ (net : Internet) (most_routes most_services : ℕ) (network : Network) where
+  -- each router has the route to a network that it has after other histories
+  abbrev pub HaveTheRoute : List History → List History → Type 0
+  HaveTheRoute old new = (router : ℕ) → router < length net → route_of net most_routes new router network ≡ route_of net most_routes old router network
+
+  -- so it is after each of some steps
+  abbrev pub RouteStays : List History → Run → List Step → Type 0
+  RouteStays old run [] = Unit
+  RouteStays old run (step ∷ steps) =
+      let next = stepped net most_routes most_services run step in
+      HaveTheRoute old next.histories × RouteStays old next steps
 
 -- ---- an internet in which tables become right about a network, whatever hosts tell of the list
 

@@ -28,6 +28,8 @@ pub mod Arriving
 pub mod Apart
 -- Upkeep
 pub mod Upkeep
+-- Edges
+pub mod Edges
 -- Wires, WireAnnounces
 pub mod Wires
 pub mod WireAnnounces

@@ -2,9 +2,10 @@
 //!
 //! Laws of ticks begin with steps after which nothing waits (`ComesToRest`): with none where nothing waits, as at `begun histories`, else with
 //! those of one tick. So whatever waits, forged packets too, one tick more is enough; hosts may say anything in it.
-pub mod apart;
+mod apart;
 pub mod changes;
 mod costs;
+pub mod edges;
 pub mod services;
 pub mod wires;
 
@@ -34,6 +35,7 @@ ghost use Rattle.ipx_laws.specs.Setting.{IsSetting};
 ghost use Rattle.ipx_laws.specs.Tables.{routes_of, route_of, AreReal, IsRight, services_of};
 ghost use Rattle.ipx_laws.specs.Ups.{ups};
 
+pub use crate::laws::apart::{arrives_apart, real_apart, right_apart};
 pub use crate::laws::costs::{tables_stay, upkeep};
 
 /// Over any run, no route goes back to where it was learned: no route that a router holds after an event, to a network that an
@@ -153,7 +155,7 @@ pub fn real()
         → AllByRecursion (λ r. is_up (ups net run.histories router) r.port ≡ true)
         (routes_of net most_routes (ticked net most_routes most_services run (first ∷ ticks)).histories router) }
 {
-    crate::laws::apart::real();
+    crate::laws::apart::real_apart();
 }
 
 /// The least way over the ports that are up is a way of at most fifteen hops, and no such way is better.
@@ -210,7 +212,7 @@ pub fn right()
         ≡ route_of net most_routes (ticked net most_routes most_services run ticks).histories router network }
     ensures soon { (way : Option Way) → ticks_right way ≤ most_ticks_right }
 {
-    crate::laws::apart::right();
+    crate::laws::apart::right_apart();
 }
 
 /// So packets arrive. A packet of a host comes to a port that is up, of a router that has a way to the packet's network; the port isn't on
@@ -238,5 +240,5 @@ pub fn arrives()
         → IsOfHost net p → p.header.destination.node ≢ broadcast → Arrives (routers_after net most_routes histories) p.header.destination control hops 0 c
         → EndsOn (routers_after net most_routes histories) p.header.destination.network hops c }
 {
-    crate::laws::apart::arrives();
+    crate::laws::apart::arrives_apart();
 }

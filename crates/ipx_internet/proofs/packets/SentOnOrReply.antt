@@ -101,6 +101,7 @@ pub record IsOnward (port : Port) (came sent : List ℕ) : Type 0 where
   pub reread : packet_of sent ≡ Ok further
   pub more : further.header.control ≡ packet.header.control + 1
   pub socket : further.header.destination.socket.0 ≡ packet.header.destination.socket.0
+  pub source : further.header.source ≡ packet.header.source
   pub keeps : ((is_propagated packet.header ≡ true) × (is_propagated further.header ≡ true))
       ⊎ ((is_propagated further.header ≡ is_propagated packet.header) × (heard_in further ≡ heard_in packet))
 
@@ -132,7 +133,7 @@ pub no_reply : (port : Port) (came sent : List ℕ) → IsReply port came → Is
 no_reply port came sent reply on = not_onward port came sent reply.packet reply.read reply.plain reply.home on
 
 module _ (laws : Layouts) (ports : List Port) (are : AllByRecursion IsPort ports) where
-  onward : (up : List ℕ) (routes : List RouteOffer) (number : ℕ) (bytes : List ℕ) → IsBytes bytes → (s : Sent) → IsRelayed ports up routes number bytes s
+  pub onward : (up : List ℕ) (routes : List RouteOffer) (number : ℕ) (bytes : List ℕ) → IsBytes bytes → (s : Sent) → IsRelayed ports up routes number bytes s
       → IsOnward (port_at ports number) bytes s.bytes
   onward up routes number bytes are_bytes s (inl is) =
       let p = is.packet in
@@ -150,6 +151,7 @@ module _ (laws : Layouts) (ports : List Port) (are : AllByRecursion IsPort ports
         reread = (laws.readings.packet_read s.bytes (forwarded p) sent).1 again;
         more = refl;
         socket = refl;
+        source = refl;
         keeps = inr (refl, refl);
       }
   onward up routes number bytes are_bytes s (inr is) =
@@ -170,6 +172,7 @@ module _ (laws : Layouts) (ports : List Port) (are : AllByRecursion IsPort ports
         reread = (laws.readings.packet_read s.bytes crossing sent).1 again;
         more = refl;
         socket = refl;
+        source = refl;
         keeps = inl (is.all, is.all);
       }
 

@@ -174,7 +174,7 @@ module _ (net : Internet) where
     pub waiting : AllByRecursion (IsWaiting run.log) run.waiting
     pub names : AreDifferent (names run.log ++ names_waiting run.waiting)
 
-  is_log : (run : Run) → Good run → IsLog net run.log
+  pub is_log : (run : Run) → Good run → IsLog net run.log
   is_log run good = record {
     within = λ k there. (good.sound k there).within;
     ups = λ k there. (good.sound k there).ups;

@@ -284,7 +284,8 @@ module _ (foreign : List Network) (laws : Layouts) (ports : List Port) (are : Al
         where
           by : (o : Option Heard) → heard_after ports history number bytes ≡ o → AllByRecursion Spoken sent
           by None e =
-              all_then (λ s. IsOnward (port_at ports number) bytes s.bytes) Spoken (λ s onward. inr (apart_onward foreign (port_at ports number) bytes s.bytes tells onward)) sent
+              all_then (λ s. IsOnward (port_at ports number) bytes s.bytes) Spoken
+              (λ s onward. inr (apart_onward foreign (port_at ports number) bytes s.bytes tells onward)) sent
               (unsaid laws ports are most_routes most_services history on of_bytes number bytes within are_bytes e)
           by (Some m) e =
               told_spoken (up_here m e) m e (heard_is laws.readings ports before.up number bytes are_bytes (running history) m e).source

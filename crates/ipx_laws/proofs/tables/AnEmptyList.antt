@@ -1,5 +1,5 @@
 -- Where hosts tell of no route: what the laws of networks off a list ask of an internet is what they ask with an empty one.
-use Rattle.std.proofs.Common.{◌≡◌, refl, sym, subst, ℕ, ◌<◌, ◌≤◌, List, [], ◌++◌, length, append-nil}
+use Rattle.std.proofs.Common.{refl, sym, subst, ℕ, ◌≤◌, List, [], ◌++◌, length, append-nil}
 use Rattle.std.specs.List.{AllByRecursion}
 use Rattle.ipx_wire.specs.declared.network.Network.{Network}
 use Rattle.ipx_router.specs.History.{History}

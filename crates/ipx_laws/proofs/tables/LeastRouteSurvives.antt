@@ -162,8 +162,8 @@ module _ (given : Given) (router : ℕ) (v : Way) (off : is_on (ports_of given.n
           → (es : List RipEntry) (facts : List (Fact RouteOffer)) → AllByRecursion EntryIs es → AnyIs (λ e. e.network ≡ network) es → RoutesAged had facts
           → StateOf Fresh Late Later Same (known facts) → StateOf Fresh (λ f age. Late f age × (f ≢ from)) ⊥ Same (known (facts ++ offered es))
       entries_come Late Later free source es facts all any =
-          offers_come route_reading network_order network_total most_routes ss network to_it RealOf RightOf Fresh now Same (Best had long) (Such had long) (Fit had long) (real_known had long)
-          (goes_on had long) has_place from Late Later free (offered es) facts (all_fit es all) (among es all any)
+          offers_come route_reading network_order network_total most_routes ss network to_it RealOf RightOf Fresh now Same
+          (Best had long) (Such had long) (Fit had long) (real_known had long) (goes_on had long) has_place from Late Later free (offered es) facts (all_fit es all) (among es all any)
         where
           has_place : (facts : List (Fact RouteOffer)) (f : Place) (o : RouteOffer) → Such had long facts → RightOf f o → RealOf o
               → HasPlace route_reading network_order network_total most_routes ss network to_it RealOf RightOf (records facts) o

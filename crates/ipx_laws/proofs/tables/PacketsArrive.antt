@@ -372,7 +372,8 @@ module _ (net : Internet) (laws : Layouts) (is : IsInternet net) (differ : Nodes
           let enough : most_ticks_right ≤ ticks = sure (omega arith) in
           let has = route_is (given_of net laws is differ cheap up in_ports most_routes most_services foreign room to.network suffice unlisted)
           ticks run rest long q inside v off least enough in
-          let held = by_number (given_of net laws is differ cheap up in_ports most_routes most_services foreign room to.network suffice unlisted) ticks run rest long q inside ∙ has.held in
+          let held = by_number (given_of net laws is differ cheap up in_ports most_routes most_services foreign room to.network suffice unlisted)
+          ticks run rest long q inside ∙ has.held in
           let out : Outway = record { port = has.route.port; link = has.route.node } in
           let routed = way_by_route q inside off has.route held in
           let leaves = has.source.neighbour.here in

@@ -1,6 +1,6 @@
 -- Where every route is of a real way, or to a network of a list, there is room: no more routes are held than there are networks that the router
 -- has no port on, and of the list; and which of two routes is worse.
-use Rattle.std.proofs.Common.{◌≡◌, refl, sym, ap, ◌∙◌, subst, ℕ, zero, suc, ◌<◌, ◌≤◌, ◌==◌, nat_lt, ◌&&◌, Bool, true, false, not, List, [], ◌∷◌, ◌++◌, length, map, filter, find, flat_map, get_or, None, Some, inl, inr, arith, true≢false, Less, Equal, Greater, is_eq, rules}
+use Rattle.std.proofs.Common.{◌≡◌, refl, sym, ap, ◌∙◌, subst, ℕ, zero, suc, ◌<◌, ◌≤◌, ◌==◌, nat_lt, ◌&&◌, Bool, true, false, not, List, [], ◌∷◌, ◌++◌, length, map, filter, find, flat_map, get_or, None, Some, inl, inr, arith, true≢false, Less, Equal, Greater, is_eq}
 use Rattle.std.specs.List.{AllByRecursion, list_any}
 use Rattle.std.specs.Ordering.{nat_cmp, is_gt}
 use Rattle.std.specs.Cmp.{nat_cmp_is}
@@ -173,7 +173,8 @@ module _ (net : Internet) (up : ℕ → List ℕ) (there_where_up : (router port
   in_second network [] ys any = any
   in_second network (x ∷ xs) ys any = or_right (x.0 == network.0) (list_any (λ n. n.0 == network.0) (xs ++ ys)) (in_second network xs ys any)
 
-  module _ (router : ℕ) (most_routes : ℕ) (foreign : List Network) (room : HasRoomBeside net most_routes foreign) (inside : router < length net) (held : List (Held RouteOffer))
+  module _ (router : ℕ) (most_routes : ℕ) (foreign : List Network) (room : HasRoomBeside net most_routes foreign) (inside : router < length net)
+      (held : List (Held RouteOffer))
       (distinct : IsDistinct (route_rules (ports_of net router) most_routes).by_key held) (all : AllByRecursion (λ h. IsRealApart net up foreign router h.offer) held)
       (o : RouteOffer) where
     abbrev ports : List Port

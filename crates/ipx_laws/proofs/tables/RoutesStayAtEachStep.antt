@@ -1,14 +1,17 @@
 -- Once all tables are right, each router has after each step of a tick the route that it had when the tick began.
-use Rattle.std.proofs.Common.{◌≡◌, refl, sym, ◌∙◌, ℕ, suc, ◌-◌, ◌<◌, ◌≤◌, List, [], ◌∷◌, length, Option, None, Some, inl, inr, arith}
+use Rattle.std.proofs.Common.{◌≡◌, refl, sym, ◌∙◌, ℕ, suc, ◌-◌, ◌<◌, ◌≤◌, List, [], ◌∷◌, length, Option, None, Some, inl, inr, arith, is_eq, ◌==◌}
+use Rattle.ipx_router.specs.Routes.{network_order}
 use Rattle.ipx_router.specs.declared.route_offer.RouteOffer.{RouteOffer}
 use Rattle.ipx_internet.specs.Queue.{history_of}
-use Rattle.ipx_internet.specs.Run.{Step, Run, forgotten, run_of}
+use Rattle.ipx_internet.specs.Run.{Step, Run, forgotten, stepped, run_of}
+use Rattle.ipx_laws.specs.Apart.{RouteStays}
 use Rattle.ipx_laws.specs.Gone.{most_ticks_gone}
 use Rattle.ipx_laws.specs.Least.{Way, most_ticks_right}
+use Rattle.ipx_laws.specs.Tables.{routes_of, route_of as held_of}
 use Rattle.ipx_laws.specs.Upkeep.{steps_of}
 use Rattle.ipx_laws.proofs.tables.Given.{Given}
 use Rattle.ipx_laws.proofs.tables.LeastWays.{within, on_or_off, OnOrOff}
-use Rattle.ipx_laws.proofs.tables.RightWithinAMinute.{AtRest, route_of, RightedOf, kept, begins_right, ended, held_now, tick_rests}
+use Rattle.ipx_laws.proofs.tables.RightWithinAMinute.{AtRest, route_of, RightedOf, kept, begins_right, ended, held_now, tick_rests, find_same, tied}
 use Rattle.ipx_laws.proofs.tables.SaysWhatItKnows.{wants}
 use Rattle.ipx_laws.proofs.tables.TablesAreRight.{none_on, none_without}
 use Rattle.ipx_laws.proofs.ticks.AfterEachStep.{AfterEach, each_then, each-append, goes_each}
@@ -94,3 +97,16 @@ module _ (given : Given) where
       (routes_stay (suc so_far) (omega (arith, steady)) first next ticks
       (tick_rests given so_far long run steps rest are.0) are.1
       (λ router inside. last_same so_far steady run steps rest are.0 router inside ∙ same router inside))
+
+  -- the route by the network's number
+  by_number : (run : Run) (router : ℕ) → held_of net most_routes run.histories router network ≡ RouteOf run router
+  by_number run router =
+      find_same (λ r. r.network.0 == network.0) (λ o. is_eq (network_order o.network network)) (λ r. tied r.network.0 network.0)
+      (routes_of net most_routes run.histories router)
+
+  pub route_stays_in : (first run : Run) (steps : List Step) → AfterEach net most_routes most_services (SameRoute first) run steps
+      → RouteStays net most_routes most_services network first.histories run steps
+  route_stays_in first run [] same = tt
+  route_stays_in first run (step ∷ steps) same =
+      let next = stepped net most_routes most_services run step in
+      (λ router inside. by_number next router ∙ same.0 router inside ∙ sym (by_number first router), route_stays_in first next steps same.1)

@@ -207,7 +207,8 @@ module _ (given : Given) where
           lasting : OnOrOff net up in_ports network router
               → AllByRecursion (λ r. r.network ≡ network → find (λ o. is_eq (network_order o.network network)) routes ≡ None → ⊥) old
           lasting (inl on) =
-              all_then (λ r. r.network ≡ network → is_on ports network ≡ false) (λ r. r.network ≡ network → find (λ o. is_eq (network_order o.network network)) routes ≡ None → ⊥)
+              all_then (λ r. r.network ≡ network → is_on ports network ≡ false)
+              (λ r. r.network ≡ network → find (λ o. is_eq (network_order o.network network)) routes ≡ None → ⊥)
               (λ r off named none. both_ways (is_on ports network) (off named) on) old real
           lasting (inr off) =
               all_of (λ r. r.network ≡ network → find (λ o. is_eq (network_order o.network network)) routes ≡ None → ⊥)

@@ -34,7 +34,8 @@ module _ (net : Internet) (most_routes most_services : ℕ) where
   each_all Is run (step ∷ steps) all = ((λ x. (all x).0), each_all Is (stepped net most_routes most_services run step) steps (λ x. (all x).1))
 
 module _ (net : Internet) (laws : Layouts) (is : IsInternet net) (most_routes most_services : ℕ) (up : ℕ → List ℕ) (foreign : List Network)
-    (Goes : (ℕ → ℕ) → Queued → Type 0) (kept : IsKept net laws is most_routes most_services up foreign Goes) (Is : Run → Type 0) (so : (left : ℕ → ℕ) (now : Run) → Goes left (forgotten now) → Is now) where
+    (Goes : (ℕ → ℕ) → Queued → Type 0) (kept : IsKept net laws is most_routes most_services up foreign Goes) (Is : Run → Type 0)
+    (so : (left : ℕ → ℕ) (now : Run) → Goes left (forgotten now) → Is now) where
   -- what follows from a property that seconds and deliveries keep
   pub goes_each : (steps : List Step) (run : Run) → AllByRecursion (IsStep net) steps → AllByRecursion LeavesPorts steps
       → AllByRecursion (SaysOnly (TellsOnlyOf foreign)) steps → Goes (left_of net laws is most_routes most_services up foreign steps) (forgotten run)

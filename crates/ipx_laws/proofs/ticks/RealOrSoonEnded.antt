@@ -36,7 +36,7 @@ use Rattle.ipx_internet.proofs.packets.AdvertisedIsHeld.{told_all, news_told}
 use Rattle.ipx_internet.proofs.records.KeptOrOffered.{OffersOf}
 use Rattle.ipx_laws.specs.Apart.{TellsOnlyOf, IsRealApart}
 use Rattle.ipx_laws.specs.Meanwhile.{message_of, TellsNoRoute}
-use Rattle.ipx_laws.specs.Real.{IsReal, next, farther}
+use Rattle.ipx_laws.specs.Real.{next, farther}
 use Rattle.ipx_laws.proofs.packets.RoutesOrSilence.{TellsApart, IsOwnPage, IsTo, own_heard, near_in, none_of_foreign, offers_then, foreign_offer}
 use Rattle.ipx_laws.proofs.packets.SentOnSaysTheSame.{heard_message}
 use Rattle.ipx_laws.proofs.records.RecordsGrowOld.{IsWithin, IsBelow, Aged, IsOldOffer, IsOldHeld, at_first, where_none, after_second, after_offers, old_held}
@@ -252,7 +252,8 @@ module _ (delay slack : ℕ) (net : Internet) (up : ℕ → List ℕ) (foreign :
           by (inr old) = inr (omega (arith, old, soon))
           by (inl fine) =
               inl (λ to reaches hears off. farther (place j) r (eqb-false r.port j apart)
-              (record { other = reaches.other; here = hears.up_here; there = reaches.on; network = reaches.network; wanted = hears.wanted; offer = refl }) near (fine off))
+              (record { other = reaches.other; here = hears.up_here; there = reaches.on; network = reaches.network; wanted = hears.wanted; offer = refl })
+              near (fine off))
 
       ended_said : (j : ℕ) (e : RipEntry) → RouteSaid begun (place j) (dead e)
       ended_said j e near = absurd (omega (arith, near))

@@ -1,6 +1,6 @@
 -- After the ticks by which what is gone is gone, each route to a network off the list is of a real way, so that none is to such a network that is
 -- gone.
-use Rattle.std.proofs.Common.{◌≡◌, ◌≢◌, refl, sym, ap, ◌∙◌, subst, ℕ, ◌≤◌, ◌<◌, ◌==◌, true, false, List, [], ◌∷◌, length, map, inl, inr, arith, rules}
+use Rattle.std.proofs.Common.{◌≡◌, ◌≢◌, refl, sym, ap, ◌∙◌, subst, ℕ, ◌≤◌, ◌<◌, ◌==◌, true, false, List, [], ◌∷◌, length, map, inl, inr, arith}
 use Rattle.std.specs.List.{AllByRecursion}
 use Rattle.std.proofs.lemmas.Bool.{both_ways, eq-eqb, eqb-true, or_cases, or_left, or_right}
 use Rattle.ipx_wire.specs.declared.network.Network.{Network}
@@ -60,7 +60,8 @@ module _ (net : Internet) (up : ℕ → List ℕ) (place : Place) (down : is_up 
 
 -- a run in which so many ticks passed since the ports were as they were after these histories
 module _ (net : Internet) (laws : Layouts) (is : IsInternet net) (most_routes most_services : ℕ) (histories : List History) (foreign : List Network)
-    (count : ℕ) (last : Run) (rests : Rests net laws is most_routes most_services (ups net histories) foreign count last) (router : ℕ) (within : router < length net) where
+    (count : ℕ) (last : Run) (rests : Rests net laws is most_routes most_services (ups net histories) foreign count last)
+    (router : ℕ) (within : router < length net) where
   abbrev past : History
   past = history_of last.histories router
 

@@ -248,7 +248,8 @@ module _ (net : Internet) (laws : Layouts) (is : IsInternet net) (most_routes mo
       let now = past ++ Second ∷ [] in
       let sent = sends_at net most_routes most_services histories router Second in
       subst (λ (us : List ℕ). AllByRecursion (IsSpoken foreign us P ports) sent) same
-      (all_then (IsCast (ports_up ports now) P AnyOne ports) (IsSpoken foreign (ports_up ports now) P ports) (cast_spoken foreign (ports_up ports now) P AnyOne ports) sent
+      (all_then (IsCast (ports_up ports now) P AnyOne ports) (IsSpoken foreign (ports_up ports now) P ports)
+      (cast_spoken foreign (ports_up ports now) P AnyOne ports) sent
       (all_cast laws ports (ports_at net is router) most_routes most_services past (are.of_bytes router) P AnyOne
       (λ j. subst (λ (us : List ℕ). AllByRecursion (P j) (told ports us (offers (routes_held ports most_routes now)) j)) (sym same) (all j)) changed
       (λ j. all_of (AnyOne j) (λ s. tt) _) (λ j. all_of (AnyOne j) (λ s. tt) _)))
@@ -305,7 +306,8 @@ module _ (net : Internet) (laws : Layouts) (is : IsInternet net) (most_routes mo
             of_own foreign laws ports (ports_at net is router) most_routes most_services past (are.on_ports router) (are.of_bytes router) d.to.port d.bytes delivery.place
             delivery.bytes P changed advertised heard_here (R own.0) (port_of net own.0) own.1.network own.2
         | inr tells ↦
-            of_apart foreign laws ports (ports_at net is router) most_routes most_services past (are.on_ports router) (are.of_bytes router) d.to.port d.bytes delivery.place
+            of_apart foreign laws ports (ports_at net is router) most_routes most_services past (are.on_ports router) (are.of_bytes router)
+            d.to.port d.bytes delivery.place
             delivery.bytes P changed advertised heard_here tells
       ])
 

@@ -9,7 +9,7 @@ use Rattle.ipx_laws.proofs.ticks.AfterRest.{beside_after}
 -- with an empty list
 pub returns-clause-goes : goal.returns-clause-goes
 returns-clause-goes c net most_routes most_services run first ticks place bytes p way setting calm can sure =
-    c.arrives.ensures.goes net most_routes most_services [] run first ticks place bytes p way
+    c.arrives_apart.ensures.goes net most_routes most_services [] run first ticks place bytes p way
     (setting_beside net most_routes run.histories p.header.destination.network setting) (beside_after net most_routes most_services [] run first ticks calm) can sure
 
 pub returns-clause-one_each : goal.returns-clause-one_each

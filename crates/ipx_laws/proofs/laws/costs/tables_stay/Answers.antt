@@ -101,7 +101,8 @@ module _ (c : After-upkeep) (net : Internet) (most_routes most_services : ℕ) (
       let parts = parts_of net most_routes most_services (IsCalmTick net most_routes most_services []) (begun histories) ticks further calm in
       tables_stay_in net (layouts c) is differ cheap (ups net histories) (ups_within net histories) most_routes most_services room_beside suffice
       (λ ports history. c.tables.ensures.routes_rise ports most_routes history) (length ticks) long run further
-      (λ network. from_any net (layouts c) is differ cheap most_routes most_services [] room_beside network refl (begun histories) are (suffice network) [] ticks (tt, tt, refl) tt parts.0
+      (λ network. from_any net (layouts c) is differ cheap most_routes most_services [] room_beside network refl (begun histories) are (suffice network) []
+      ticks (tt, tt, refl) tt parts.0
       (omega (arith, long)))
       parts.1 services
 
@@ -110,7 +111,8 @@ module _ (c : After-upkeep) (net : Internet) (most_routes most_services : ℕ) (
       let parts = parts_of net most_routes most_services (IsCalmTick net most_routes most_services []) (begun histories) ticks further calm in
       tables_stay_in net (layouts c) is differ cheap (ups net histories) (ups_within net histories) most_routes most_services room_beside suffice
       (λ ports history. c.tables.ensures.routes_rise ports most_routes history) (length ticks + most_ticks_gone) (omega (arith, long)) run further
-      (λ network. from_real net (layouts c) is differ cheap most_routes most_services [] room_beside network refl (begun histories) are (suffice network) ticks refl parts.0
+      (λ network. from_real net (layouts c) is differ cheap most_routes most_services [] room_beside network refl (begun histories) are (suffice network)
+      ticks refl parts.0
       (real_beside net most_routes histories (ups net histories) [] real))
       parts.1 services
 
@@ -136,7 +138,9 @@ module _ (c : After-upkeep) (net : Internet) (most_routes most_services : ℕ) (
       where
         all_busy : (now : Run) (later : List (List Step)) → CalmTicks net most_routes most_services [] now later
             → EachTick net most_routes most_services (IsBusyTick net most_routes most_services) now later
-        all_busy = each_then net most_routes most_services (IsCalmTick net most_routes most_services []) (IsBusyTick net most_routes most_services) (λ now steps tick. tick.busy)
+        all_busy =
+            each_then net most_routes most_services (IsCalmTick net most_routes most_services []) (IsBusyTick net most_routes most_services)
+            (λ now steps tick. tick.busy)
 
   -- ---- where nothing but ticks happens
 
@@ -145,7 +149,9 @@ module _ (c : After-upkeep) (net : Internet) (most_routes most_services : ℕ) (
     parts = parts_of net most_routes most_services (IsTick net most_routes most_services) (begun histories) ticks further passes
 
     calm : Calm (ticks ++ further)
-    calm = calm_ticks net most_routes most_services [] (begun histories) (ticks ++ further) (ticks_are_calm net most_routes most_services (begun histories) (ticks ++ further) passes)
+    calm =
+        calm_ticks net most_routes most_services [] (begun histories) (ticks ++ further)
+        (ticks_are_calm net most_routes most_services (begun histories) (ticks ++ further) passes)
 
     alone_then : most_ticks_right ≤ length ticks → Tables
     alone_then long =

@@ -1,7 +1,7 @@
 use Rattle.std.proofs.Common.{◌∷◌, length}
 use Rattle.ipx_internet.specs.Ticks.{ticked}
 use Rattle.ipx_internet.proofs.packets.SentOnOrReply.{Layouts}
-use Rattle.ipx_laws.proofs.laws.apart.real.Goals as goal
+use Rattle.ipx_laws.proofs.laws.apart.real_apart.Goals as goal
 use Rattle.ipx_laws.proofs.ticks.AfterRest.{rests_beside}
 use Rattle.ipx_laws.proofs.ticks.RoutesBecomeReal.{all_real, all_on, none_over}
 

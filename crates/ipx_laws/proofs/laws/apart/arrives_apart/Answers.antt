@@ -1,12 +1,10 @@
-use Rattle.std.proofs.Common.{◌≡◌, refl, subst, ℕ, suc, ◌+◌, length, Some, None, arith}
+use Rattle.std.proofs.Common.{refl, length, Some, None}
 use Rattle.ipx_internet.specs.Run.{run_of}
 use Rattle.ipx_internet.specs.Ticks.{ticked}
-use Rattle.ipx_internet.specs.Traced.{routers_after}
-use Rattle.ipx_internet.specs.Tree.{tree_to}
 use Rattle.ipx_internet.proofs.packets.SentOnOrReply.{Layouts}
 use Rattle.ipx_laws.specs.Ups.{ups}
-use Rattle.ipx_laws.proofs.laws.apart.arrives.Goals as goal
-use Rattle.ipx_laws.proofs.laws.apart.arrives.Goals.{After-packets}
+use Rattle.ipx_laws.proofs.laws.apart.arrives_apart.Goals as goal
+use Rattle.ipx_laws.proofs.laws.apart.arrives_apart.Goals.{After-packets}
 use Rattle.ipx_laws.proofs.tables.AnyTablesBecomeRight.{from_any}
 use Rattle.ipx_laws.proofs.tables.LeastWays.{ups_within}
 use Rattle.ipx_laws.proofs.tables.PacketsArrive.{goes}

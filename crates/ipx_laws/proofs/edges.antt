@@ -1,0 +1,4 @@
+-- Edges: what they let in, and what holds of runs with them.
+pub mod NumberedAreBytes
+pub mod EdgesKeepRuns
+pub mod SentOnChangesNoTable
