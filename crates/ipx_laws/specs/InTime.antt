@@ -1,6 +1,6 @@
 -- Routers that are heard in time over wires, and how soon tables are right then.
-use Rattle.std.specs.Prelude.{◌≡◌, ◌≢◌, ℕ, ◌+◌, ◌*◌, ◌<◌, ◌≤◌, true, List, [], ◌∷◌, ◌++◌, length, map, Option, None, Some, slice_get, ◌⊎◌}
-use Rattle.std.specs.List.{AllByRecursion}
+use Rattle.std.specs.Prelude.{◌≡◌, ◌≢◌, ℕ, suc, ◌+◌, ◌*◌, ◌<◌, ◌≤◌, true, List, [], ◌∷◌, ◌++◌, length, map, Option, None, Some, slice_get, ◌⊎◌}
+use Rattle.ipx_table.specs.Alive.{lifetime}
 use Rattle.ipx_wire.specs.Crossed.{is_among}
 use Rattle.ipx_wire.specs.declared.network.Network.{Network}
 use Rattle.ipx_wire.specs.declared.node.Node.{Node}
@@ -61,6 +61,10 @@ module _ (net : Internet) (most_routes most_services delay : ℕ) where
 -- the fastest clock has at most that many seconds in a beat
 abbrev pub IsSlow : Internet → ℕ → List WireStep → Type 0
 IsSlow net fastest steps = (router : ℕ) → router < length net → seconds_of router (map as_step steps) ≤ fastest
+
+-- by the fastest clock too, a beat more than a window is shorter than an offer lives
+abbrev pub IsQuick : (window fastest : ℕ) → Type 0
+IsQuick window fastest = suc window * fastest < lifetime
 
 -- the beats after which a router is right about a network: those after which every route is of a real way, and for each hop of the least way what
 -- still flies and a window in which its neighbours are heard

@@ -20,7 +20,7 @@ use Rattle.ipx_internet.proofs.lists.EachElement.{all_of, all_then, all_mapped}
 use Rattle.ipx_internet.proofs.trees.RunIsALog.{router_there}
 use Rattle.ipx_laws.specs.Apart.{TellsOnlyOf}
 use Rattle.ipx_laws.specs.Gone.{most_ticks_gone}
-use Rattle.ipx_laws.specs.InTime.{Advertises, HeardInBeats, AreHeardInTime, IsSlow, beats_right}
+use Rattle.ipx_laws.specs.InTime.{Advertises, HeardInBeats, AreHeardInTime, IsSlow, IsQuick, beats_right}
 use Rattle.ipx_laws.specs.Least.{Way, is_on, least_route, way_of}
 use Rattle.ipx_laws.specs.Meanwhile.{LeavesPorts, SaysOnly}
 use Rattle.ipx_laws.specs.Ups.{ups}
@@ -79,7 +79,7 @@ module _ (delay slack : ℕ) (given : Given) where
 
   -- ---- beats
 
-  module _ (window fastest : ℕ) (quick : suc window * fastest < lifetime) (histories : List History) (are : AreHistories net histories)
+  module _ (window fastest : ℕ) (quick : IsQuick window fastest) (histories : List History) (are : AreHistories net histories)
       (stay : (router : ℕ) → ups net histories router ≡ up router) (deliveries : List Delivery) (fly : AllByRecursion (IsDelivery net) deliveries)
       (over : (deliveries ≡ []) ⊎ (most_beats_flying delay ≤ slack)) (beats : List (List WireStep)) (all : AreBeats net beats)
       (leave : EachWireStep LeavesPorts beats) (say : EachWireStep (SaysOnly (TellsOnlyOf foreign)) beats) (slow : AllByRecursion (IsSlow net fastest) beats)

@@ -3,10 +3,9 @@
 //! A beat is a second of the slowest clock: each router has one second in it, or more. What is sent lands within so many beats, its delay, or
 //! never; it may land any number of times, and in any order. Nothing need ever be quiet. What is gone, or announced, or real, is so whatever is
 //! lost; that tables are right asks that routers are heard.
-ghost use Rattle.std.specs.Prelude.{◌≡◌, ◌≢◌, ℕ, suc, ◌+◌, ◌*◌, ◌<◌, ◌≤◌, true, List, [], ◌∷◌, ◌++◌, length};
+ghost use Rattle.std.specs.Prelude.{◌≡◌, ◌≢◌, ℕ, ◌+◌, ◌<◌, ◌≤◌, true, List, [], ◌∷◌, ◌++◌, length};
 ghost use Rattle.std.specs.List.{AllByRecursion};
 ghost use Rattle.ipx_wire.specs.declared.network.Network.{Network};
-ghost use Rattle.ipx_table.specs.Alive.{lifetime};
 ghost use Rattle.ipx_router.specs.History.{History};
 ghost use Rattle.ipx_router.specs.Port.{is_up};
 ghost use Rattle.ipx_internet.specs.Internet.{Internet, IsInternet};
@@ -15,7 +14,7 @@ ghost use Rattle.ipx_internet.specs.Rounds.{IsDelivery};
 ghost use Rattle.ipx_internet.specs.Run.{AreHistories};
 ghost use Rattle.ipx_laws.specs.Announces.{AsksApart};
 ghost use Rattle.ipx_laws.specs.Apart.{TellsOnlyOf, IsRealApart, IsSettingBeside};
-ghost use Rattle.ipx_laws.specs.InTime.{AreHeardInTime, IsSlow, beats_right};
+ghost use Rattle.ipx_laws.specs.InTime.{AreHeardInTime, IsSlow, IsQuick, beats_right};
 ghost use Rattle.ipx_laws.specs.Least.{least_route};
 ghost use Rattle.ipx_laws.specs.Meanwhile.{IsWithoutRoute, IsWithoutService, TellsNoRoute, LeavesPorts, SaysOnly};
 ghost use Rattle.ipx_laws.specs.Real.{IsReal};
@@ -134,7 +133,7 @@ pub fn real()
 pub fn right()
     ensures tables { (net : Internet) (most_routes most_services delay window fastest : ℕ) (histories : List History) (beats : List (List WireStep)) (router : ℕ) (network : Network)
         → IsSetting net most_routes histories network → AreBeats net beats → EachWireStep LeavesPorts beats → EachWireStep (SaysOnly TellsNoRoute) beats
-        → AllByRecursion (IsSlow net fastest) beats → suc window * fastest < lifetime
+        → AllByRecursion (IsSlow net fastest) beats → IsQuick window fastest
         → AreHeardInTime net most_routes most_services delay window (ups net histories) (still histories) beats
         → router < length net → beats_right delay window (least_route net (ups net histories) router network) ≤ length beats
         → IsRight net most_routes (beats_of net most_routes most_services delay (still histories) beats).histories (ups net histories) router network }
@@ -142,7 +141,7 @@ pub fn right()
         (router : ℕ) (network : Network)
         → IsSetting net most_routes histories network → AreBeats net (beats ++ (steps ++ more) ∷ []) → EachWireStep LeavesPorts (beats ++ (steps ++ more) ∷ [])
         → EachWireStep (SaysOnly TellsNoRoute) (beats ++ (steps ++ more) ∷ [])
-        → AllByRecursion (IsSlow net fastest) (beats ++ (steps ++ more) ∷ []) → suc window * fastest < lifetime
+        → AllByRecursion (IsSlow net fastest) (beats ++ (steps ++ more) ∷ []) → IsQuick window fastest
         → AreHeardInTime net most_routes most_services delay window (ups net histories) (still histories) (beats ++ (steps ++ more) ∷ [])
         → router < length net → beats_right delay window (least_route net (ups net histories) router network) ≤ length beats
         → IsRight net most_routes (wires_of net most_routes most_services delay (beats_of net most_routes most_services delay (still histories) beats) steps).histories
@@ -150,14 +149,14 @@ pub fn right()
     ensures apart { (net : Internet) (most_routes most_services delay window fastest : ℕ) (foreign : List Network) (histories : List History) (beats : List (List WireStep))
         (router : ℕ) (network : Network)
         → IsSettingBeside net most_routes foreign histories network → AreBeats net beats → EachWireStep LeavesPorts beats
-        → EachWireStep (SaysOnly (TellsOnlyOf foreign)) beats → AllByRecursion (IsSlow net fastest) beats → suc window * fastest < lifetime
+        → EachWireStep (SaysOnly (TellsOnlyOf foreign)) beats → AllByRecursion (IsSlow net fastest) beats → IsQuick window fastest
         → AreHeardInTime net most_routes most_services delay window (ups net histories) (still histories) beats
         → router < length net → beats_right delay window (least_route net (ups net histories) router network) ≤ length beats
         → IsRight net most_routes (beats_of net most_routes most_services delay (still histories) beats).histories (ups net histories) router network }
     ensures whatever_flies { (net : Internet) (most_routes most_services delay window fastest : ℕ) (histories : List History) (deliveries : List Delivery)
         (beats : List (List WireStep)) (router : ℕ) (network : Network)
         → IsSetting net most_routes histories network → AllByRecursion (IsDelivery net) deliveries → AreBeats net beats → EachWireStep LeavesPorts beats
-        → EachWireStep (SaysOnly TellsNoRoute) beats → AllByRecursion (IsSlow net fastest) beats → suc window * fastest < lifetime
+        → EachWireStep (SaysOnly TellsNoRoute) beats → AllByRecursion (IsSlow net fastest) beats → IsQuick window fastest
         → AreHeardInTime net most_routes most_services delay window (ups net histories) (flying histories deliveries) beats → router < length net
         → most_beats_flying delay + beats_right delay window (least_route net (ups net histories) router network) ≤ length beats
         → IsRight net most_routes (beats_of net most_routes most_services delay (flying histories deliveries) beats).histories (ups net histories) router network }
