@@ -19,5 +19,6 @@ pub mod Servers
 pub mod Staying
 pub mod Telling
 pub mod Ticks
+pub mod Timely
 pub mod Upkeep
 pub mod Wiring

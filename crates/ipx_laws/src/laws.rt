@@ -7,7 +7,7 @@ pub mod changes;
 mod costs;
 pub mod edges;
 pub mod services;
-pub mod wires;
+mod wires;
 
 ghost use Rattle.std.specs.Prelude.{◌≡◌, ◌≢◌, ℕ, ◌+◌, ◌<◌, ◌≤◌, true, false, List, [], ◌∷◌, ◌++◌, length, map, flat_map, Option, Some};
 ghost use Rattle.std.specs.List.{AllByRecursion};
@@ -37,6 +37,7 @@ ghost use Rattle.ipx_laws.specs.Ups.{ups};
 
 pub use crate::laws::apart::{arrives_apart, real_apart, right_apart};
 pub use crate::laws::costs::{tables_stay, upkeep};
+pub use crate::laws::wires::{announced_on_wires, gone_on_wires, real_on_wires, right_on_wires};
 
 /// Over any run, no route goes back to where it was learned: no route that a router holds after an event, to a network that an
 /// entry of a packet names which it sends for that event, was learned on the port on which the packet leaves.

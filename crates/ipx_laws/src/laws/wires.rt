@@ -30,7 +30,7 @@ ghost use Rattle.ipx_laws.specs.Wires.{WireStep, still, flying, wires_of, beats_
 /// No router has a route to a network on which no port was up since then, if no packet of a host said that it is reached (`networks`); and no
 /// router has a service that no host said since then (`services`). What hosts may say is as in `gone_meanwhile`. If anything flies at first,
 /// forged packets too, it takes 18 delays and one beat more (`networks_whatever_flies`, `services_whatever_flies`).
-pub fn gone()
+pub fn gone_on_wires()
     ensures networks { (net : Internet) (most_routes most_services delay : ℕ) (histories : List History) (beats : List (List WireStep)) (router : ℕ) (network : Network)
         → IsInternet net → AreHistories net histories → AreBeats net beats → most_beats_gone delay ≤ length beats → router < length net
         → KeepGone net most_routes most_services delay network (still histories) beats → EachWireStep (SaysOnly (IsWithoutRoute network)) beats
@@ -64,7 +64,7 @@ pub fn gone()
 /// type, name and address as it said, and with no fewer hops, whatever was in the tables before, and whatever the wires do (`services`). The
 /// router to which that packet came heard it or sent it on. A host may ask what it likes, but a request for routes is not sent from the socket
 /// of SAP. If anything flies at first, forged packets too, it takes 18 delays and one beat more (`whatever_flies`).
-pub fn announced()
+pub fn announced_on_wires()
     ensures services { (net : Internet) (most_routes most_services delay : ℕ) (histories : List History) (beats : List (List WireStep)) (router : ℕ)
         → IsInternet net → AreHistories net histories → AreBeats net beats → most_beats_gone delay ≤ length beats → router < length net
         → EachWireStep (SaysOnly AsksApart) beats
@@ -90,7 +90,7 @@ pub fn announced()
 ///
 /// As in calm ticks, hosts may speak, but nobody starts or stops, no port goes down or comes up, and nothing that may be heard of a host's
 /// packet is a response of routing information, or a query for services that is answered to the socket of RIP.
-pub fn real()
+pub fn real_on_wires()
     ensures routes { (net : Internet) (most_routes most_services delay : ℕ) (histories : List History) (beats : List (List WireStep)) (router : ℕ)
         → IsInternet net → AreHistories net histories → AreBeats net beats → EachWireStep LeavesPorts beats → EachWireStep (SaysOnly TellsNoRoute) beats
         → most_beats_gone delay ≤ length beats → router < length net
@@ -130,7 +130,7 @@ pub fn real()
 /// the time of a window of beats in a row, each router beside it hears in them, by ports that are up; packets may be lost, late, doubled and
 /// overtaken besides. One beat more than a window has fewer than 180 seconds by every clock, the lifetime of an offer. So where routers
 /// broadcast each minute, of any two broadcasts in a row one must arrive: of three isn't enough.
-pub fn right()
+pub fn right_on_wires()
     ensures tables { (net : Internet) (most_routes most_services delay window fastest : ℕ) (histories : List History) (beats : List (List WireStep)) (router : ℕ) (network : Network)
         → IsSetting net most_routes histories network → AreBeats net beats → EachWireStep LeavesPorts beats → EachWireStep (SaysOnly TellsNoRoute) beats
         → AllByRecursion (IsSlow net fastest) beats → IsQuick window fastest

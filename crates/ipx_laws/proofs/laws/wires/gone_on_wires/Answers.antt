@@ -1,6 +1,6 @@
 use Rattle.std.proofs.Common.{refl, [], inl, inr, arith}
 use Rattle.ipx_internet.proofs.packets.SentOnOrReply.{Layouts}
-use Rattle.ipx_laws.proofs.laws.wires.gone.Goals as goal
+use Rattle.ipx_laws.proofs.laws.wires.gone_on_wires.Goals as goal
 use Rattle.ipx_laws.specs.Wires.{most_beats_flying}
 use Rattle.ipx_laws.proofs.wires.GoneOnWires.{no_route, no_such_service}
 

@@ -3,7 +3,7 @@ use Rattle.ipx_internet.proofs.packets.SentOnOrReply.{Layouts}
 use Rattle.ipx_laws.specs.Least.{least_route}
 use Rattle.ipx_laws.specs.Ups.{ups}
 use Rattle.ipx_laws.specs.Wires.{still, beats_of, most_beats_flying}
-use Rattle.ipx_laws.proofs.laws.wires.right.Goals as goal
+use Rattle.ipx_laws.proofs.laws.wires.right_on_wires.Goals as goal
 use Rattle.ipx_laws.proofs.tables.AnEmptyList.{setting_beside}
 use Rattle.ipx_laws.proofs.tables.Given.{given_of}
 use Rattle.ipx_laws.proofs.tables.LeastWays.{ups_within}

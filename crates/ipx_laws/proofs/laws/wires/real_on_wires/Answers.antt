@@ -2,7 +2,7 @@ use Rattle.std.proofs.Common.{refl, [], inl, inr, arith}
 use Rattle.ipx_internet.proofs.packets.SentOnOrReply.{Layouts}
 use Rattle.ipx_laws.specs.Ups.{ups}
 use Rattle.ipx_laws.specs.Wires.{most_beats_flying}
-use Rattle.ipx_laws.proofs.laws.wires.real.Goals as goal
+use Rattle.ipx_laws.proofs.laws.wires.real_on_wires.Goals as goal
 use Rattle.ipx_laws.proofs.wires.RealOnWires.{all_real, all_on, every_real, none_beside}
 
 -- the laws of packets and routers

@@ -1,7 +1,7 @@
 use Rattle.std.proofs.Common.{refl, [], inl, inr, arith}
 use Rattle.ipx_internet.proofs.packets.SentOnOrReply.{Layouts}
 use Rattle.ipx_laws.specs.Wires.{most_beats_flying}
-use Rattle.ipx_laws.proofs.laws.wires.announced.Goals as goal
+use Rattle.ipx_laws.proofs.laws.wires.announced_on_wires.Goals as goal
 use Rattle.ipx_laws.proofs.wires.AnnouncedOnWires.{announced}
 
 -- the laws of packets and routers
