@@ -15,7 +15,7 @@ use Rattle.ipx_internet.specs.Ticks.{seconds_of}
 use Rattle.ipx_laws.specs.Least.{Way}
 use Rattle.ipx_laws.specs.Tables.{routes_of}
 use Rattle.ipx_laws.specs.Ups.{ups}
-use Rattle.ipx_laws.specs.Wires.{Flight, Wires, WireStep, Occurs, Lands, as_step, beaten, wired, wires_of, beats_of, Along, EachBeat, most_beats_gone}
+use Rattle.ipx_laws.specs.Wires.{Flight, Wires, WireStep, Occurs, Lands, as_step, beaten, wired, beats_of, Along, EachBeat, most_beats_gone}
 
 -- a response of routing information from that node, an entry of which names that network
 abbrev pub Names : Node → Network → Heard → Type 0

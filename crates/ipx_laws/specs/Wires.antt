@@ -1,5 +1,5 @@
 -- Wires of real networks: what is sent is lost, arrives late, twice, or in another order, and clocks drift.
-use Rattle.std.specs.Prelude.{◌≡◌, ℕ, suc, ◌+◌, ◌-◌, ◌*◌, ◌<◌, ◌≤◌, nat_le, if◌then◌else◌, List, [], ◌∷◌, ◌++◌, length, map, Some, None, slice_get}
+use Rattle.std.specs.Prelude.{ℕ, suc, ◌+◌, ◌-◌, ◌*◌, ◌<◌, ◌≤◌, nat_le, if◌then◌else◌, List, [], ◌∷◌, ◌++◌, length, map, Some, None, slice_get}
 use Rattle.std.specs.List.{AllByRecursion, flat_map}
 use Rattle.ipx_wire.specs.declared.network.Network.{Network}
 use Rattle.ipx_table.specs.Alive.{lifetime}

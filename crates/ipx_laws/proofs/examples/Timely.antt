@@ -1,9 +1,9 @@
 -- The two routers of `Waiting`, started 59 seconds ago, on wires. In the beat that follows each broadcasts, and both broadcasts land, the later
 -- one first. So in a window of one beat each router hears of the network that the other one advertises, and then both tables are right. Lost,
 -- they aren't.
-use Rattle.std.proofs.Common.{◌≡◌, ◌≢◌, refl, sym, ap, ◌∙◌, subst, ℕ, zero, suc, ◌+◌, ◌<◌, ◌≤◌, true, false, List, [], ◌∷◌, ◌++◌, length, map, replicate, Option, None, option_map, inl, inr, arith, length-append}
+use Rattle.std.proofs.Common.{◌≡◌, ◌≢◌, refl, sym, ap, subst, ℕ, zero, suc, ◌<◌, ◌≤◌, List, [], ◌∷◌, ◌++◌, length, map, replicate, Option, None, option_map, inl, inr, arith, length-append}
 use Rattle.ipx_wire.specs.Address.{address_bytes, address_at}
-use Rattle.ipx_wire.specs.Crossed.{network_bytes, network_at, is_among}
+use Rattle.ipx_wire.specs.Crossed.{network_bytes, network_at}
 use Rattle.ipx_wire.specs.Header.{header_bytes, header_at}
 use Rattle.ipx_wire.specs.Items.{items}
 use Rattle.ipx_wire.specs.Packet.{packet_of}
@@ -11,7 +11,6 @@ use Rattle.ipx_wire.specs.Rip.{entry_bytes, entry_at, rip_of}
 use Rattle.ipx_wire.specs.Sap.{sap_of}
 use Rattle.ipx_wire.specs.declared.network.Network.{Network}
 use Rattle.ipx_router.specs.History.{History, Start, Second}
-use Rattle.ipx_router.specs.Port.{is_up}
 use Rattle.ipx_router.proofs.port_values.PortOfEachNumber.{one_up}
 use Rattle.ipx_internet.specs.Internet.{Place, ports_of, port_of, network_of}
 use Rattle.ipx_internet.specs.Ticks.{seconds_of}
@@ -22,8 +21,7 @@ use Rattle.ipx_laws.specs.Meanwhile.{TellsNoRoute, LeavesPorts, SaysOnly}
 use Rattle.ipx_laws.specs.Least.{Way, least_route, way_of}
 use Rattle.ipx_laws.specs.Tables.{route_of}
 use Rattle.ipx_laws.specs.Ups.{ups}
-use Rattle.ipx_laws.specs.Wires.{Wires, WireStep, Occurs, Lands, as_step, still, beats_of, Along, EachBeat, IsBeat, EachWireStep}
-use Rattle.ipx_laws.proofs.examples.Leasts.{way}
+use Rattle.ipx_laws.specs.Wires.{WireStep, Occurs, Lands, as_step, still, beats_of, Along, EachBeat, IsBeat, EachWireStep}
 use Rattle.ipx_laws.proofs.tables.LeastWays.{ups_within}
 
 abbrev history : History

@@ -17,7 +17,7 @@ use Rattle.ipx_internet.proofs.examples.Words.{network}
 use Rattle.ipx_laws.specs.Gone.{IsGone}
 use Rattle.ipx_laws.specs.Meanwhile.{IsWithoutRoute, SaysOnly}
 use Rattle.ipx_laws.specs.Ups.{networks_up}
-use Rattle.ipx_laws.specs.Wires.{Wires, WireStep, Occurs, Lands, as_step, still, beaten, wires_of, beats_of, KeepGone, IsBeat, AreBeats, EachWireStep}
+use Rattle.ipx_laws.specs.Wires.{WireStep, Occurs, Lands, as_step, still, beaten, wires_of, beats_of, KeepGone, IsBeat, AreBeats, EachWireStep}
 use Rattle.ipx_laws.proofs.examples.Meanwhile.{news, may, are_bytes}
 use Rattle.ipx_laws.proofs.examples.Ticks.{before, networks}
 

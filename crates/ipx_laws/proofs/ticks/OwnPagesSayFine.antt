@@ -1,5 +1,5 @@
 -- A router's own pages, requests and queries, read again, say what is fine or was told soon enough.
-use Rattle.std.proofs.Common.{◌≡◌, ◌≢◌, refl, sym, ap, ◌∙◌, subst, ◌⊎◌, ℕ, ◌*◌, ◌≤◌, Bool, false, List, [], ◌∷◌, map, Option, Some, None, Result, Ok, Err, inl, inr, arith, lit<, append-nil}
+use Rattle.std.proofs.Common.{◌≡◌, ◌≢◌, refl, sym, ap, ◌∙◌, subst, ◌⊎◌, ℕ, Bool, false, List, [], ◌∷◌, map, Option, Some, None, Result, Ok, Err, inl, inr, arith, lit<, append-nil}
 use Rattle.std.specs.List.{AllByRecursion}
 use Rattle.std.proofs.lemmas.Bool.{cases_Bool, eqb-true}
 use Rattle.ipx_wire.specs.Packet.{Parts, IsPacket}

@@ -1,5 +1,5 @@
 -- Over wires, after the most beats there is no service but those that hosts announced in them.
-use Rattle.std.proofs.Common.{◌≡◌, refl, sym, ap, ◌∙◌, subst, ◌⊎◌, ℕ, ◌+◌, ◌<◌, ◌≤◌, List, [], ◌∷◌, ◌++◌, length, Option, Some, IfSome}
+use Rattle.std.proofs.Common.{◌≡◌, refl, sym, ◌∙◌, subst, ◌⊎◌, ℕ, ◌+◌, ◌<◌, ◌≤◌, List, [], ◌∷◌, ◌++◌, length, Option, Some, IfSome}
 use Rattle.std.specs.List.{AllByRecursion}
 use Rattle.std.proofs.lemmas.List.{append_assoc}
 use Rattle.ipx_wire.specs.declared.service.Service.{Service}
@@ -15,7 +15,7 @@ use Rattle.ipx_internet.proofs.packets.SentOnOrReply.{Layouts}
 use Rattle.ipx_laws.specs.Announces.{IsAccepted, AsksApart}
 use Rattle.ipx_laws.specs.Meanwhile.{message_of, SaysOnly}
 use Rattle.ipx_laws.specs.WireAnnounces.{WasSaid, WasAnnounced}
-use Rattle.ipx_laws.specs.Wires.{Wires, WireStep, Occurs, Lands, as_step, flying, beaten, wired, wires_of, beats_of, Along, EachBeat, AreBeats, EachWireStep, most_beats_gone, most_beats_flying}
+use Rattle.ipx_laws.specs.Wires.{Wires, WireStep, Occurs, Lands, as_step, flying, beaten, wired, wires_of, beats_of, EachBeat, AreBeats, EachWireStep, most_beats_gone, most_beats_flying}
 use Rattle.ipx_laws.proofs.ticks.FineOrSoonEnded.{IsFineService}
 use Rattle.ipx_laws.proofs.ticks.GoneWhateverHappens.{EveryNetwork}
 use Rattle.ipx_laws.proofs.ticks.ServicesWereAnnounced.{SaysServed, harmless, message_served}

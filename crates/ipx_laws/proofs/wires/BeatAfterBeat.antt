@@ -1,17 +1,15 @@
 -- Beats, one after the other: what is so of each router after so many seconds, and of each flight, stays so, if each event leaves it so.
-use Rattle.std.proofs.Common.{◌≡◌, ◌≢◌, refl, sym, ap, subst, ◌⊎◌, ℕ, zero, suc, ◌+◌, ◌-◌, ◌<◌, ◌≤◌, nat_le, true, false, Bool, if◌then◌else◌, List, [], ◌∷◌, ◌++◌, length, map, flat_map, Option, None, Some, slice_get, inl, inr, arith}
+use Rattle.std.proofs.Common.{◌≡◌, ◌≢◌, refl, sym, ap, subst, ℕ, zero, suc, ◌+◌, ◌-◌, ◌<◌, ◌≤◌, nat_le, true, false, Bool, if◌then◌else◌, List, [], ◌∷◌, ◌++◌, length, map, flat_map, Option, None, Some, slice_get, inl, inr, arith}
 use Rattle.std.specs.List.{AllByRecursion}
 use Rattle.std.proofs.lemmas.Bool.{cases_lt, leb-true}
-use Rattle.ipx_wire.specs.Piece.{IsBytes}
 use Rattle.ipx_router.specs.History.{Event, History, Packet, IsOnPort, IsOfBytes}
-use Rattle.ipx_router.specs.Relays.{Sent}
 use Rattle.ipx_internet.specs.Internet.{Internet, IsInternet, ports_of}
 use Rattle.ipx_internet.specs.Queue.{Delivery, deliveries_of, history_of, with_event, sends_at}
 use Rattle.ipx_internet.specs.Rounds.{IsDelivery}
-use Rattle.ipx_internet.specs.Run.{Step, Happens, IsStep, AreHistories}
+use Rattle.ipx_internet.specs.Run.{Happens, IsStep, AreHistories}
 use Rattle.ipx_internet.specs.Ticks.{seconds_of}
 use Rattle.ipx_internet.proofs.deliveries.WaitsAfterDelivery.{there}
-use Rattle.ipx_internet.proofs.lists.EachElement.{all-append, all-map, all_mapped}
+use Rattle.ipx_internet.proofs.lists.EachElement.{all-append, all_mapped}
 use Rattle.ipx_internet.proofs.lists.FoundInAList.{nothing, it_is}
 use Rattle.ipx_internet.proofs.packets.SentOnOrReply.{Layouts}
 use Rattle.ipx_internet.proofs.ticks.TickCanBeHad.{seconds_more}

@@ -1,27 +1,20 @@
 -- Over wires each router's records are fine, or older by as many seconds as it had and delays that its packets may have had; and what flies was
 -- said by a router when it was sent, or does no harm whenever it lands, or flew at first and is over soon.
-use Rattle.std.proofs.Common.{◌≡◌, ◌≢◌, refl, sym, ap, ◌∙◌, subst, ◌⊎◌, ℕ, zero, suc, ◌+◌, ◌*◌, ◌<◌, ◌≤◌, true, false, List, [], ◌∷◌, ◌++◌, length, map, flat_map, Option, None, Some, IfSome, Ok, inl, inr, arith, rules, get_or-set_same}
+use Rattle.std.proofs.Common.{◌≡◌, ◌≢◌, refl, sym, ap, ◌∙◌, subst, ◌⊎◌, ℕ, suc, ◌+◌, ◌<◌, ◌≤◌, true, List, [], ◌∷◌, ◌++◌, length, Option, Some, IfSome, inl, inr, arith, get_or-set_same}
 use Rattle.std.specs.List.{AllByRecursion}
-use Rattle.std.proofs.Math.Nat.{mul-le-mul_right}
-use Rattle.ipx_wire.specs.Packet.{Parts, packet_of}
 use Rattle.ipx_wire.specs.Piece.{IsBytes}
-use Rattle.ipx_wire.specs.declared.address.Address.{Address}
 use Rattle.ipx_wire.specs.declared.network.Network.{Network}
 use Rattle.ipx_wire.specs.declared.rip.Operation.{Operation}
 use Rattle.ipx_wire.specs.declared.rip.Operation.TheVariants.{Request, Response}
-use Rattle.ipx_wire.specs.declared.rip.RipEntry.{RipEntry}
 use Rattle.ipx_wire.specs.declared.sap.Sap.TheVariants.{Query, Response as SapResponse}
 use Rattle.ipx_wire.specs.declared.service.Service.{Service}
-use Rattle.ipx_router.specs.Facts.{heard_after}
 use Rattle.ipx_router.specs.Heard.{Heard, HeardRip, HeardSap}
 use Rattle.ipx_router.specs.History.{Event, History, Start, Stop, Second, Packet, PortDown, PortUp, IsOnPort, IsOfBytes, ports_up}
-use Rattle.ipx_router.specs.Numbers.{most_routers}
-use Rattle.ipx_router.specs.Port.{Port, IsPort, port_at, is_up}
+use Rattle.ipx_router.specs.Port.{Port, port_at, is_up}
 use Rattle.ipx_router.specs.Relays.{Sent}
-use Rattle.ipx_router.proofs.bytes.ReadInOneWay.{one_read}
 use Rattle.ipx_router.proofs.lists.EachElement.{all_both}
 use Rattle.ipx_internet.specs.Internet.{Internet, IsInternet, ports_of, port_of}
-use Rattle.ipx_internet.specs.Queue.{Delivery, deliveries_of, history_of, with_event, sends_at}
+use Rattle.ipx_internet.specs.Queue.{Delivery, history_of, sends_at}
 use Rattle.ipx_internet.specs.Rounds.{IsDelivery}
 use Rattle.ipx_internet.specs.Run.{Happens}
 use Rattle.ipx_internet.proofs.lists.EachElement.{all_of, all_then, all-append}
@@ -34,7 +27,7 @@ use Rattle.ipx_laws.specs.Wires.{Flight, Wires, WireStep, Occurs, Lands, as_step
 use Rattle.ipx_laws.proofs.packets.SentOnSaysTheSame.{of_packet, heard_message, message_heard, sent_on_message}
 use Rattle.ipx_laws.proofs.records.RecordsGrowOld.{passed}
 use Rattle.ipx_laws.proofs.ticks.BusyTickAfterTick.{passed_more}
-use Rattle.ipx_laws.proofs.ticks.FineOrSoonEnded.{IsSoon, RouteSaid, EntrySaid, RipAsks, Asks, RipSaid, Said, Tells, EventTells, Abides, said_asks, abides_first, event_abides}
+use Rattle.ipx_laws.proofs.ticks.FineOrSoonEnded.{RouteSaid, EntrySaid, RipAsks, Asks, RipSaid, Said, Tells, EventTells, Abides, said_asks, abides_first, event_abides}
 use Rattle.ipx_laws.proofs.ticks.SaysFineOrSoonEnded.{EventAsks, tells_asks, event_tells}
 use Rattle.ipx_laws.proofs.wires.BeatAfterBeat.{Happening, Leaves, Sends, Keeps, StepsArise, AreSuch, arrival, along_then}
 use Rattle.ipx_laws.proofs.wires.EarlyFlights.{IsEarly, early_soon, early_onward, early_first}

@@ -1,5 +1,5 @@
 -- Over wires, after the most beats there is no route to a network that is gone, and no service that nobody announces.
-use Rattle.std.proofs.Common.{◌≡◌, ◌≢◌, refl, sym, subst, ◌⊎◌, ℕ, ◌+◌, ◌<◌, ◌≤◌, List, [], ◌∷◌, length, map, inl, inr, arith}
+use Rattle.std.proofs.Common.{◌≡◌, ◌≢◌, refl, sym, subst, ◌⊎◌, ℕ, ◌+◌, ◌<◌, ◌≤◌, List, [], length, map, inl, inr, arith}
 use Rattle.std.specs.List.{AllByRecursion}
 use Rattle.ipx_wire.specs.declared.network.Network.{Network}
 use Rattle.ipx_wire.specs.declared.service.Service.{Service}
@@ -17,7 +17,7 @@ use Rattle.ipx_internet.proofs.lists.EachElement.{all_then}
 use Rattle.ipx_internet.proofs.packets.SentOnOrReply.{Layouts}
 use Rattle.ipx_laws.specs.Gone.{IsGone}
 use Rattle.ipx_laws.specs.Meanwhile.{IsWithoutRoute, IsWithoutService, SaysOnly}
-use Rattle.ipx_laws.specs.Wires.{Wires, WireStep, flying, beaten, wired, wires_of, beats_of, KeepGone, AreBeats, EachWireStep, EachBeat, Along, most_beats_gone, most_beats_flying}
+use Rattle.ipx_laws.specs.Wires.{Wires, WireStep, flying, beats_of, KeepGone, AreBeats, EachWireStep, EachBeat, most_beats_gone, most_beats_flying}
 use Rattle.ipx_laws.proofs.records.RecordsGrowOld.{at_last}
 use Rattle.ipx_laws.proofs.ticks.FineOrSoonEnded.{IsFineService, abides_first}
 use Rattle.ipx_laws.proofs.ticks.GoneWhateverHappens.{EveryNetwork, EveryService, OtherNetwork, OtherService, routeless, serviceless, gone_stays}

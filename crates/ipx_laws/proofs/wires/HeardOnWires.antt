@@ -1,12 +1,11 @@
 -- A router has the route of its least way after beats in which all neighbours were heard by which that way leads, where these were right; and at
 -- each moment of the beat that follows.
-use Rattle.std.proofs.Common.{◌≡◌, ◌≢◌, refl, sym, ap, ◌∙◌, subst, ◌⊎◌, ℕ, zero, suc, ◌+◌, ◌-◌, ◌*◌, ◌<◌, ◌≤◌, ◌==◌, nat_le, Bool, true, false, if◌then◌else◌, List, [], ◌∷◌, ◌++◌, length, map, Option, None, Some, slice_get, inl, inr, arith, append-nil, get_or-set_same, get_or-set_other, is_eq}
+use Rattle.std.proofs.Common.{◌≡◌, ◌≢◌, refl, sym, ap, ◌∙◌, subst, ◌⊎◌, ℕ, suc, ◌+◌, ◌-◌, ◌*◌, ◌<◌, ◌≤◌, ◌==◌, nat_le, Bool, true, false, if◌then◌else◌, List, [], ◌∷◌, ◌++◌, length, map, Option, None, Some, slice_get, inl, inr, arith, append-nil, get_or-set_same, get_or-set_other}
 use Rattle.std.specs.List.{AllByRecursion}
 use Rattle.std.proofs.Math.Nat.{mul-le-mul_left}
 use Rattle.std.proofs.lemmas.Bool.{cases_Bool, cases_eq, leb-true, leb-false, both_ways, eqb-true}
 use Rattle.ipx_table.specs.Alive.{lifetime}
 use Rattle.ipx_table.specs.Facts.{Fact}
-use Rattle.ipx_table.specs.declared.held.Held.{Held}
 use Rattle.ipx_wire.specs.Crossed.{is_among}
 use Rattle.ipx_wire.specs.declared.network.Network.{Network}
 use Rattle.ipx_wire.specs.declared.node.Node.{Node}
@@ -17,29 +16,26 @@ use Rattle.ipx_router.specs.Facts.{route_offer, routes_offered, routes_heard, he
 use Rattle.ipx_router.specs.Heard.{Heard, HeardRip, HeardSap}
 use Rattle.ipx_router.specs.History.{Event, History, Start, Stop, Second, Packet, PortDown, PortUp, running, ports_up}
 use Rattle.ipx_router.specs.Numbers.{unreachable}
-use Rattle.ipx_router.specs.Port.{Port, port_at, is_up, takes_no_route, own_address}
+use Rattle.ipx_router.specs.Port.{Port, port_at, is_up, own_address}
 use Rattle.ipx_router.specs.Routes.{route_reading, network_order}
 use Rattle.ipx_router.specs.declared.route_offer.RouteOffer.{RouteOffer}
 use Rattle.ipx_router.proofs.bounds.PacketsOfEachEvent.{network_total}
 use Rattle.ipx_router.proofs.tables.HeldWasOffered.{came_in, heard_up}
 use Rattle.ipx_router.proofs.tables.OffersOfAMessage.{facts_from-more}
-use Rattle.ipx_internet.specs.Internet.{Place, ports_of, port_of, network_of}
-use Rattle.ipx_internet.specs.Queue.{history_of, with_event}
-use Rattle.ipx_internet.specs.Run.{Step, Happens, IsStep}
+use Rattle.ipx_internet.specs.Internet.{Place, ports_of, port_of}
+use Rattle.ipx_internet.specs.Queue.{history_of}
+use Rattle.ipx_internet.specs.Run.{Happens, IsStep}
 use Rattle.ipx_internet.specs.Ticks.{seconds_of}
-use Rattle.ipx_internet.proofs.deliveries.WaitsAfterDelivery.{there}
 use Rattle.ipx_internet.proofs.lists.EachElement.{all_then}
 use Rattle.ipx_internet.proofs.lists.FoundInAList.{nothing, it_is}
 use Rattle.ipx_internet.proofs.places.OneReceiverOfANode.{same_number}
-use Rattle.ipx_internet.proofs.records.KeptOrOffered.{OffersOf}
 use Rattle.ipx_laws.specs.Apart.{AreOf, TellsOnlyOf}
 use Rattle.ipx_laws.specs.Gone.{most_ticks_gone}
 use Rattle.ipx_laws.specs.InTime.{Names, IsHeardFrom, HeardInSteps, HeardInBeats, IsSlow}
 use Rattle.ipx_laws.specs.Least.{Way}
-use Rattle.ipx_laws.specs.Meanwhile.{TellsNoRoute}
 use Rattle.ipx_laws.specs.Wires.{Flight, Wires, WireStep, Occurs, Lands, as_step, beaten, occurs, lands, wired, wires_of, beats_of, Along, EachBeat, IsBeat, most_beats_gone}
 use Rattle.ipx_laws.proofs.lists.SomeElement.{AnyIs, any_and_all, any_then, any_passes, any_mapped, the_one}
-use Rattle.ipx_laws.proofs.packets.RoutesOrSilence.{IsOwnPage, IsTo, none_of_foreign, own_heard, near_in, foreign_offer}
+use Rattle.ipx_laws.proofs.packets.RoutesOrSilence.{IsOwnPage, none_of_foreign, own_heard, near_in, foreign_offer}
 use Rattle.ipx_laws.proofs.packets.SentOnSaysTheSame.{heard_message}
 use Rattle.ipx_laws.proofs.records.BestIsKept.{second_keeps}
 use Rattle.ipx_laws.proofs.tables.Given.{Given, FineOf}
@@ -47,11 +43,11 @@ use Rattle.ipx_laws.proofs.tables.GoodRoutesStay.{Right, right_offer, same_offer
 use Rattle.ipx_laws.proofs.tables.LeastRouteSurvives.{EntryIs, foreign_keep, entries_keep, entries_come}
 use Rattle.ipx_laws.proofs.tables.LeastWays.{IsNeighbour}
 use Rattle.ipx_laws.proofs.tables.NoRouteIsBetter.{there_where_up}
-use Rattle.ipx_laws.proofs.tables.SaysWhatItKnows.{Wants, StateFor, known_of, RightFor, SourceOf}
+use Rattle.ipx_laws.proofs.tables.SaysWhatItKnows.{Wants, StateFor, known_of, SourceOf}
 use Rattle.ipx_laws.proofs.ticks.BusyTickAfterTick.{own_seconds}
 use Rattle.ipx_laws.proofs.ticks.RealOrSoonEnded.{Reaches}
 use Rattle.ipx_laws.proofs.ticks.TickAfterTick.{second_there}
-use Rattle.ipx_laws.proofs.wires.BeatAfterBeat.{Going, AreSuch, StepArises, along_first, found_at, step_goes, beat_goes, more_seconds}
+use Rattle.ipx_laws.proofs.wires.BeatAfterBeat.{StepArises, along_first, found_at, step_goes, beat_goes, more_seconds}
 use Rattle.ipx_laws.proofs.wires.EarlyFlights.{early_soon}
 use Rattle.ipx_laws.proofs.wires.SpokenOnWires.{Told, Speaks, Flies, Lasts, Arises, Good, FromOutside, Goes, Such, keeps}
 use Rattle.ipx_laws.proofs.wires.WordsOnWires.{Lasting, HasIt, Fit, Extra, as_in_ticks, extras}

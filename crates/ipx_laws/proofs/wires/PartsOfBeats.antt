@@ -1,9 +1,9 @@
 -- Beats in parts: what is so of each of them, of those before and of those behind; how many have ended, and how old what flies is.
-use Rattle.std.proofs.Common.{◌≡◌, refl, sym, ap, ◌∙◌, subst, ℕ, zero, suc, ◌+◌, ◌<◌, ◌≤◌, nat_le, Bool, true, false, if◌then◌else◌, List, [], ◌∷◌, ◌++◌, length, map, flat_map, Option, None, Some, slice_get, arith, append_assoc, append-nil}
+use Rattle.std.proofs.Common.{◌≡◌, refl, sym, ap, subst, ℕ, suc, ◌+◌, ◌<◌, ◌≤◌, nat_le, Bool, true, false, if◌then◌else◌, List, [], ◌∷◌, ◌++◌, length, flat_map, Option, None, Some, slice_get, arith, append_assoc, append-nil}
 use Rattle.std.specs.List.{AllByRecursion}
 use Rattle.ipx_router.specs.History.{Event, Packet}
 use Rattle.ipx_internet.specs.Internet.{Internet}
-use Rattle.ipx_internet.specs.Queue.{Delivery, deliveries_of, sends_at}
+use Rattle.ipx_internet.specs.Queue.{deliveries_of, sends_at}
 use Rattle.ipx_internet.proofs.lists.EachElement.{all_of, all_then, all-append, all_mapped}
 use Rattle.ipx_laws.specs.Wires.{Flight, Wires, WireStep, Occurs, Lands, beaten, occurs, lands, wired, wires_of, beats_of, Along, EachBeat}
 

@@ -1,40 +1,29 @@
 -- Over wires each route to a network off a list becomes that of a real way, where ports stay as they are and hosts tell of no route but to the
 -- networks of the list.
-use Rattle.std.proofs.Common.{◌≡◌, ◌≢◌, refl, sym, ap, ◌∙◌, subst, ◌⊎◌, ℕ, suc, ◌+◌, ◌<◌, ◌≤◌, true, false, List, [], ◌∷◌, ◌++◌, length, map, flat_map, Option, None, Some, IfSome, inl, inr, arith}
+use Rattle.std.proofs.Common.{◌≡◌, refl, sym, subst, ◌⊎◌, ℕ, ◌+◌, ◌<◌, ◌≤◌, true, List, [], length, map, Option, None, Some, IfSome, inl, inr, arith}
 use Rattle.std.specs.List.{AllByRecursion}
-use Rattle.ipx_wire.specs.Piece.{IsBytes}
 use Rattle.ipx_wire.specs.declared.network.Network.{Network}
-use Rattle.ipx_wire.specs.declared.rip.RipEntry.{RipEntry}
-use Rattle.ipx_router.specs.Facts.{heard_after, route_facts, routes_held, offers}
+use Rattle.ipx_router.specs.Facts.{route_facts, routes_held, offers}
 use Rattle.ipx_router.specs.Heard.{Heard}
-use Rattle.ipx_router.specs.History.{Event, History, Start, Stop, Second, Packet, PortDown, PortUp, IsOnPort, IsOfBytes, ports_up, running}
-use Rattle.ipx_router.specs.Port.{Port, port_at, is_up}
-use Rattle.ipx_router.specs.Relays.{Sent}
+use Rattle.ipx_router.specs.History.{History, Start, Stop, Second, Packet, PortDown, PortUp}
+use Rattle.ipx_router.specs.Port.{is_up}
 use Rattle.ipx_router.specs.Routes.{route_reading, network_order}
-use Rattle.ipx_router.specs.Told.{told}
 use Rattle.ipx_router.proofs.bounds.PacketsOfEachEvent.{network_total}
-use Rattle.ipx_router.proofs.lists.EachElement.{all_both}
 use Rattle.ipx_router.proofs.tables.HeldCameByPortsUp.{held_routes_up}
-use Rattle.ipx_internet.specs.Internet.{Internet, IsInternet, Place, ports_of, port_of}
-use Rattle.ipx_internet.specs.Queue.{Delivery, deliveries_of, history_of, sends_at}
+use Rattle.ipx_internet.specs.Internet.{Internet, IsInternet, ports_of}
+use Rattle.ipx_internet.specs.Queue.{Delivery, history_of}
 use Rattle.ipx_internet.specs.Rounds.{IsDelivery}
 use Rattle.ipx_internet.specs.Run.{Step, Happens, Settles, AreHistories}
 use Rattle.ipx_internet.proofs.lists.EachElement.{all_of, all_then}
-use Rattle.ipx_internet.proofs.packets.ResponsesAskNothing.{IsAnswering, answering}
-use Rattle.ipx_internet.proofs.packets.SentOnOrReply.{Layouts, IsReply, IsOnward, no_reply, unsaid, all_reply}
-use Rattle.ipx_internet.proofs.places.OneReceiverOfANode.{ports_at, receives_is}
-use Rattle.ipx_internet.proofs.rounds.OneRound.{each_delivery}
-use Rattle.ipx_internet.proofs.rounds.SentOnRunsOut.{reply_moves}
+use Rattle.ipx_internet.proofs.packets.SentOnOrReply.{Layouts}
 use Rattle.ipx_laws.specs.Apart.{TellsOnlyOf, IsRealApart}
 use Rattle.ipx_laws.specs.Meanwhile.{message_of, SaysOnly, LeavesPorts, TellsNoRoute}
 use Rattle.ipx_laws.specs.Real.{IsReal}
 use Rattle.ipx_laws.specs.Ups.{ups}
-use Rattle.ipx_laws.specs.Wires.{Flight, Wires, WireStep, Occurs, Lands, as_step, flying, beaten, wired, wires_of, beats_of, EachBeat, AreBeats, EachWireStep, most_beats_gone, most_beats_flying}
-use Rattle.ipx_laws.proofs.packets.RoutesOrSilence.{TellsApart, IsSpoken, none_of_foreign, changes_spoken}
-use Rattle.ipx_laws.proofs.packets.SentOnSaysTheSame.{of_packet, heard_message, message_heard}
-use Rattle.ipx_laws.proofs.records.RecordsGrowOld.{passed, at_last}
+use Rattle.ipx_laws.specs.Wires.{Flight, Wires, WireStep, as_step, flying, beats_of, AreBeats, EachWireStep, most_beats_gone, most_beats_flying}
+use Rattle.ipx_laws.proofs.packets.RoutesOrSilence.{none_of_foreign}
+use Rattle.ipx_laws.proofs.records.RecordsGrowOld.{at_last}
 use Rattle.ipx_laws.proofs.ticks.RealOrSoonEnded.{at_begin}
-use Rattle.ipx_laws.proofs.ticks.TickAfterTick.{at, all_come, second_spoken, packet_spoken}
 use Rattle.ipx_laws.proofs.wires.BeatAfterBeat.{beats_go, starts, each_all}
 use Rattle.ipx_laws.proofs.wires.SpokenOnWires.{AnyHistory, AnyEntry, Lasts, Flies, Arises, Good, Extras, Goes, keeps, such_beats, any_flies}
 

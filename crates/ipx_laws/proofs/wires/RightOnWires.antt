@@ -1,39 +1,37 @@
 -- Over wires all tables become right, hop by hop: where all routers are right whose least ways have fewer hops, those with one hop more are after what
 -- still flies and a window in which their neighbours are heard.
-use Rattle.std.proofs.Common.{◌≡◌, ◌≢◌, refl, sym, ap, ◌∙◌, subst, ◌⊎◌, ℕ, zero, suc, ◌+◌, ◌-◌, ◌*◌, ◌<◌, ◌≤◌, true, false, List, [], ◌∷◌, ◌++◌, length, map, find, Option, None, Some, option_map, inl, inr, arith, append_assoc, append-nil, length-append, is_eq}
+use Rattle.std.proofs.Common.{◌≡◌, refl, sym, ap, ◌∙◌, subst, ◌⊎◌, ℕ, zero, suc, ◌+◌, ◌-◌, ◌*◌, ◌<◌, ◌≤◌, List, [], ◌∷◌, ◌++◌, length, find, Option, None, Some, option_map, inl, inr, arith, append_assoc, length-append, is_eq}
 use Rattle.std.specs.List.{AllByRecursion}
 use Rattle.std.proofs.lemmas.Bool.{cases_lt}
 use Rattle.ipx_table.specs.Alive.{lifetime}
-use Rattle.ipx_wire.specs.declared.network.Network.{Network}
 use Rattle.ipx_wire.specs.declared.rip.RipEntry.{RipEntry}
 use Rattle.ipx_router.specs.History.{History}
 use Rattle.ipx_router.specs.Outgoing.{route_to}
-use Rattle.ipx_router.specs.Port.{is_up}
 use Rattle.ipx_router.specs.Routes.{network_order}
 use Rattle.ipx_router.specs.declared.route_offer.RouteOffer.{RouteOffer}
 use Rattle.ipx_router.proofs.lists.EachElement.{all_before, all_behind, all_both}
-use Rattle.ipx_internet.specs.Internet.{Place, ports_of, port_of, network_of}
+use Rattle.ipx_internet.specs.Internet.{Place, port_of}
 use Rattle.ipx_internet.specs.Queue.{Delivery, history_of}
 use Rattle.ipx_internet.specs.Rounds.{IsDelivery}
-use Rattle.ipx_internet.specs.Run.{IsStep, AreHistories}
+use Rattle.ipx_internet.specs.Run.{AreHistories}
 use Rattle.ipx_internet.proofs.lists.EachElement.{all_of, all_then, all_mapped}
 use Rattle.ipx_internet.proofs.trees.RunIsALog.{router_there}
 use Rattle.ipx_laws.specs.Apart.{TellsOnlyOf}
 use Rattle.ipx_laws.specs.Gone.{most_ticks_gone}
 use Rattle.ipx_laws.specs.InTime.{Advertises, HeardInBeats, AreHeardInTime, IsSlow, IsQuick, beats_right}
-use Rattle.ipx_laws.specs.Least.{Way, is_on, least_route, way_of}
+use Rattle.ipx_laws.specs.Least.{Way, least_route, way_of}
 use Rattle.ipx_laws.specs.Meanwhile.{LeavesPorts, SaysOnly}
 use Rattle.ipx_laws.specs.Ups.{ups}
-use Rattle.ipx_laws.specs.Wires.{Flight, Wires, WireStep, as_step, flying, wires_of, beats_of, Along, EachBeat, IsBeat, AreBeats, EachWireStep, most_beats_gone, most_beats_flying}
+use Rattle.ipx_laws.specs.Wires.{Flight, Wires, WireStep, as_step, flying, beats_of, Along, EachBeat, IsBeat, AreBeats, EachWireStep, most_beats_gone, most_beats_flying}
 use Rattle.ipx_laws.proofs.tables.Given.{Given}
 use Rattle.ipx_laws.proofs.tables.GoodRoutesStay.{right_way}
 use Rattle.ipx_laws.proofs.tables.LeastWays.{within, on_or_off, OnOrOff, few, is_there, same_some}
 use Rattle.ipx_laws.proofs.tables.NoRouteIsBetter.{a_source}
 use Rattle.ipx_laws.proofs.tables.SaysWhatItKnows.{Wants, wants, SourceOf, found_there}
 use Rattle.ipx_laws.proofs.tables.TablesAreRight.{none_on, none_without}
-use Rattle.ipx_laws.proofs.wires.BeatAfterBeat.{Going, along_all, along_then, beats_go, steps_each}
+use Rattle.ipx_laws.proofs.wires.BeatAfterBeat.{along_all, along_then, beats_go, steps_each}
 use Rattle.ipx_laws.proofs.wires.HeardOnWires.{window_right, beat_right}
-use Rattle.ipx_laws.proofs.wires.PartsOfBeats.{Begins, beats_more, each_at, each_then, along_each, along_both, along_prefix, beats_begin}
+use Rattle.ipx_laws.proofs.wires.PartsOfBeats.{Begins, beats_more, each_at, each_then, along_each, along_both, beats_begin}
 use Rattle.ipx_laws.proofs.wires.RealOnWires.{ends, nothing_more}
 use Rattle.ipx_laws.proofs.wires.SpokenOnWires.{AnyHistory, AnyEntry, Flies, Speaks, Lasts, Arises, Good, Goes, AllGood, Such, keeps, such_beats, steps_arise, comes_then, Told}
 use Rattle.ipx_laws.proofs.wires.WordsOnWires.{Lasting, HasIt, Fit, Extra, as_in_ticks, extras, advertises, a_hop, routes_in}

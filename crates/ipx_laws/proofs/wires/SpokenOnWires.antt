@@ -1,43 +1,37 @@
 -- What flies where ports stay as they are and hosts tell of no route but to the networks of a list: a router's own pages, which say what was so
 -- when they were sent; what tells of no other route; and what flew at first, which is over soon.
-use Rattle.std.proofs.Common.{◌≡◌, ◌≢◌, refl, sym, ap, ◌∙◌, subst, ◌⊎◌, ℕ, suc, ◌+◌, ◌<◌, ◌≤◌, true, false, List, [], ◌∷◌, ◌++◌, length, map, flat_map, Option, None, Some, IfSome, inl, inr, arith, get_or-set_same}
+use Rattle.std.proofs.Common.{◌≡◌, refl, sym, subst, ◌⊎◌, ℕ, suc, ◌+◌, ◌<◌, ◌≤◌, List, [], ◌∷◌, ◌++◌, length, flat_map, Option, None, Some, IfSome, inl, inr, arith, get_or-set_same}
 use Rattle.std.specs.List.{AllByRecursion}
 use Rattle.ipx_wire.specs.Piece.{IsBytes}
 use Rattle.ipx_wire.specs.declared.network.Network.{Network}
 use Rattle.ipx_wire.specs.declared.rip.RipEntry.{RipEntry}
-use Rattle.ipx_router.specs.Facts.{heard_after, route_facts, routes_held, offers}
+use Rattle.ipx_router.specs.Facts.{heard_after, routes_held, offers}
 use Rattle.ipx_router.specs.Heard.{Heard}
-use Rattle.ipx_router.specs.History.{Event, History, Start, Stop, Second, Packet, PortDown, PortUp, IsOnPort, IsOfBytes, ports_up, running}
+use Rattle.ipx_router.specs.History.{Event, History, Start, Stop, Second, Packet, PortDown, PortUp, IsOnPort, IsOfBytes, ports_up}
 use Rattle.ipx_router.specs.News.{news}
-use Rattle.ipx_router.specs.Port.{Port, port_at, is_up}
+use Rattle.ipx_router.specs.Port.{Port, port_at}
 use Rattle.ipx_router.specs.Relays.{Sent}
-use Rattle.ipx_router.specs.Routes.{route_reading, network_order}
 use Rattle.ipx_router.specs.Told.{told}
 use Rattle.ipx_router.specs.declared.route_offer.RouteOffer.{RouteOffer}
-use Rattle.ipx_router.proofs.bounds.PacketsOfEachEvent.{network_total}
 use Rattle.ipx_router.proofs.lists.EachElement.{all_both}
-use Rattle.ipx_router.proofs.tables.HeldCameByPortsUp.{held_routes_up}
 use Rattle.ipx_internet.specs.Internet.{Internet, IsInternet, Place, ports_of, port_of}
 use Rattle.ipx_internet.specs.Queue.{Delivery, deliveries_of, history_of, sends_at}
 use Rattle.ipx_internet.specs.Rounds.{IsDelivery}
-use Rattle.ipx_internet.specs.Run.{Step, Happens, Settles, AreHistories}
+use Rattle.ipx_internet.specs.Run.{Step, Happens, Settles}
 use Rattle.ipx_internet.proofs.lists.EachElement.{all_then, all-append}
 use Rattle.ipx_internet.proofs.packets.ResponsesAskNothing.{IsAnswering, answering}
 use Rattle.ipx_internet.proofs.packets.SentOnOrReply.{Layouts, IsReply, IsOnward, no_reply, unsaid, all_reply}
 use Rattle.ipx_internet.proofs.places.OneReceiverOfANode.{ports_at, receives_is}
 use Rattle.ipx_internet.proofs.rounds.OneRound.{each_delivery}
 use Rattle.ipx_internet.proofs.rounds.SentOnRunsOut.{reply_moves}
-use Rattle.ipx_laws.specs.Apart.{TellsOnlyOf, IsRealApart}
-use Rattle.ipx_laws.specs.Meanwhile.{message_of, SaysOnly, LeavesPorts, TellsNoRoute}
-use Rattle.ipx_laws.specs.Real.{IsReal}
-use Rattle.ipx_laws.specs.Ups.{ups}
-use Rattle.ipx_laws.specs.Wires.{Flight, Wires, WireStep, Occurs, Lands, as_step, flying, beaten, wired, wires_of, beats_of, Along, EachBeat, AreBeats, EachWireStep, most_beats_gone, most_beats_flying}
+use Rattle.ipx_laws.specs.Apart.{TellsOnlyOf}
+use Rattle.ipx_laws.specs.Meanwhile.{SaysOnly, LeavesPorts}
+use Rattle.ipx_laws.specs.Wires.{Flight, Wires, WireStep, Occurs, Lands, as_step, beaten, wired, wires_of, Along, EachBeat, EachWireStep, most_beats_flying}
 use Rattle.ipx_laws.proofs.packets.RoutesOrSilence.{TellsApart, IsOwnPage, IsSpoken, changes_spoken}
 use Rattle.ipx_laws.proofs.packets.SentOnSaysTheSame.{of_packet, heard_message, message_heard}
-use Rattle.ipx_laws.proofs.records.RecordsGrowOld.{passed, at_last}
 use Rattle.ipx_laws.proofs.ticks.RealOrSoonEnded.{Comes, RouteSaid, Endures, at_begin, second_endures, packet_endures, soon_endures, routes_said, changes_said}
-use Rattle.ipx_laws.proofs.ticks.TickAfterTick.{at, all_come, second_spoken, packet_spoken}
-use Rattle.ipx_laws.proofs.wires.BeatAfterBeat.{Happening, Leaves, Sends, Keeps, Going, AreSuch, StepsArise, arrival, beats_go, starts, along_then}
+use Rattle.ipx_laws.proofs.ticks.TickAfterTick.{all_come, second_spoken, packet_spoken}
+use Rattle.ipx_laws.proofs.wires.BeatAfterBeat.{Happening, Leaves, Sends, Keeps, Going, AreSuch, StepsArise}
 use Rattle.ipx_laws.proofs.wires.EarlyFlights.{IsEarly, early_soon, early_onward, early_first}
 
 -- a page of entries of which something follows

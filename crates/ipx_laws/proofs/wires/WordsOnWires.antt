@@ -1,5 +1,5 @@
 -- Routers that have the routes of their least ways, where these have fewer hops than stated: what they advertise over wires is those ways, gone on.
-use Rattle.std.proofs.Common.{◌≡◌, ◌≢◌, refl, sym, ap, ◌∙◌, subst, ◌⊎◌, ℕ, suc, ◌+◌, ◌*◌, ◌<◌, ◌≤◌, ◌==◌, Bool, true, false, List, [], ◌∷◌, length, map, find, Option, None, Some, inl, inr, arith, is_eq}
+use Rattle.std.proofs.Common.{◌≡◌, refl, sym, ap, subst, ◌⊎◌, ℕ, ◌+◌, ◌*◌, ◌<◌, ◌≤◌, ◌==◌, true, false, List, [], ◌∷◌, map, Some, inl, inr, arith}
 use Rattle.std.specs.List.{AllByRecursion}
 use Rattle.std.proofs.lemmas.Bool.{eq-eqb}
 use Rattle.ipx_table.specs.Alive.{lifetime}
@@ -10,7 +10,6 @@ use Rattle.ipx_wire.specs.declared.rip.RipEntry.{RipEntry}
 use Rattle.ipx_router.specs.Facts.{route_facts, routes_held, offers}
 use Rattle.ipx_router.specs.History.{History, ports_up}
 use Rattle.ipx_router.specs.News.{news}
-use Rattle.ipx_router.specs.Port.{Port}
 use Rattle.ipx_router.specs.Routes.{route_reading, network_order}
 use Rattle.ipx_router.specs.Told.{told}
 use Rattle.ipx_router.specs.declared.route_offer.RouteOffer.{RouteOffer}
@@ -18,9 +17,9 @@ use Rattle.ipx_router.proofs.bounds.PacketsOfEachEvent.{network_total}
 use Rattle.ipx_internet.specs.Internet.{Place, ports_of}
 use Rattle.ipx_internet.proofs.lists.EachElement.{all_then}
 use Rattle.ipx_laws.specs.Gone.{most_ticks_gone}
-use Rattle.ipx_laws.specs.Least.{Way, is_on, way_of}
+use Rattle.ipx_laws.specs.Least.{Way, is_on}
 use Rattle.ipx_laws.specs.Wires.{most_beats_gone}
-use Rattle.ipx_laws.proofs.lists.SomeElement.{AnyIs, any_then, any-map, passes_any}
+use Rattle.ipx_laws.proofs.lists.SomeElement.{AnyIs, any-map, passes_any}
 use Rattle.ipx_laws.proofs.records.RecordsGrowOld.{fine_at_last, at_last}
 use Rattle.ipx_laws.proofs.tables.Given.{Given, FineOf, real_one}
 use Rattle.ipx_laws.proofs.tables.GoodRoutesStay.{right_way}
@@ -30,7 +29,7 @@ use Rattle.ipx_laws.proofs.tables.RoomForEachNetwork.{real_wanted}
 use Rattle.ipx_laws.proofs.tables.SaysItsLeastWay.{IsWord}
 use Rattle.ipx_laws.proofs.tables.SaysWhatItKnows.{Wants, wants, known_of, RightFor, SourceOf, Knows, AllReal, words_told, words_news, knows_on, knows_off, told_own, told_learned}
 use Rattle.ipx_laws.proofs.ticks.RealOrSoonEnded.{Endures}
-use Rattle.ipx_laws.proofs.wires.SpokenOnWires.{Extras, own_port}
+use Rattle.ipx_laws.proofs.wires.SpokenOnWires.{Extras}
 
 -- what is so of each if something is, is so if that is
 all_if : {X : Type 0} (A : Type 0) (P : X → Type 0) (xs : List X) → (A → AllByRecursion P xs) → AllByRecursion (λ x. A → P x) xs

@@ -1,6 +1,5 @@
 use Rattle.std.proofs.Common.{refl, sym, [], ◌∷◌, ◌++◌, inl, inr, arith, append-nil}
 use Rattle.ipx_internet.proofs.packets.SentOnOrReply.{Layouts}
-use Rattle.ipx_laws.specs.Least.{least_route}
 use Rattle.ipx_laws.specs.Ups.{ups}
 use Rattle.ipx_laws.specs.Wires.{still, beats_of, most_beats_flying}
 use Rattle.ipx_laws.proofs.laws.wires.right_on_wires.Goals as goal
