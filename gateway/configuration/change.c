@@ -240,12 +240,21 @@ static void remove_networks(gateway *it, changed *what)
         network *on = &it->networks[k];
         if (next.fates[k].becomes != IPXR_NO_ONE)
             continue;
-        ether_send_waiting(on);
         if (on->set->type == LINK_DOSBOX)
             tunnel_end(on);
         line_end(&on->speaks.line);
         tell_removed(on);
         what->removed++;
+    }
+}
+
+/* What waits on links that don't stay as they are goes out there at once. */
+static void send_waiting(gateway *it)
+{
+    for (size_t k = 0; k < it->count; k++) {
+        size_t becomes = next.fates[k].becomes;
+        if (becomes == IPXR_NO_ONE || !next.origins[becomes].is_as_before)
+            ether_send_waiting(&it->networks[k]);
     }
 }
 
@@ -259,6 +268,7 @@ static bool takes_leave(gateway *it)
         events_second(it); /* (of what is forgotten it is told by which network it was known) */
     gateway_send_all(it);
     gateway_flush(it);
+    send_waiting(it);
     return true;
 }
 

@@ -1,5 +1,6 @@
 /* Routes and services by way of nodes that say nothing themselves: the router hears of them each second, in these nodes' names. (so they are there again
- * at once where a link was lost, or somebody told a better way and took it back) */
+ * at once where a link was lost, or somebody told a better way and took it back) Where others have filled the network's part of a table meanwhile, the
+ * neighbour who told most of it loses as many entries as lines lack. */
 #ifndef STATICS_H
 #define STATICS_H
 

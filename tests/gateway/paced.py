@@ -1,13 +1,16 @@
 """The router's broadcasts on a link with frames: those of a table go out one by one, 55 milliseconds apart, so that the card of an old computer
 has room for each.
 """
+import time
+
+from changed import Changed
 from frames import Udp, frame, unframed
-from lab import ALL_THERE_IS, EVERYONE, Client, Clock, Gateway, is_routers, reaches, sap_response, tunnels
+from lab import ALL_THERE_IS, EVERYONE, Client, Clock, Gateway, free_ports, is_routers, reaches, sap_response, tunnels, until
 from systems import SYSTEM
-from trying import begin, tried
+from trying import begin, has_linux, tried
 
 CABLE, SERVICES, OF_ONE = 0x20, 70, 7  # a network with frames; services, and those of a packet
-SERVER = 0x4010
+SERVER, UNREACHABLE = 0x4010, 16
 STEP, PERIOD = 0.056, 60  # seconds from a packet to the next, and from one broadcast of all to the next
 PACKETS = 1 + SERVICES // OF_ONE  # of RIP and of SAP
 LATE = 2  # seconds in which all of them have gone
@@ -79,10 +82,35 @@ def all_goes_at_the_end():
         assert wire.count() >= PACKETS - 1
 
 
+def leave_goes_by_the_old_link():
+    """A reload by which the router starts afresh, and a network gets another link: its old one hears at once that all services are gone, the new
+    one of none that is."""
+    old, new = Wire(), Wire()
+    own, cable = free_ports(2)
+    text = f"network 10 1 1424 65535 65535 dosbox 127.0.0.1:{own}\nrate none\n"
+    link = f"network {CABLE:X} 1 1490 qemu-udp 127.0.0.1:{cable} 127.0.0.1:%d raw\n"
+    with Changed(text + link % old.port) as gate:
+        offers(Client(gate.ports[0x10]))
+        until(lambda: f"services: {SERVICES}\n" in gate.report(), "all services")
+        assert "afresh" in gate.reload(text.replace("10 1 1424", "10 2 1424") + link % new.port)
+        gone = {service[2:50].rstrip(b"\0") for service in services_in(old.heard()) if hops_of(service) == UNREACHABLE}
+        assert len(gone) == SERVICES, len(gone)
+        time.sleep(LATE)
+        assert all(hops_of(service) < UNREACHABLE for service in services_in(new.heard()))
+
+
+def services_in(packets):
+    """Each service of responses, as it stands there."""
+    return [it[at:at + 64] for it in packets if it[16:18] == b"\x04\x52" for at in range(32, len(it) - 63, 64)]
+
+
+def hops_of(service):
+    return int.from_bytes(service[62:64], "big")
+
+
 def last_hops(packets, name):
     """The hops of a service as it was told last."""
-    said = [bytes_[at + 62:at + 64] for bytes_ in packets for at in range(32, len(bytes_) - 63, 64) if bytes_[at + 2:at + 50].rstrip(b"\0") == name]
-    return int.from_bytes(said[-1], "big")
+    return [hops_of(it) for it in services_in(packets) if it[2:50].rstrip(b"\0") == name][-1]
 
 
 def none_overtakes():
@@ -109,7 +137,10 @@ def none_overtakes():
 
 
 def main():
-    return tried(a_table_goes_out_one_by_one, all_goes_at_the_end, none_overtakes)
+    counts = tried(a_table_goes_out_one_by_one, all_goes_at_the_end, none_overtakes)
+    if has_linux("that a router that starts afresh takes leave by its old links", "a reload is Linux' own"):
+        counts.run(leave_goes_by_the_old_link)
+    return counts
 
 
 if __name__ == "__main__":

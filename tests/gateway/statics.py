@@ -4,7 +4,7 @@ import socket
 from changed import Changed
 from edge import nearest_for, routes_told, services_of, unnumbered
 from frames import Udp
-from lab import GAME, Client, Clock, Gateway, address, free_ports, sap_response, tunnels, until
+from lab import GAME, Client, Clock, Gateway, address, free_ports, rip_response, sap_response, tunnels, until
 from systems import SYSTEM
 from trying import begin, has_linux, tried
 
@@ -67,6 +67,32 @@ def they_come_again():
                 until(lambda: "\n  000000A1 hops 2 " in gate.report(), "the route")
 
 
+def they_keep_their_places():
+    """Lines are there within a second, whoever fills the tables: also if he tells a better way, and takes it back with another for its place."""
+    lines = f"network {NETWORK:X} 1 1424 dosbox 127.0.0.1:0\n" + ROUTE + SERVICE
+    with Changed(lines.replace(ROUTE, "")) as gate:
+        client = Client(gate.ports[NETWORK])
+        tell = lambda *routes: client.send(rip_response(NETWORK, client.node, routes))
+        offer = lambda *services: client.send(sap_response(NETWORK, client.node, services))
+        server = lambda name, hops: (0x4010, name, 0x5000, client.node, 0x451, hops)
+        for first in 0x5000, 0x5020:
+            tell(*[(first + k, 1, 2) for k in range(32)])
+        for first in range(0, 31, 7):
+            offer(*[server(f"S{k}", 1) for k in range(first, min(first + 7, 31))])
+        until(lambda: "routes: 64\n" in gate.report() and "services: 32\n" in gate.report(), "full tables")
+        gate.reload(lines)
+        until(lambda: "\n  000000A1 hops 2 " in gate.report(), "the new line")
+        for k in range(2):
+            tell((0xA1, 1, 1))
+            offer(server("FILES", 1))
+            until(lambda: "\n  000000A1 hops 1 " in gate.report(), "the client's route in the line's place")
+            tell((0xA1, 16, 1), (0x6000 + k, 1, 2))
+            offer(server("FILES", 16), server(f"T{k}", 1))
+            until(lambda: "\n  000000A1 hops 2 " in gate.report() and "FILES" in gate.report(), "the lines")
+        report = gate.report()
+        assert "routes: 64\n" in report and "services: 32\n" in report, report
+
+
 def they_end():
     """A reload without a line ends what it said at once, and a line more is heard at once, also by a new router."""
     wire = Udp()
@@ -88,6 +114,7 @@ def main():
     counts = tried(are_learned, it_answers_nobody, they_come_again)
     if has_linux("lines that change, and that stay", "the status socket and the clock that a test sets are Linux' own"):
         counts.run(they_stay)
+        counts.run(they_keep_their_places)
         counts.run(they_end)
     return counts
 
