@@ -11,10 +11,10 @@
 #include "weather.h"
 #include "world.h"
 
-/* Turns of a second: until all is empty; from then on somebody comes in, and another who only listens, he speaks, and has been heard. The router
+/* Turns of a second: until lines hold, and until all is empty; from then on somebody comes in, and another who only listens, he speaks, and has been heard. The router
  * says what it knows in a minute. (where one datagram a second goes to strangers, an address has to wait for 32 seconds for its second newcomer) */
 enum {
-    CALM = 200, COMES_IN = CALM + 1, COMES_AGAIN = COMES_IN + 3, LISTENS = COMES_AGAIN + 30, LISTENS_AGAIN = LISTENS + 3,
+    FIRST = 3, CALM = 200, COMES_IN = CALM + 1, COMES_AGAIN = COMES_IN + 3, LISTENS = COMES_AGAIN + 30, LISTENS_AGAIN = LISTENS + 3,
     SPEAKS = LISTENS_AGAIN + 11, HEARD = SPEAKS + 2, SAID_ALL = HEARD + 62
 };
 
@@ -254,6 +254,40 @@ static void check_said(gateway *it)
     }
 }
 
+static bool has_route(gateway *it, uint32_t to)
+{
+    ipxr_route_record route = {.network = 0};
+    size_t k = 0;
+    while (ipxr_route(&it->router, k, &route) == 0 && route.network != to)
+        k++;
+    return route.network == to;
+}
+
+static bool has_service(gateway *it, const ipxr_service_entry *one)
+{
+    ipxr_service_record service;
+    size_t k = 0;
+    while (ipxr_service(&it->router, k, &service) == 0 && (service.type != one->type || memcmp(service.name, one->name, sizeof one->name) != 0))
+        k++;
+    return k < ipxr_services(&it->router);
+}
+
+/* What the lines of a network say that is up is in the tables, if its shares have room for all lines. */
+static void check_lines(gateway *it)
+{
+    for (size_t k = 0; k < it->port_count; k++) {
+        const network_setting *set = it->networks[it->ports[k].first].set;
+        if (!it->ports[k].is_up)
+            continue;
+        for (size_t line = 0; set->routes >= set->static_route_count && line < set->static_route_count; line++)
+            if (!has_route(it, set->static_routes[line].route.network))
+                wrong("network %X has no route of its line %zu in peace", (unsigned)set->network, line);
+        for (size_t line = 0; set->services >= set->static_service_count && line < set->static_service_count; line++)
+            if (!has_service(it, &set->static_services[line].service))
+                wrong("network %X has no service of its line %zu in peace", (unsigned)set->network, line);
+    }
+}
+
 static void begin_to_count(void)
 {
     memset(sent_by, 0, sizeof sent_by);
@@ -266,7 +300,9 @@ bool peace_passes(gateway *it)
     if (left == 0)
         return false;
     left--;
-    switch (++now) {
+    if (++now > FIRST)
+        check_lines(it);
+    switch (now) {
     case CALM:
         check_calm(it);
         break;
