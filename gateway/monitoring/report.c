@@ -9,7 +9,7 @@
 #include "monitoring/output.h"
 #include "tunnel/tunnel.h"
 
-static void show_network(network *on)
+static void show_network(const gateway *it, network *on)
 {
     char words[LINK_ROOM], node[WORDS], kinds[KINDS_ROOM], extended[40] = "";
     const network_setting *set = on->set;
@@ -28,7 +28,7 @@ static void show_network(network *on)
     if (set->type == LINK_QEMU_LISTEN && on->cable->not_taken > 0)
         say("  not taken: %" PRIu64, on->cable->not_taken);
     if (set->type == LINK_DOSBOX)
-        tunnel_show(on);
+        tunnel_show(on, it->seconds);
 }
 
 static void show_internal(const gateway *it)
@@ -67,7 +67,7 @@ void gateway_report(gateway *it)
 {
     say("report after %" PRIu64 " s", it->told);
     for (size_t k = 0; k < it->count; k++)
-        show_network(&it->networks[k]);
+        show_network(it, &it->networks[k]);
     show_internal(it);
     for (size_t k = 0; k < it->port_count; k++)
         stations_show(it, &it->ports[k]);

@@ -115,13 +115,6 @@ static uint64_t dropped_of(const known_client *client)
     return sum;
 }
 
-/* Seconds since a client answered, also before a reload. */
-static int heard_of(gateway *it, network *on, const known_client *client)
-{
-    const member *known = roster_find(&on->roster, client->place);
-    return known != NULL ? roster_silence(known, it->seconds, client->heard) : client->heard;
-}
-
 static bool next_client(gateway *it, cursor *so_far, sheet *s)
 {
     known_client client;
@@ -138,7 +131,7 @@ static bool next_client(gateway *it, cursor *so_far, sheet *s)
     field_node(s, client.node);
     field_text(s, address_words(&client.at, place));
     field_flag(s, client.is_trusted);
-    field_number(s, (uint64_t)heard_of(it, &it->networks[so_far->network], &client));
+    field_number(s, (uint64_t)tunnel_silence(&it->networks[so_far->network], it->seconds, &client));
     field_number(s, client.refused);
     field_number(s, dropped_of(&client));
     record_end(s);

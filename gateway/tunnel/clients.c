@@ -32,6 +32,12 @@ bool tunnel_client(network *on, size_t index, known_client *client)
     return true;
 }
 
+int tunnel_silence(network *on, uint64_t second, const known_client *client)
+{
+    const member *known = roster_find(&on->roster, client->place);
+    return known != NULL ? roster_silence(known, second, client->heard) : client->heard;
+}
+
 /* What was dropped of a client, behind its line. */
 static void show_dropped(const known_client *it)
 {
@@ -48,20 +54,20 @@ static void show_dropped(const known_client *it)
         say("      dropped:%s", words);
 }
 
-static void show_client(const known_client *client)
+static void show_client(const known_client *client, int silence)
 {
     char node[WORDS], where[ADDRESS_ROOM], refused[40] = "";
     if (client->refused > 0)
         snprintf(refused, sizeof refused, ", %" PRIu64 " not sent", client->refused);
     say("    %s at %s, %s %d s ago%s", node_words(client->node, node), address_words(&client->at, where),
-        client->is_trusted ? "trusted, heard" : "answered", client->heard, refused);
+        client->is_trusted ? "trusted, heard" : "answered", silence, refused);
     show_dropped(client);
 }
 
-void tunnel_show(network *on)
+void tunnel_show(network *on, uint64_t second)
 {
     known_client client;
     say("  clients: %zu of %u", ipxr_keyed_clients(&on->tunnel), on->set->clients);
     for (size_t k = 0; tunnel_client(on, k, &client); k++)
-        show_client(&client);
+        show_client(&client, tunnel_silence(on, second, &client));
 }

@@ -69,7 +69,10 @@ typedef struct known_client {
 /* The client with exactly `index` others before it. Returns false where there is none. */
 bool tunnel_client(network *on, size_t index, known_client *client);
 
-/* Says a line for each client. */
-void tunnel_show(network *on);
+/* In a second of the tunnels, how many ago a client answered, also before a reload. */
+int tunnel_silence(network *on, uint64_t second, const known_client *client);
+
+/* Says a line for each client, in that second. */
+void tunnel_show(network *on, uint64_t second);
 
 #endif

@@ -200,7 +200,7 @@ def heard_of(gate, client):
 
 
 def silence_goes_on():
-    """How long ago a client answered is shown behind reloads too, until it answers; that begins anew where it is trusted from then on."""
+    """How long ago a client answered is shown and reported behind reloads too, until it answers; that begins anew where it is trusted from then on."""
     clock = Clock()
 
     def let_pass(seconds):
@@ -217,6 +217,7 @@ def silence_goes_on():
         for further, below in enumerate(("clients 9\n", "rate 900\n", "clients 9\n")):
             gate.reload(tunnels(1, extra=below))
             assert heard_of(gate, silent) == before + further, below
+            assert f"answered {before + further} s ago" in gate.report(), below
             let_pass(1)
             assert heard_of(gate, silent) == before + further + 1, below
         assert heard_of(gate, other) <= of_other + 3

@@ -185,6 +185,9 @@ static bool has_node(const made_network *it)
     return it->is_of_several || (strncmp(it->links[0].words, "dosbox", 6) != 0 && strncmp(it->links[0].words, "interface", 9) != 0);
 }
 
+/* Lines that take most of a share of ten. */
+enum { MORE_LINES = 7 };
+
 /* Routes and a service by way of nodes, which change with the network's longest packet. */
 static void add_statics(size_t *at, const made_network *it)
 {
@@ -192,6 +195,8 @@ static void add_statics(size_t *at, const made_network *it)
         return;
     if (it->longest != 1500)
         add(at, "route F%X 2 3 via 02005E100003\nroute E%X 1 2 via 02005E100004\n", it->number, it->number);
+    for (unsigned k = 0; it->longest != 1500 && k < MORE_LINES; k++)
+        add(at, "route D%X%X 1 2 via 02005E100004\n", k, it->number);
     if (it->longest != 1492)
         add(at, "service 7 STATIC%X F%X.000000000001.451 3 via 02005E100003\n", it->number, it->number);
 }
