@@ -86,7 +86,7 @@ static void write_one(const neighbour *it, FILE *file, unsigned asked)
     uint64_t routes = it->of[ANSWERS_ROUTES].rounds, nearest = it->of[ANSWERS_NEAREST].rounds;
     bool is_router = it->of[TELLS_ROUTES].packets + routes > 0;
     fprintf(file, "  %s %s", is_router ? "router" : "server", node_words(it->node, node));
-    if (it->claims != it->network)
+    if (it->claims != it->network && it->claims != 0) /* (0 means the network at hand) */
         fprintf(file, ", which calls the network %08" PRIX32, it->claims);
     fprintf(file, "\n");
     write_told(file, "RIP", "routes", &it->of[TELLS_ROUTES]);

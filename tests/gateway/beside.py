@@ -98,7 +98,7 @@ def what_is_seen():
             wire.send(framed(told[:2] + struct.pack(">H", len(told) + 3) + told[4:] + b"end"))
             wire.send(framed(rip_response(ELSEWHERE, STRANGER, [(0x53, 1, 2)])))
             wire.send(framed(rip_response(CABLE, DENIED, [(0x1000, 1, 2)])))
-        wire.send(framed(sap_response(CABLE, SERVER, [(FILE_SERVERS, "SERVER", CABLE, SERVER, 0x451, 1)])))
+        wire.send(framed(sap_response(0 if minute == MINUTES - 1 else CABLE, SERVER, [(FILE_SERVERS, "SERVER", CABLE, SERVER, 0x451, 1)])))
         sent += 2 + minute % 2 + (minute == 0) + 3 * (minute == 3)
         gate.until_counted(CABLE, "in", sent)
     assert gate.ends().partition("\n")[2] == SEEN.format(*(gate.nodes[it].hex().upper() for it in (DOSBOX, CABLE)), *gate.links())
