@@ -1,13 +1,13 @@
 -- An internet of routers with edges: whatever comes to a port passes its edge before its router hears it.
-use Rattle.std.specs.Prelude.{◌≡◌, ℕ, ◌<◌, List, [], ◌∷◌, Option, None, Some}
+use Rattle.std.specs.Prelude.{◌≡◌, ℕ, List, [], ◌∷◌, Option, None, Some}
 use Rattle.std.specs.Option.{option_map}
 use Rattle.ipx_router.specs.Facts.{routes_held, services_held}
 use Rattle.ipx_router.specs.Heard.{Heard, heard}
-use Rattle.ipx_router.specs.History.{Event, History, Start, Stop, Second, Packet, PortDown, PortUp}
+use Rattle.ipx_router.specs.History.{Event, Start, Stop, Second, Packet, PortDown, PortUp}
 use Rattle.ipx_edge.specs.Entered.{entered}
 use Rattle.ipx_internet.specs.Internet.{Internet, ports_of, port_of}
 use Rattle.ipx_internet.specs.Log.{Reception}
-use Rattle.ipx_internet.specs.Queue.{Delivery, history_of}
+use Rattle.ipx_internet.specs.Queue.{history_of}
 use Rattle.ipx_internet.specs.Run.{Step, Happens, Settles, Waiting, Run, stepped}
 
 -- ---- what comes in

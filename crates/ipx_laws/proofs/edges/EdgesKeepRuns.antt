@@ -1,39 +1,32 @@
 -- With edges, what holds at each step of a run holds; and what was sent on is heard by no router.
-use Rattle.std.proofs.Common.{◌≡◌, ◌≢◌, refl, sym, ap, ◌∙◌, subst, ℕ, ◌+◌, ◌<◌, ◌⊎◌, ◌&&◌, ◌||◌, Bool, true, false, if◌then◌else◌, List, [], ◌∷◌, ◌++◌, length, Option, None, Some, Ok, append-nil, length-append, get_or-set_same, get_or-set_other, inl, inr, arith}
+use Rattle.std.proofs.Common.{◌≡◌, ◌≢◌, refl, sym, ap, ◌∙◌, subst, ℕ, ◌<◌, ◌⊎◌, ◌&&◌, ◌||◌, Bool, true, false, if◌then◌else◌, List, [], ◌∷◌, ◌++◌, length, Option, None, Some, Ok, append-nil, length-append, inl, inr, arith}
 use Rattle.std.specs.List.{AllByRecursion}
 use Rattle.std.specs.Option.{option_map}
-use Rattle.std.proofs.lemmas.Bool.{cases_Bool, cases_eq, cases_lt}
+use Rattle.std.proofs.lemmas.Bool.{cases_Bool, cases_lt}
 use Rattle.std.proofs.lemmas.Grind.{common_steps}
 use Rattle.ipx_wire.specs.Numbers.{local_network}
 use Rattle.ipx_wire.specs.Packet.{Parts, packet_of}
 use Rattle.ipx_wire.specs.Piece.{IsBytes}
-use Rattle.ipx_table.specs.Facts.{Fact}
-use Rattle.ipx_table.specs.Stands.{held}
-use Rattle.ipx_router.specs.Facts.{route_facts_of, service_facts_of, routes_heard, services_heard, routes_held, services_held, facts_from}
 use Rattle.ipx_router.specs.Heard.{Heard, heard}
-use Rattle.ipx_router.specs.History.{Event, History, Start, Stop, Second, Packet, PortDown, PortUp, IsOnPort, IsOfBytes, running, ports_up}
+use Rattle.ipx_router.specs.History.{Event, History, Start, Stop, Second, Packet, PortDown, PortUp}
 use Rattle.ipx_router.specs.Port.{Port, IsPort, port_at}
-use Rattle.ipx_router.specs.Routes.{route_rules}
-use Rattle.ipx_router.specs.Services.{service_rules}
 use Rattle.ipx_router.specs.Why.{is_near, is_for_rip, is_for_sap}
 use Rattle.ipx_router.proofs.bytes.ReadInOneWay.{one_read}
 use Rattle.ipx_router.proofs.port_values.PortOfEachNumber.{port-all}
-use Rattle.ipx_router.proofs.tables.OffersOfAMessage.{facts_from-more}
 use Rattle.ipx_edge.specs.Entered.{is_for_neighbours, is_held, entered}
 use Rattle.ipx_edge.specs.Laws.{IsDirect}
 use Rattle.ipx_edge.specs.Numbered.{is_own_service, services_told, numbered}
 use Rattle.ipx_internet.specs.Different.{AreDifferent}
 use Rattle.ipx_internet.specs.Internet.{Internet, Place, IsInternet, IsPlace, ports_of, port_of}
 use Rattle.ipx_internet.specs.Log.{Sending, Reception, reception_at}
-use Rattle.ipx_internet.specs.Queue.{history_of, with_event}
-use Rattle.ipx_internet.specs.Run.{Step, Happens, Settles, IsStep, AreHistories, Waiting, Run, begun, received, stepped}
+use Rattle.ipx_internet.specs.Run.{Step, Happens, Settles, IsStep, AreHistories, Waiting, Run, begun, stepped}
 use Rattle.ipx_internet.proofs.packets.ForwardsDiffer.{Routing}
 use Rattle.ipx_internet.proofs.packets.SentOnOrReply.{Layouts, IsOnward, onward}
 use Rattle.ipx_internet.proofs.places.OneReceiverOfANode.{ports_at}
 use Rattle.ipx_internet.proofs.trees.LogStays.{same_reception}
 use Rattle.ipx_internet.proofs.trees.NoTwoNameTheSame.{Name, named, names, names_waiting}
 use Rattle.ipx_internet.proofs.trees.RunIsALog.{IsWaiting, Good, step_well, begun_well}
-use Rattle.ipx_laws.specs.Edges.{lets_in, lets_through, edge_stepped, edge_run, HoldTheSame, words_of}
+use Rattle.ipx_laws.specs.Edges.{edge_stepped, edge_run, words_of}
 use Rattle.ipx_laws.proofs.edges.NumberedAreBytes.{numbered_are}
 
 -- the laws of edges

@@ -9,7 +9,7 @@ use Rattle.ipx_wire.specs.declared.packet.PacketFault.{PacketFault}
 use Rattle.ipx_router.specs.Port.{Port}
 use Rattle.ipx_router.proofs.bytes.ListsOfBytes.{bytes_taken, bytes_dropped, bytes_both, bytes_16, bytes_32}
 use Rattle.ipx_edge.specs.Places.{checksum_place, source_place, service_place, with_at}
-use Rattle.ipx_edge.specs.Numbered.{is_unnumbered, is_own_service, with_number, with_source, with_service, with_services, services_told, numbered_in, numbered}
+use Rattle.ipx_edge.specs.Numbered.{is_unnumbered, is_own_service, with_number, with_source, with_services, services_told, numbered_in, numbered}
 
 changed : (place : ℕ) (new bytes : List ℕ) → IsBytes new → IsBytes bytes → IsBytes (with_at place new bytes)
 unfolding with_at
