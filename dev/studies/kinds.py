@@ -5,19 +5,23 @@ from . import forging
 from .chance import Chance
 from .played import Broken
 from .stories import AT_ONCE, GONE, PERIOD, RIGHT, Case
+from .ways import MOST_HOPS
+from .wired import Wires
 
-# What a study says of itself, the fewest and the most routers, and what it does with a case.
-Study = collections.namedtuple("Study", "says least most measure")
+# What a study says of itself, the fewest and the most routers, what its wires do, and what it does with a case.
+Study = collections.namedtuple("Study", "says least most wires measure")
 # Where something waits at first, a law's bound is a second more.
 FIRST = 1
+# The beats of a delay after which nothing is left of what was under way at first.
+FLYING = 18
 # The rounds of the law, beside one for each router: whatever waits, and of what routers send by themselves.
 ROUNDS, OWN_ROUNDS = 34, 17
 STUDIES = {}
 
 
-def study(name, says, least=2, most=8):
+def study(name, says, least=2, most=8, wires=None):
     def add(measure):
-        STUDIES[name] = Study(says, least, most, measure)
+        STUDIES[name] = Study(says, least, most, wires, measure)
         return measure
 
     return add
@@ -26,7 +30,7 @@ def study(name, says, least=2, most=8):
 def measured(name, seed):
     """What a study measures of a seed, the script that was played, and the law that was broken, if one was."""
     of = STUDIES[name]
-    case = Case(Chance(f"{name} {seed}"), of.least, of.most)
+    case = Case(Chance(f"{name} {seed}"), of.least, of.most, of.wires)
     try:
         found = of.measure(case)
         case.played.end()
@@ -121,6 +125,30 @@ def at_once(case):
     case.pass_seconds(PERIOD)
     case.one_end()
     return case.until({"gone": (case.reached(), GONE), "right": (case.right(), RIGHT)})
+
+
+# ---- over real wires: bounds are in beats, each a second of the slowest clock
+
+
+def on_wires(case, window):
+    """From tables of anything, and with anything under way, by the laws of wires on which neighbours are heard in a window of so many beats."""
+    delay = case.played.wires.delay
+    gone = GONE + (MOST_HOPS * delay) + 1 + FLYING * delay
+    case.started()
+    forging.anything(case.chance, case.played)
+    return case.until({"gone": (case.reached(), gone), "right": (case.right(), gone + MOST_HOPS * (window + delay))})
+
+
+@study("lossy-wires", "as any-tables, over wires that take up to 3 s, lose one in ten, but of two in a row never both, and double one in ten", 2, 5,
+       Wires(delay=3, lost=10, repeated=10, fastest=100))
+def lossy_wires(case):
+    return on_wires(case, 124)
+
+
+@study("drifting-clocks", "as any-tables, over wires that take up to 3 s, where clocks go up to twice as fast as others", 2, 5,
+       Wires(delay=3, lost=0, repeated=10, fastest=200))
+def drifting_clocks(case):
+    return on_wires(case, 64)
 
 
 # ---- services: the bound of the law grows with the hops, and isn't waited for

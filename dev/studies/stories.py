@@ -3,6 +3,7 @@ import collections
 
 from . import internets, judges, packets
 from .played import Broken, Played
+from .wired import Wired
 
 # How long a record lives without being heard again, and how far apart broadcasts of all are, in seconds.
 LIFETIME, PERIOD = 180, 60
@@ -51,9 +52,10 @@ class Watch:
 class Case:
     """One seed of a study: its choices and the internet that is played."""
 
-    def __init__(self, chance, least, most):
+    def __init__(self, chance, least, most, wires=None):
         self.chance = chance
-        self.played = Played(internets.internet(chance, chance.between(least, most)))
+        internet = internets.internet(chance, chance.between(least, most))
+        self.played = Wired(internet, chance, wires) if wires else Played(internet)
         self.internet, self.server, self.second = self.played.internet, None, 0
         self.meanwhile = tuple
 

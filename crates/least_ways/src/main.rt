@@ -3,12 +3,14 @@
 //! That is the contract of `become_right` (`src/right.rt`). Before it, `come_to_rest` (`src/rest.rt`) delivers what waits after the routers'
 //! starts, until nothing waits. Their proofs rest on the public calls of `Internet` and on laws alone, so they show how to cite them.
 //! What `become_right` asks for beyond that is seen by reading of this internet, and isn't proved here: it has two routers, each port costs
-//! one tick, and a table has room for 50 routes.
+//! one tick, and a table has room for 50 routes. `over_two_seconds` (`src/cited.rt`) cites the laws over real wires.
 #![tactic(auto)]
 
+mod cited;
 mod rest;
 mod right;
 
+use crate::cited::over_two_seconds;
 use crate::rest::come_to_rest;
 use crate::right::become_right;
 use anyhow::Result;
@@ -20,6 +22,7 @@ use ipx_wire::{Network, Node};
 const LIMIT: usize = 100;
 
 fn main(rt: HostRuntime) -> Result<()> {
+    over_two_seconds();
     let west = Router::<2, 50, 8>::new(&[port(0x10, 1)?, port(0x20, 2)?])?;
     let east = Router::<2, 50, 8>::new(&[port(0x20, 3)?, port(0x30, 4)?])?;
     let mut internet = Internet::new(rt.alloc());
