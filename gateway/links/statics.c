@@ -91,7 +91,7 @@ static void say_services(gateway *it, const network *on)
     }
 }
 
-/* ---- Room for them: where others have filled the network's part of a table, the neighbour who told most of it gives some back ---- */
+/* ---- Room for them: where others have filled the network's part of a table, or all of it, the neighbour who told most gives some back ---- */
 
 /* How many neighbours are told apart, unless two have one number by chance. */
 enum { NEIGHBOURS = 1024 };
@@ -131,25 +131,67 @@ static size_t missing_services(gateway *it, const network_setting *set)
     return count_missing(is_there, set->static_service_count);
 }
 
-/* Ends so many routes of those that one neighbour on a network told, who told the most that no line says; none where there is room. */
+/* Where the entries may be that are ended for lines of a network: nowhere, if there is room; on it, if its part is full; else the table is. */
+typedef enum { NOWHERE, ON_IT, ANYWHERE } reach;
+
+static reach reach_of(size_t here, size_t part, size_t all, size_t most)
+{
+    return here >= part ? ON_IT : all >= most ? ANYWHERE : NOWHERE;
+}
+
+/* The first link of the network by which an entry came. */
+static const network *came_by(gateway *it, uint8_t port)
+{
+    return first_of(it, &it->ports[port]);
+}
+
+static bool may_end_route(gateway *it, const network *on, reach where, const ipxr_route_record *route)
+{
+    bool is_there = where == ANYWHERE || (where == ON_IT && route->port == on->set->port);
+    return is_there && !says_route(came_by(it, route->port)->set, route->network, route->node);
+}
+
+static bool may_end_service(gateway *it, const network *on, reach where, const ipxr_service_record *service)
+{
+    bool is_there = where == ANYWHERE || (where == ON_IT && service->port == on->set->port);
+    return is_there && !statics_have(came_by(it, service->port)->set, service);
+}
+
+/* Where routes may be ended for lines of a network. */
+static reach routes_reach(gateway *it, const network *on)
+{
+    size_t k, here = 0;
+    ipxr_route_record route;
+    for (k = 0; ipxr_route(&it->router, k, &route) == 0; k++)
+        here += route.port == on->set->port;
+    return reach_of(here, on->set->routes, k, IPXR_MOST_ROUTES);
+}
+
+static reach services_reach(gateway *it, const network *on)
+{
+    size_t k, here = 0;
+    ipxr_service_record service;
+    for (k = 0; ipxr_service(&it->router, k, &service) == 0; k++)
+        here += service.port == on->set->port;
+    return reach_of(here, on->set->services, k, IPXR_MOST_SERVICES);
+}
+
+/* Ends so many routes of those that one neighbour told, who told the most that no line says. */
 static void end_routes(gateway *it, const network *on, size_t count)
 {
     uint16_t told[NEIGHBOURS] = {0}, most = 0;
+    const reach where = routes_reach(it, on);
     ipxr_route_record route, ended[MOST_STATICS];
-    size_t k, here = 0, found = 0;
-    for (k = 0; ipxr_route(&it->router, k, &route) == 0; k++) {
-        here += route.port == on->set->port;
-        if (route.port == on->set->port && !says_route(on->set, route.network, route.node) && ++told[number_of(route.node)] > most)
+    size_t found = 0;
+    for (size_t k = 0; where != NOWHERE && ipxr_route(&it->router, k, &route) == 0; k++)
+        if (may_end_route(it, on, where, &route) && ++told[number_of(route.node)] > most)
             most = told[number_of(route.node)];
-    }
-    if (here < on->set->routes && k < IPXR_MOST_ROUTES)
-        return;
-    for (k = 0; found < count && ipxr_route(&it->router, k, &route) == 0; k++)
-        if (route.port == on->set->port && !says_route(on->set, route.network, route.node) && told[number_of(route.node)] == most)
+    for (size_t k = 0; most > 0 && found < count && ipxr_route(&it->router, k, &route) == 0; k++)
+        if (may_end_route(it, on, where, &route) && told[number_of(route.node)] == most)
             ended[found++] = route;
-    for (k = 0; k < found; k++) {
+    for (size_t k = 0; k < found; k++) {
         const ipxr_route_entry end = {.network = ended[k].network, .hops = UNREACHABLE, .ticks = ended[k].ticks};
-        hear_routes(it, on, ended[k].node, &end, 1);
+        hear_routes(it, came_by(it, ended[k].port), ended[k].node, &end, 1);
     }
 }
 
@@ -157,27 +199,24 @@ static void end_routes(gateway *it, const network *on, size_t count)
 static void end_services(gateway *it, const network *on, size_t count)
 {
     uint16_t told[NEIGHBOURS] = {0}, most = 0;
+    const reach where = services_reach(it, on);
     ipxr_service_record service, ended[MOST_STATICS];
-    size_t k, here = 0, found = 0;
-    for (k = 0; ipxr_service(&it->router, k, &service) == 0; k++) {
-        here += service.port == on->set->port;
-        if (service.port == on->set->port && !statics_have(on->set, &service) && ++told[number_of(service.neighbour)] > most)
+    size_t found = 0;
+    for (size_t k = 0; where != NOWHERE && ipxr_service(&it->router, k, &service) == 0; k++)
+        if (may_end_service(it, on, where, &service) && ++told[number_of(service.neighbour)] > most)
             most = told[number_of(service.neighbour)];
-    }
-    if (here < on->set->services && k < IPXR_MOST_SERVICES)
-        return;
-    for (k = 0; found < count && ipxr_service(&it->router, k, &service) == 0; k++)
-        if (service.port == on->set->port && !statics_have(on->set, &service) && told[number_of(service.neighbour)] == most)
+    for (size_t k = 0; most > 0 && found < count && ipxr_service(&it->router, k, &service) == 0; k++)
+        if (may_end_service(it, on, where, &service) && told[number_of(service.neighbour)] == most)
             ended[found++] = service;
-    for (k = 0; k < found; k++) {
+    for (size_t k = 0; k < found; k++) {
         ipxr_service_entry end = {.network = ended[k].network, .socket = ended[k].socket, .type = ended[k].type, .hops = UNREACHABLE};
         memcpy(end.name, ended[k].name, sizeof end.name);
         memcpy(end.node, ended[k].node, sizeof end.node);
-        hear_services(it, on, ended[k].neighbour, &end, 1);
+        hear_services(it, came_by(it, ended[k].port), ended[k].neighbour, &end, 1);
     }
 }
 
-/* Lines that the router hasn't heard with its part of a table full are heard again, with room. */
+/* Lines that found no room are heard again, with room. */
 static void make_room(gateway *it, const network *on)
 {
     size_t routes = missing_routes(it, on->set), services = missing_services(it, on->set);
