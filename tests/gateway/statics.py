@@ -1,16 +1,18 @@
 """Routes and services by way of nodes that say nothing themselves, as lines of the configuration say them."""
 import socket
+import time
 
 from changed import Changed
 from edge import nearest_for, routes_told, services_of, unnumbered
-from frames import Udp
-from lab import GAME, Client, Clock, Gateway, address, free_ports, rip_response, sap_response, tunnels, until
+from frames import Udp, frame
+from lab import EVERYONE, GAME, Client, Clock, Gateway, address, free_ports, rip_response, sap_response, tunnels, until
 from systems import SYSTEM
 from trying import begin, has_linux, tried
 
 NETWORK, CABLE = 0x10, 0x20
 VIA, OTHER = bytes.fromhex("00001B0204AA"), bytes.fromhex("00001B0204BB")
 SERVER, FIRST, MANY = bytes.fromhex("000000000001"), 0x1000, 60  # a server's node; and more routes than a packet has room for
+MOST_ROUTES, MOST_SERVICES = 2048, 1024  # of the router
 LONG = 400  # seconds: more than twice a record lasts
 ROUTE, SERVICE = "route A1 2 3 via 00001B0204AA\n", "service 4010 FILES A1.000000000001.451 3 via 00001B0204AA\n"
 
@@ -93,6 +95,30 @@ def they_keep_their_places():
         assert "routes: 64\n" in report and "services: 32\n" in report, report
 
 
+def they_keep_their_places_elsewhere():
+    """The same where a neighbour on another network fills both tables."""
+    cable, wire = Udp(), Udp()
+    other, evil = 0x30, b"\2\0\0\0\0\xE1"
+    with Gateway(with_lines(cable, ROUTE + SERVICE) + f"network {other:X} 1 1490 qemu-udp 0 {wire.port} raw\n") as gate:
+        wire.to = gate.ports[other]
+        tell = lambda *routes: wire.send(frame("raw", EVERYONE, evil, rip_response(other, evil, routes)))
+        offer = lambda *services: wire.send(frame("raw", EVERYONE, evil, sap_response(other, evil, services)))
+        server = lambda name, hops: (0x4010, name, 0x5000, evil, 0x451, hops)
+        for first in range(0x5000, 0x5000 + MOST_ROUTES, 50):
+            tell(*[(first + k, 1, 2) for k in range(50)])
+            time.sleep(0.012)
+        for first in range(0, MOST_SERVICES, 7):
+            offer(*[server(f"S{first + k}", 1) for k in range(7)])
+            time.sleep(0.012)
+        until(lambda: f"routes: {MOST_ROUTES}\n" in gate.report() and f"services: {MOST_SERVICES}\n" in gate.report(), "full tables")
+        tell((0xA1, 1, 1))
+        offer(server("FILES", 1))
+        until(lambda: "\n  000000A1 hops 1 " in gate.report(), "the neighbour's route in the line's place")
+        tell((0xA1, 16, 1), (0x9999, 1, 2))
+        offer(server("FILES", 16), server("T", 1))
+        until(lambda: "\n  000000A1 hops 2 " in gate.report() and "FILES" in gate.report(), "the lines")
+
+
 def they_end():
     """A reload without a line ends what it said at once, and a line more is heard at once, also by a new router."""
     wire = Udp()
@@ -111,7 +137,7 @@ def they_end():
 
 
 def main():
-    counts = tried(are_learned, it_answers_nobody, they_come_again)
+    counts = tried(are_learned, it_answers_nobody, they_come_again, they_keep_their_places_elsewhere)
     if has_linux("lines that change, and that stay", "the status socket and the clock that a test sets are Linux' own"):
         counts.run(they_stay)
         counts.run(they_keep_their_places)
