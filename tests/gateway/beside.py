@@ -43,6 +43,7 @@ class Trial(Gateway):
         cable = f"network {CABLE:X} 1 1490 qemu-udp 0 {wire.port} raw\ndeny route 1000 in\n"
         super().__init__(tunnels(1) + cable, SYSTEM.fast, environment=self.clock.environment())
         wire.to = self.ports[CABLE]
+        self.report()  # (the trial has begun, before time passes)
 
     def start(self, program, options=(), environment=None, before=()):
         there = ["sh", "-c", 'cd "$0" && exec "$@"', self.folder.name]
