@@ -79,12 +79,15 @@ reason edge_lets_in(gateway *it, arrived *what)
     look_for_claims(what->on, &at, what->packet, what->length);
     if (what->length > LONGEST)
         return REASONS; /* (the router says that it is too long) */
-    if (set->rule_count > 0 || (set->adopts && may_lack_number(what->packet)))
+    bool may_name = statics_may_name(it, what->packet);
+    if (may_name || set->rule_count > 0 || (set->adopts && may_lack_number(what->packet)))
         copy(it, what);
     if (set->adopts && what->packet == it->entered)
         (void)ipxr_edge_number(&at, it->entered, what->length);
     if (set->rule_count > 0)
         what->length = passes(what->on, IPXR_WAY_IN, &at, it->entered, what->length);
+    if (may_name)
+        what->length = statics_leave(it, &at, it->entered, what->length);
     return what->length > 0 ? REASONS : DENIED;
 }
 

@@ -6,6 +6,7 @@
 
 #include "configuration/words.h"
 #include "links/segment.h"
+#include "links/statics.h"
 #include "monitoring/events.h"
 #include "monitoring/note.h"
 #include "systems/clock.h"
@@ -71,6 +72,8 @@ static bool port_follows(gateway *it, const network *on, bool is_up)
     if ((is_up ? ipxr_port_up(&it->router, on->set->port) : ipxr_port_down(&it->router, on->set->port)) < 0)
         return false;
     router_port->is_up = is_up;
+    if (is_up)
+        statics_say(it, first_of(it, router_port));
     return true;
 }
 

@@ -91,155 +91,123 @@ static void say_services(gateway *it, const network *on)
     }
 }
 
-/* ---- Room for them: where others have filled the network's part of a table, or all of it, the neighbour who told most gives some back ---- */
+/* ---- That nobody else says the same ---- */
 
-/* How many neighbours are told apart, unless two have one number by chance. */
-enum { NEIGHBOURS = 1024 };
-
-static size_t number_of(const uint8_t node[NODE])
+/* What a packet of routes or services leaves by rules that deny what lines say: so many bytes of it, 0 for nothing. */
+static size_t leave(const ipxr_port *at, const ipxr_rule *rules, size_t count, uint8_t *packet, size_t length)
 {
-    return (get32(node + 2) ^ get16(node)) % NEIGHBOURS;
+    size_t left = length;
+    if (count > 0 && length > 0)
+        (void)ipxr_edge_filter(IPXR_WAY_IN, at, rules, count, packet, length, &left);
+    return left;
 }
 
-static size_t count_missing(const bool *is_there, size_t count)
+static size_t leave_routes(const network_setting *set, const ipxr_port *at, uint8_t *packet, size_t length)
 {
-    size_t missing = 0;
-    for (size_t k = 0; k < count; k++)
-        missing += !is_there[k];
-    return missing;
+    ipxr_rule rules[MOST_STATICS];
+    for (size_t k = 0; k < set->static_route_count; k++) {
+        const uint32_t to = set->static_routes[k].route.network;
+        rules[k] = (ipxr_rule){.what = IPXR_RULE_ROUTES, .way = IPXR_WAY_IN, .from = to, .to = to};
+    }
+    return leave(at, rules, set->static_route_count, packet, length);
 }
 
-/* How many lines name networks to which no route leads. */
-static size_t missing_routes(gateway *it, const network_setting *set)
+static size_t leave_services(const network_setting *set, const ipxr_port *at, uint8_t *packet, size_t length)
 {
-    bool is_there[MOST_STATICS] = {false};
-    ipxr_route_record route;
-    for (size_t k = 0; set->static_route_count > 0 && ipxr_route(&it->router, k, &route) == 0; k++)
-        for (size_t line = 0; line < set->static_route_count; line++)
-            is_there[line] |= set->static_routes[line].route.network == route.network;
-    return count_missing(is_there, set->static_route_count);
+    ipxr_rule rules[MOST_STATICS];
+    for (size_t k = 0; k < set->static_service_count; k++) {
+        const ipxr_service_entry *said = &set->static_services[k].service;
+        rules[k] = (ipxr_rule){.what = IPXR_RULE_SERVICES, .way = IPXR_WAY_IN, .names = IPXR_NAMES_IS, .type = said->type};
+        memcpy(rules[k].name, said->name, sizeof rules[k].name);
+    }
+    return leave(at, rules, set->static_service_count, packet, length);
 }
 
-/* How many lines name services that the router hasn't. */
-static size_t missing_services(gateway *it, const network_setting *set)
+bool statics_may_name(gateway *it, const uint8_t *packet)
 {
-    bool is_there[MOST_STATICS] = {false};
-    ipxr_service_record service;
-    for (size_t k = 0; set->static_service_count > 0 && ipxr_service(&it->router, k, &service) == 0; k++)
-        for (size_t line = 0; line < set->static_service_count; line++)
-            is_there[line] |= is_same_service(&set->static_services[line].service, service.type, service.name);
-    return count_missing(is_there, set->static_service_count);
+    const uint16_t to = get16(packet + AT_TO_SOCKET);
+    for (size_t k = 0; (to == IPXR_RIP_SOCKET || to == IPXR_SAP_SOCKET) && k < it->port_count; k++) {
+        const network_setting *set = first_of(it, &it->ports[k])->set;
+        if (it->ports[k].is_up && set->static_route_count + set->static_service_count > 0)
+            return true;
+    }
+    return false;
 }
 
-/* Where the entries may be that are ended for lines of a network: nowhere, if there is room; on it, if its part is full; else the table is. */
-typedef enum { NOWHERE, ON_IT, ANYWHERE } reach;
-
-static reach reach_of(size_t here, size_t part, size_t all, size_t most)
+size_t statics_leave(gateway *it, const ipxr_port *at, uint8_t *packet, size_t length)
 {
-    return here >= part ? ON_IT : all >= most ? ANYWHERE : NOWHERE;
+    for (size_t k = 0; k < it->port_count; k++) {
+        const network_setting *set = first_of(it, &it->ports[k])->set;
+        if (it->ports[k].is_up)
+            length = leave_services(set, at, packet, leave_routes(set, at, packet, length));
+    }
+    return length;
 }
 
-/* The first link of the network by which an entry came. */
-static const network *came_by(gateway *it, uint8_t port)
+/* ---- When they are said ---- */
+
+/* A route or a service that a neighbour told before ends: the one that a network's line says takes its place. */
+static void end_route(gateway *it, const ipxr_route_record *route)
 {
-    return first_of(it, &it->ports[port]);
+    const ipxr_route_entry end = {.network = route->network, .hops = UNREACHABLE, .ticks = route->ticks};
+    hear_routes(it, first_of(it, &it->ports[route->port]), route->node, &end, 1);
 }
 
-static bool may_end_route(gateway *it, const network *on, reach where, const ipxr_route_record *route)
+static void end_service(gateway *it, const ipxr_service_record *service)
 {
-    bool is_there = where == ANYWHERE || (where == ON_IT && route->port == on->set->port);
-    return is_there && !says_route(came_by(it, route->port)->set, route->network, route->node);
+    ipxr_service_entry end = {.network = service->network, .socket = service->socket, .type = service->type, .hops = UNREACHABLE};
+    memcpy(end.name, service->name, sizeof end.name);
+    memcpy(end.node, service->node, sizeof end.node);
+    hear_services(it, first_of(it, &it->ports[service->port]), service->neighbour, &end, 1);
 }
 
-static bool may_end_service(gateway *it, const network *on, reach where, const ipxr_service_record *service)
+/* What others told of a line's network, before the line's network was up, ends where the line has room. */
+static void end_routes(gateway *it, const network *on)
 {
-    bool is_there = where == ANYWHERE || (where == ON_IT && service->port == on->set->port);
-    return is_there && !statics_have(came_by(it, service->port)->set, service);
-}
-
-/* Where routes may be ended for lines of a network. */
-static reach routes_reach(gateway *it, const network *on)
-{
-    size_t k, here = 0;
-    ipxr_route_record route;
-    for (k = 0; ipxr_route(&it->router, k, &route) == 0; k++)
-        here += route.port == on->set->port;
-    return reach_of(here, on->set->routes, k, IPXR_MOST_ROUTES);
-}
-
-static reach services_reach(gateway *it, const network *on)
-{
-    size_t k, here = 0;
-    ipxr_service_record service;
-    for (k = 0; ipxr_service(&it->router, k, &service) == 0; k++)
-        here += service.port == on->set->port;
-    return reach_of(here, on->set->services, k, IPXR_MOST_SERVICES);
-}
-
-/* Ends so many routes of those that one neighbour told, who told the most that no line says. */
-static void end_routes(gateway *it, const network *on, size_t count)
-{
-    uint16_t told[NEIGHBOURS] = {0}, most = 0;
-    const reach where = routes_reach(it, on);
     ipxr_route_record route, ended[MOST_STATICS];
-    size_t found = 0;
-    for (size_t k = 0; where != NOWHERE && ipxr_route(&it->router, k, &route) == 0; k++)
-        if (may_end_route(it, on, where, &route) && ++told[number_of(route.node)] > most)
-            most = told[number_of(route.node)];
-    for (size_t k = 0; most > 0 && found < count && ipxr_route(&it->router, k, &route) == 0; k++)
-        if (may_end_route(it, on, where, &route) && told[number_of(route.node)] == most)
-            ended[found++] = route;
-    for (size_t k = 0; k < found; k++) {
-        const ipxr_route_entry end = {.network = ended[k].network, .hops = UNREACHABLE, .ticks = ended[k].ticks};
-        hear_routes(it, came_by(it, ended[k].port), ended[k].node, &end, 1);
+    size_t here = 0, found = 0;
+    for (size_t k = 0; on->set->static_route_count > 0 && ipxr_route(&it->router, k, &route) == 0; k++) {
+        bool is_here = route.port == on->set->port;
+        here += is_here;
+        for (size_t line = 0; found < MOST_STATICS && line < on->set->static_route_count; line++)
+            if (on->set->static_routes[line].route.network == route.network && !(is_here && same_node(on->set->static_routes[line].via, route.node)))
+                ended[found++] = route;
     }
+    for (size_t k = 0; k < found; k++)
+        if (ended[k].port == on->set->port || here < on->set->routes)
+            end_route(it, &ended[k]);
 }
 
-/* The same of services. */
-static void end_services(gateway *it, const network *on, size_t count)
+static void end_services(gateway *it, const network *on)
 {
-    uint16_t told[NEIGHBOURS] = {0}, most = 0;
-    const reach where = services_reach(it, on);
     ipxr_service_record service, ended[MOST_STATICS];
-    size_t found = 0;
-    for (size_t k = 0; where != NOWHERE && ipxr_service(&it->router, k, &service) == 0; k++)
-        if (may_end_service(it, on, where, &service) && ++told[number_of(service.neighbour)] > most)
-            most = told[number_of(service.neighbour)];
-    for (size_t k = 0; most > 0 && found < count && ipxr_service(&it->router, k, &service) == 0; k++)
-        if (may_end_service(it, on, where, &service) && told[number_of(service.neighbour)] == most)
-            ended[found++] = service;
-    for (size_t k = 0; k < found; k++) {
-        ipxr_service_entry end = {.network = ended[k].network, .socket = ended[k].socket, .type = ended[k].type, .hops = UNREACHABLE};
-        memcpy(end.name, ended[k].name, sizeof end.name);
-        memcpy(end.node, ended[k].node, sizeof end.node);
-        hear_services(it, came_by(it, ended[k].port), ended[k].neighbour, &end, 1);
+    size_t here = 0, found = 0;
+    for (size_t k = 0; on->set->static_service_count > 0 && ipxr_service(&it->router, k, &service) == 0; k++) {
+        bool is_here = service.port == on->set->port;
+        here += is_here;
+        for (size_t line = 0; found < MOST_STATICS && line < on->set->static_service_count; line++)
+            if (is_same_service(&on->set->static_services[line].service, service.type, service.name) &&
+                !(is_here && same_node(on->set->static_services[line].via, service.neighbour)))
+                ended[found++] = service;
     }
+    for (size_t k = 0; k < found; k++)
+        if (ended[k].port == on->set->port || here < on->set->services)
+            end_service(it, &ended[k]);
 }
 
-/* Lines that found no room are heard again, with room. */
-static void make_room(gateway *it, const network *on)
+void statics_say(gateway *it, const network *on)
 {
-    size_t routes = missing_routes(it, on->set), services = missing_services(it, on->set);
-    if (routes > 0) {
-        end_routes(it, on, routes);
-        say_routes(it, on);
-    }
-    if (services > 0) {
-        end_services(it, on, services);
-        say_services(it, on);
-    }
+    end_routes(it, on);
+    say_routes(it, on);
+    end_services(it, on);
+    say_services(it, on);
 }
 
 void statics_second(gateway *it)
 {
-    for (size_t k = 0; k < it->port_count; k++) {
-        const network *on = first_of(it, &it->ports[k]);
-        if (!it->ports[k].is_up)
-            continue;
-        say_routes(it, on);
-        say_services(it, on);
-        make_room(it, on);
-    }
+    for (size_t k = 0; k < it->port_count; k++)
+        if (it->ports[k].is_up)
+            statics_say(it, first_of(it, &it->ports[k]));
 }
 
 /* ---- Other lines ---- */

@@ -1,6 +1,5 @@
 """Routes and services by way of nodes that say nothing themselves, as lines of the configuration say them."""
 import socket
-import time
 
 from changed import Changed
 from edge import nearest_for, routes_told, services_of, unnumbered
@@ -12,7 +11,6 @@ from trying import begin, has_linux, tried
 NETWORK, CABLE = 0x10, 0x20
 VIA, OTHER = bytes.fromhex("00001B0204AA"), bytes.fromhex("00001B0204BB")
 SERVER, FIRST, MANY = bytes.fromhex("000000000001"), 0x1000, 60  # a server's node; and more routes than a packet has room for
-MOST_ROUTES, MOST_SERVICES = 2048, 1024  # of the router
 LONG = 400  # seconds: more than twice a record lasts
 ROUTE, SERVICE = "route A1 2 3 via 00001B0204AA\n", "service 4010 FILES A1.000000000001.451 3 via 00001B0204AA\n"
 
@@ -69,54 +67,47 @@ def they_come_again():
                 until(lambda: "\n  000000A1 hops 2 " in gate.report(), "the route")
 
 
-def they_keep_their_places():
-    """Lines are there within a second, whoever fills the tables: also if he tells a better way, and takes it back with another for its place."""
-    lines = f"network {NETWORK:X} 1 1424 dosbox 127.0.0.1:0\n" + ROUTE + SERVICE
-    with Changed(lines.replace(ROUTE, "")) as gate:
-        client = Client(gate.ports[NETWORK])
-        tell = lambda *routes: client.send(rip_response(NETWORK, client.node, routes))
-        offer = lambda *services: client.send(sap_response(NETWORK, client.node, services))
-        server = lambda name, hops: (0x4010, name, 0x5000, client.node, 0x451, hops)
-        for first in 0x5000, 0x5020:
-            tell(*[(first + k, 1, 2) for k in range(32)])
-        for first in range(0, 31, 7):
-            offer(*[server(f"S{k}", 1) for k in range(first, min(first + 7, 31))])
-        until(lambda: "routes: 64\n" in gate.report() and "services: 32\n" in gate.report(), "full tables")
-        gate.reload(lines)
-        until(lambda: "\n  000000A1 hops 2 " in gate.report(), "the new line")
-        for k in range(2):
-            tell((0xA1, 1, 1))
-            offer(server("FILES", 1))
-            until(lambda: "\n  000000A1 hops 1 " in gate.report(), "the client's route in the line's place")
-            tell((0xA1, 16, 1), (0x6000 + k, 1, 2))
-            offer(server("FILES", 16), server(f"T{k}", 1))
-            until(lambda: "\n  000000A1 hops 2 " in gate.report() and "FILES" in gate.report(), "the lines")
-        report = gate.report()
-        assert "routes: 64\n" in report and "services: 32\n" in report, report
-
-
-def they_keep_their_places_elsewhere():
-    """The same where a neighbour on another network fills both tables."""
+def nobody_takes_their_places():
+    """What a line says is heard from nobody else, on its network or another one: so who fills the tables can't take its place, or end it."""
     cable, wire = Udp(), Udp()
     other, evil = 0x30, b"\2\0\0\0\0\xE1"
-    with Gateway(with_lines(cable, ROUTE + SERVICE) + f"network {other:X} 1 1490 qemu-udp 0 {wire.port} raw\n") as gate:
+    text = f"network {NETWORK:X} 1 1424 dosbox 127.0.0.1:0\n" + ROUTE + SERVICE + f"network {other:X} 1 1490 qemu-udp 0 {wire.port} raw\n"
+    with Gateway(text) as gate:
         wire.to = gate.ports[other]
-        tell = lambda *routes: wire.send(frame("raw", EVERYONE, evil, rip_response(other, evil, routes)))
-        offer = lambda *services: wire.send(frame("raw", EVERYONE, evil, sap_response(other, evil, services)))
-        server = lambda name, hops: (0x4010, name, 0x5000, evil, 0x451, hops)
-        for first in range(0x5000, 0x5000 + MOST_ROUTES, 50):
-            tell(*[(first + k, 1, 2) for k in range(50)])
-            time.sleep(0.012)
-        for first in range(0, MOST_SERVICES, 7):
-            offer(*[server(f"S{first + k}", 1) for k in range(7)])
-            time.sleep(0.012)
-        until(lambda: f"routes: {MOST_ROUTES}\n" in gate.report() and f"services: {MOST_SERVICES}\n" in gate.report(), "full tables")
-        tell((0xA1, 1, 1))
-        offer(server("FILES", 1))
-        until(lambda: "\n  000000A1 hops 1 " in gate.report(), "the neighbour's route in the line's place")
-        tell((0xA1, 16, 1), (0x9999, 1, 2))
-        offer(server("FILES", 16), server("T", 1))
-        until(lambda: "\n  000000A1 hops 2 " in gate.report() and "FILES" in gate.report(), "the lines")
+        client = Client(gate.ports[NETWORK])
+        says = (lambda bytes_: client.send(bytes_), NETWORK, client.node), (lambda bytes_: wire.send(frame("raw", EVERYONE, evil, bytes_)), other, evil)
+        for number, (send, network, node) in enumerate(says):
+            server = lambda name, hops: (0x4010, name, 0x5000, node, 0x451, hops)
+            first = 0x5000 + 0x1000 * number
+            for k in range(0, 64, 32):
+                send(rip_response(network, node, [(first + k + it, 1, 2) for it in range(32)]))
+            for k in range(0, 35, 7):
+                send(sap_response(network, node, [server(f"S{number}{k + it}", 1) for it in range(7)]))
+            send(rip_response(network, node, [(0xA1, 1, 1), (first + 70, 1, 2)]))
+            send(sap_response(network, node, [server("FILES", 1), server(f"T{number}", 1)]))
+            send(rip_response(network, node, [(0xA1, 16, 1)]))
+            send(sap_response(network, node, [server("FILES", 16)]))
+            gate.until_counted(network, "denied", 2)
+            report = gate.report()
+            assert "\n  000000A1 hops 2 ticks 3 by 00001B0204AA on 00000010" in report and "FILES" in report, report
+        assert "routes: 129\n" in report and "services: 68\n" in report, report
+
+
+def they_come_before_others():
+    """What others told before ends where a line's network comes up, and who comes to that network is heard behind its lines."""
+    wire, near, evil = Udp(), 0x30, b"\2\0\0\0\0\xE1"
+    text = f"network {CABLE:X} 1 1490 1 1 qemu-tcp listen 127.0.0.1:0 raw\n" + ROUTE + SERVICE + f"network {near:X} 1 1490 qemu-udp 0 {wire.port} raw\n"
+    with Gateway(text) as gate:
+        wire.to = gate.ports[near]
+        wire.send(frame("raw", EVERYONE, evil, rip_response(near, evil, [(0xA1, 1, 1)])))
+        until(lambda: "\n  000000A1 hops 1 " in gate.report(), "another way")
+        for k in range(3):
+            with socket.create_connection(("127.0.0.1", gate.ports[CABLE])) as there:
+                frame_ = frame("raw", EVERYONE, evil, rip_response(CABLE, evil, [(0x5000 + k, 1, 2)]))
+                there.sendall(len(frame_).to_bytes(4, "big") + frame_)
+                until(lambda: f"network {CABLE:08X} up" in gate.report(), "the link")
+                until(lambda: "\n  000000A1 hops 2 " in gate.report() and "FILES" in gate.report(), "the lines")
+            until(lambda: f"network {CABLE:08X} down" in gate.report(), "the link's end")
 
 
 def they_end():
@@ -137,10 +128,9 @@ def they_end():
 
 
 def main():
-    counts = tried(are_learned, it_answers_nobody, they_come_again, they_keep_their_places_elsewhere)
+    counts = tried(are_learned, it_answers_nobody, they_come_again, nobody_takes_their_places, they_come_before_others)
     if has_linux("lines that change, and that stay", "the status socket and the clock that a test sets are Linux' own"):
         counts.run(they_stay)
-        counts.run(they_keep_their_places)
         counts.run(they_end)
     return counts
 

@@ -11,10 +11,10 @@
 #include "weather.h"
 #include "world.h"
 
-/* Turns of a second: until lines hold, and until all is empty; from then on somebody comes in, and another who only listens, he speaks, and has been heard. The router
+/* Turns of a second: until all is empty; from then on somebody comes in, and another who only listens, he speaks, and has been heard. The router
  * says what it knows in a minute. (where one datagram a second goes to strangers, an address has to wait for 32 seconds for its second newcomer) */
 enum {
-    FIRST = 3, CALM = 200, COMES_IN = CALM + 1, COMES_AGAIN = COMES_IN + 3, LISTENS = COMES_AGAIN + 30, LISTENS_AGAIN = LISTENS + 3,
+    CALM = 200, COMES_IN = CALM + 1, COMES_AGAIN = COMES_IN + 3, LISTENS = COMES_AGAIN + 30, LISTENS_AGAIN = LISTENS + 3,
     SPEAKS = LISTENS_AGAIN + 11, HEARD = SPEAKS + 2, SAID_ALL = HEARD + 62
 };
 
@@ -300,7 +300,7 @@ bool peace_passes(gateway *it)
     if (left == 0)
         return false;
     left--;
-    if (++now > FIRST)
+    if (++now >= CALM)
         check_lines(it);
     switch (now) {
     case CALM:
