@@ -6,6 +6,7 @@ pub mod FineOnWires
 pub mod GoneOnWires
 pub mod HeardOnWires
 pub mod HomeOrOnward
+pub mod LockStep
 pub mod PartsOfBeats
 pub mod RealOnWires
 pub mod RightOnWires
