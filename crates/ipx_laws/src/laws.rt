@@ -107,6 +107,7 @@ pub fn gone_meanwhile()
     ipx_wire::laws::service_readings();
     ipx_wire::laws::reread();
     ipx_router::laws::packets();
+    crate::laws::wires::gone_on_wires();
 }
 
 /// Every service that a router has was announced by a host: after 2,880 ticks it is one that a packet of a host said in them, with type, name
@@ -127,6 +128,7 @@ pub fn announced()
     ipx_wire::laws::service_readings();
     ipx_wire::laws::reread();
     ipx_router::laws::packets();
+    crate::laws::wires::announced_on_wires();
 }
 
 /// Every route is of a real way after 2,880 calm ticks, whatever was in the tables before: each came by a port that is up from a router
