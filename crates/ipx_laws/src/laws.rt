@@ -78,10 +78,8 @@ pub fn gone()
         → most_ticks_gone ≤ length ticks → router < length net
         → services_held (ports_of net router) most_services (history_of (ticked net most_routes most_services run (first ∷ ticks)).histories router) ≡ [] }
 {
-    ipx_wire::laws::readings();
-    ipx_wire::laws::service_readings();
-    ipx_wire::laws::reread();
-    ipx_router::laws::packets();
+    gone_meanwhile();
+    real();
 }
 
 /// What is gone stays gone, whatever else happens meanwhile: starts and stops, ports that go down and come up, packets of hosts.

@@ -71,22 +71,11 @@ module _ (net : Internet) (laws : Layouts) (is : IsInternet net) (most_routes mo
     pub are_after : AreHistories net next.histories
     are_after = (steps_sound net laws is most_routes most_services run first rest.1 begins).are
 
+    pub kept_after : AllByRecursion LeavesPorts first → Kept (ups net run.histories) (forgotten next)
+    kept_after leaves = steps_keep (ups net run.histories) run first rest.1 leaves (record { sound = begins; stay = λ router. refl })
+
     pub begins_after : (foreign : List Network) → AllByRecursion LeavesPorts first
         → Rests net laws is most_routes most_services (ups net run.histories) foreign 0 next
     begins_after foreign leaves =
-        let kept = steps_keep (ups net run.histories) run first rest.1 leaves (record { sound = begins; stay = λ router. refl }) in
+        let kept = kept_after leaves in
         quiet_rests net laws is most_routes most_services (ups net run.histories) foreign next kept.sound.are kept.stay rest.2
-
-  pub rests_beside : (foreign : List Network) (run : Run) (first : List Step) (ticks : List (List Step)) → AreHistories net run.histories
-      → AreTicksBesideAfter net most_routes most_services foreign run first ticks
-      → Rests net laws is most_routes most_services (ups net run.histories) foreign (length ticks) (ticked net most_routes most_services run (first ∷ ticks))
-  rests_beside foreign run first ticks are (rest, leaves, beside) =
-      let next = run_of net most_routes most_services run first in
-      let count : length ticks + 0 ≡ length ticks = omega arith in
-      subst (λ (n : ℕ). Rests net laws is most_routes most_services (ups net run.histories) foreign n (ticked net most_routes most_services next ticks)) count
-      (ticks_rest net laws is most_routes most_services (ups net run.histories) foreign 0 next ticks (begins_after run first are rest foreign leaves)
-      (ticks_beside net most_routes most_services foreign next ticks beside))
-
-  pub rests_after : (run : Run) (first : List Step) (ticks : List (List Step)) → AreHistories net run.histories → AreCalmTicksAfter net most_routes most_services run first ticks
-      → Rests net laws is most_routes most_services (ups net run.histories) [] (length ticks) (ticked net most_routes most_services run (first ∷ ticks))
-  rests_after run first ticks are calm = rests_beside [] run first ticks are (beside_after net most_routes most_services [] run first ticks calm)
