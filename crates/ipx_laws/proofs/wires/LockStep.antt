@@ -17,6 +17,8 @@ use Rattle.ipx_laws.specs.Gone.{IsGone}
 use Rattle.ipx_laws.specs.Meanwhile.{EachStep, StaysGone, EachTick}
 use Rattle.ipx_laws.specs.WireAnnounces.{WasSaid, WasAnnounced}
 use Rattle.ipx_laws.specs.Wires.{Flight, Wires, WireStep, Occurs, Lands, as_step, still, beaten, occurs, lands, wired, wires_of, beats_of, Along, KeepGone, IsBeat, AreBeats, EachWireStep}
+use Rattle.ipx_laws.proofs.ticks.AfterEachStep.{AfterEach}
+use Rattle.ipx_laws.proofs.wires.BeatAfterBeat.{along_first}
 
 -- ---- lists
 
@@ -173,7 +175,7 @@ module _ (net : Internet) (most_routes most_services : ℕ) where
   steps_follow run w (step ∷ steps) follows = steps_follow (one run step) (wire w (as_wire run w step)) steps (step_follows run w step follows)
 
   -- where nothing waits, in the next beat too, and at first
-  quiet_follows : (run : Run) (w : Wires) (landed : List Flight) → w.histories ≡ run.histories → run.waiting ≡ [] → w.flights ≡ landed → Follows run w
+  pub quiet_follows : (run : Run) (w : Wires) (landed : List Flight) → w.histories ≡ run.histories → run.waiting ≡ [] → w.flights ≡ landed → Follows run w
   quiet_follows run w landed same quiet flights = record {
     queue = [];
     same = ap (λ (waiting : List Waiting). record { histories = run.histories; queue = map (λ d. d.delivery) waiting }) quiet
@@ -188,7 +190,7 @@ module _ (net : Internet) (most_routes most_services : ℕ) where
   pub follows_still : (run : Run) → run.waiting ≡ [] → Follows run (still run.histories)
   follows_still run quiet = quiet_follows run (still run.histories) [] refl quiet refl
 
-  tick_follows : (run : Run) (w : Wires) (steps : List Step) → IsBusyTick net most_routes most_services run steps → Follows run w
+  pub tick_follows : (run : Run) (w : Wires) (steps : List Step) → IsBusyTick net most_routes most_services run steps → Follows run w
       → Follows (by run steps) (beaten (wires w (as_beat run w steps)))
   tick_follows run w steps tick follows =
       let next = wires w (as_beat run w steps) in
@@ -199,6 +201,19 @@ module _ (net : Internet) (most_routes most_services : ℕ) where
   ticks_follow run w [] busy follows = follows
   ticks_follow run w (steps ∷ ticks) busy follows =
       ticks_follow (by run steps) (beaten (wires w (as_beat run w steps))) ticks busy.1 (tick_follows run w steps busy.0 follows)
+
+  -- what is so of routers all along a beat is so after each step of the tick
+  pub after_each : (Is : List History → Type 0) (run : Run) (w : Wires) (steps : List Step) → Follows run w
+      → Along net most_routes most_services 0 (λ now. Is now.histories) w (as_beat run w steps)
+      → AfterEach net most_routes most_services (λ now. Is now.histories) run steps
+  after_each Is run w [] follows along = tt
+  after_each Is run w (step ∷ steps) follows along =
+      let next = wire w (as_wire run w step) in
+      let then_follows = step_follows run w step follows in (
+        subst Is (same_histories (one run step) next then_follows)
+            (along_first net most_routes most_services 0 (λ now. Is now.histories) next (as_beat (one run step) next steps) along.1),
+        after_each Is (one run step) next steps then_follows along.1,
+      )
 
   -- ---- networks that stay gone
 
