@@ -16,7 +16,7 @@ use Rattle.ipx_laws.specs.Apart.{AreTicksBesideAfter}
 use Rattle.ipx_laws.specs.Meanwhile.{LeavesPorts, AreCalmTicksAfter}
 use Rattle.ipx_laws.specs.Setting.{ComesToRest}
 use Rattle.ipx_laws.specs.Ups.{ups}
-use Rattle.ipx_laws.proofs.ticks.BusyTickAfterTick.{each_so}
+use Rattle.ipx_laws.proofs.ticks.EventOfOneRouter.{each_so}
 use Rattle.ipx_laws.proofs.ticks.TickAfterTick.{Rests, quiet_rests, ticks_rest, ticks_beside, calm_beside}
 
 -- calm ticks are such for any list

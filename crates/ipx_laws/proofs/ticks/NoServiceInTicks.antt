@@ -1,5 +1,5 @@
 -- Where no router has a service, and nothing but ticks happens, none has one after any step.
-use Rattle.std.proofs.Common.{◌≡◌, refl, sym, subst, ℕ, suc, ◌+◌, ◌-◌, ◌<◌, ◌≤◌, List, [], ◌∷◌, length, map, inl, arith, rules}
+use Rattle.std.proofs.Common.{◌≡◌, ◌≢◌, refl, sym, subst, ℕ, suc, ◌+◌, ◌-◌, ◌<◌, ◌≤◌, List, [], ◌∷◌, length, map, inl, arith, rules}
 use Rattle.std.specs.List.{AllByRecursion}
 use Rattle.ipx_table.specs.declared.held.Held.{Held}
 use Rattle.ipx_wire.specs.declared.service.Service.{Service}
@@ -22,12 +22,21 @@ use Rattle.ipx_laws.specs.Wires.{Flight, Wires, WireStep, still, beaten, wires_o
 use Rattle.ipx_laws.proofs.records.RecordsGrowOld.{at_last, where_none}
 use Rattle.ipx_laws.proofs.ticks.AfterEachStep.{AfterEach, each-append}
 use Rattle.ipx_laws.proofs.ticks.FineOrSoonEnded.{Abides, IsFineService, abides_first}
-use Rattle.ipx_laws.proofs.ticks.GoneWhateverHappens.{EveryNetwork, no_records}
+use Rattle.ipx_laws.proofs.ticks.HarmlessWords.{EveryNetwork}
 use Rattle.ipx_laws.proofs.ticks.TickAfterTick.{ticks_of_hosts, all_say_nothing}
 use Rattle.ipx_laws.proofs.wires.BeatAfterBeat.{Going, Keeps, beat_goes, beats_go, starts, steps_each, each_all}
 use Rattle.ipx_laws.proofs.wires.FineOnWires.{Lasts, Flies, Arises, Good, Such, keeps, such_beats}
 use Rattle.ipx_laws.proofs.wires.GoneOnWires.{AnyWires}
 use Rattle.ipx_laws.proofs.wires.LockStep.{Follows, as_beat, as_beats, as_many, are_beats, beats_say, after_each, tick_follows, ticks_follow, follows_still, quiet_follows, same_histories}
+
+-- where nobody announces any service, none is left
+pub none_left : (services : List ServiceOffer) → ((key : ℕ × List ℕ) → AllByRecursion (λ s. (s.service.kind, s.service.name) ≢ key) services) → services ≡ []
+none_left [] none = refl
+none_left (s ∷ services) none = absurd ((none (s.service.kind, s.service.name)).0 refl)
+
+pub no_records : {O : Type 0} (records : List (Held O)) → offers records ≡ [] → records ≡ []
+no_records [] e = refl
+no_records (h ∷ records) e = grind arith
 
 -- no service is announced, and nothing is said from outside
 abbrev Served : Service → Type 0

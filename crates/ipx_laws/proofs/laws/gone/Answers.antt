@@ -10,7 +10,7 @@ use Rattle.ipx_laws.specs.Real.{IsReal}
 use Rattle.ipx_laws.specs.Tables.{routes_of}
 use Rattle.ipx_laws.specs.Ups.{ups}
 use Rattle.ipx_laws.proofs.laws.gone.Goals as goal
-use Rattle.ipx_laws.proofs.ticks.GoneWhateverHappens.{none_left, no_records}
+use Rattle.ipx_laws.proofs.ticks.NoServiceInTicks.{none_left, no_records}
 use Rattle.ipx_laws.proofs.ticks.RoutesBecomeReal.{nowhere}
 use Rattle.ipx_laws.proofs.ticks.TickAfterTick.{ticks_of_hosts, all_say_nothing}
 

@@ -1,4 +1,4 @@
-use Rattle.std.proofs.Common.{◌≡◌, refl, sym, ◌∙◌, subst, ℕ, ◌+◌, ◌<◌, ◌≤◌, true, List, [], ◌++◌, length, arith}
+use Rattle.std.proofs.Common.{◌≡◌, refl, sym, ◌∙◌, subst, ℕ, ◌+◌, ◌<◌, ◌≤◌, true, List, [], ◌∷◌, ◌++◌, length, arith}
 use Rattle.std.specs.List.{AllByRecursion}
 use Rattle.ipx_wire.specs.declared.network.Network.{Network}
 use Rattle.ipx_router.specs.History.{History}
@@ -7,7 +7,7 @@ use Rattle.ipx_router.specs.Port.{is_up}
 use Rattle.ipx_router.proofs.port_values.PortOfEachNumber.{one_up}
 use Rattle.ipx_internet.specs.BusyTick.{IsBusyTick}
 use Rattle.ipx_internet.specs.Internet.{Internet, IsInternet, NodesDiffer, ports_of}
-use Rattle.ipx_internet.specs.Run.{Step, Run, AreHistories, begun}
+use Rattle.ipx_internet.specs.Run.{Step, Run, AreHistories, begun, run_of}
 use Rattle.ipx_internet.specs.Ticks.{IsTick, AreTicks, ticked}
 use Rattle.ipx_internet.proofs.packets.SentOnOrReply.{Layouts}
 use Rattle.ipx_internet.proofs.trees.RunIsALog.{router_there}
@@ -26,7 +26,6 @@ use Rattle.ipx_laws.proofs.tables.AnyTablesBecomeRight.{from_any, from_real}
 use Rattle.ipx_laws.proofs.tables.AnEmptyList.{beside_none, real_beside}
 use Rattle.ipx_laws.proofs.tables.LeastWays.{ups_within}
 use Rattle.ipx_laws.proofs.tables.TablesAreRight.{parts_of}
-use Rattle.ipx_laws.proofs.ticks.GoneWhateverHappens.{each_then}
 use Rattle.ipx_laws.proofs.ticks.NoServiceInTicks.{NoService, stays_none, from_any as none_from_any, at_once}
 use Rattle.ipx_laws.proofs.ticks.TickAfterTick.{IsCalmTick, CalmTicks, Rests, calm_ticks, ticks_are_calm, rested}
 use Rattle.ipx_laws.proofs.upkeep.TablesStayInTicks.{tables_stay_in}
@@ -54,6 +53,12 @@ layouts c = record {
   layouts = c.packets.ensures.layouts;
   bytes = c.packets.ensures.bytes;
 }
+
+-- what holds of each tick, and says something else of it
+each_then : (net : Internet) (most_routes most_services : ℕ) (P Q : Run → List Step → Type 0) → ((run : Run) (steps : List Step) → P run steps → Q run steps)
+    → (run : Run) (ticks : List (List Step)) → EachTick net most_routes most_services P run ticks → EachTick net most_routes most_services Q run ticks
+each_then net most_routes most_services P Q step run [] each = tt
+each_then net most_routes most_services P Q step run (steps ∷ ticks) each = grind (arith, each_then net most_routes most_services P Q step (run_of net most_routes most_services run steps) ticks each.1)
 
 -- whichever that is
 any_network : Network
