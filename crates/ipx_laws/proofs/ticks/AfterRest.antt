@@ -1,5 +1,5 @@
 -- After steps that end with nothing that waits, whatever waited before: histories are as they should be, and ports as they were.
-use Rattle.std.proofs.Common.{◌≡◌, subst, refl, ℕ, ◌+◌, ◌<◌, false, List, [], ◌∷◌, length, arith, rules}
+use Rattle.std.proofs.Common.{◌≡◌, refl, ℕ, ◌<◌, false, List, [], ◌∷◌, length, arith, rules}
 use Rattle.std.specs.List.{AllByRecursion}
 use Rattle.ipx_wire.specs.declared.network.Network.{Network}
 use Rattle.ipx_router.specs.History.{Event, History, is_start, is_stop, takes_down, brings_up}
@@ -7,7 +7,6 @@ use Rattle.ipx_router.proofs.histories.OneEventMore.{ports_stay}
 use Rattle.ipx_internet.specs.Internet.{Internet, IsInternet}
 use Rattle.ipx_internet.specs.Queue.{Delivery, Queued, with_event, settled_one}
 use Rattle.ipx_internet.specs.Run.{Step, Happens, IsStep, AreHistories, Run, forgotten, stepped, run_of}
-use Rattle.ipx_internet.specs.Ticks.{ticked}
 use Rattle.ipx_internet.proofs.deliveries.QueueOfARun.{deliveries}
 use Rattle.ipx_internet.proofs.packets.SentOnOrReply.{Layouts}
 use Rattle.ipx_internet.proofs.ticks.TickCanBeHad.{Sound, step_sound, steps_sound, sound_run}
@@ -17,7 +16,7 @@ use Rattle.ipx_laws.specs.Meanwhile.{LeavesPorts, AreCalmTicksAfter}
 use Rattle.ipx_laws.specs.Setting.{ComesToRest}
 use Rattle.ipx_laws.specs.Ups.{ups}
 use Rattle.ipx_laws.proofs.ticks.EventOfOneRouter.{each_so}
-use Rattle.ipx_laws.proofs.ticks.TickAfterTick.{Rests, quiet_rests, ticks_rest, ticks_beside, calm_beside}
+use Rattle.ipx_laws.proofs.ticks.TickAfterTick.{Rests, quiet_rests, calm_beside}
 
 -- calm ticks are such for any list
 pub beside_after : (net : Internet) (most_routes most_services : ℕ) (foreign : List Network) (run : Run) (first : List Step) (ticks : List (List Step))

@@ -5,15 +5,10 @@ use Rattle.std.specs.List.{AllByRecursion}
 use Rattle.std.proofs.lemmas.Bool.{both_ways, eq-eqb, eqb-true, or_cases, or_left, or_right}
 use Rattle.ipx_wire.specs.declared.network.Network.{Network}
 use Rattle.ipx_wire.specs.Crossed.{is_among}
-use Rattle.ipx_router.specs.Facts.{route_facts, routes_held, offers}
 use Rattle.ipx_router.specs.History.{History}
 use Rattle.ipx_router.specs.Port.{Port, port_at, is_up}
-use Rattle.ipx_router.specs.Routes.{route_reading, network_order}
 use Rattle.ipx_router.specs.declared.route_offer.RouteOffer.{RouteOffer}
-use Rattle.ipx_router.proofs.bounds.PacketsOfEachEvent.{network_total}
-use Rattle.ipx_router.proofs.tables.HeldCameByPortsUp.{held_routes_up}
 use Rattle.ipx_internet.specs.Internet.{Internet, Place, IsInternet, ports_of}
-use Rattle.ipx_internet.specs.Queue.{history_of}
 use Rattle.ipx_internet.specs.Run.{Step, AreHistories, Run, forgotten, run_of}
 use Rattle.ipx_internet.specs.Ticks.{ticked}
 use Rattle.ipx_internet.proofs.lists.EachElement.{all_then}

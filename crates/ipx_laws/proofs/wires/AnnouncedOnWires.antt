@@ -15,7 +15,7 @@ use Rattle.ipx_internet.proofs.packets.SentOnOrReply.{Layouts}
 use Rattle.ipx_laws.specs.Announces.{IsAccepted, AsksApart}
 use Rattle.ipx_laws.specs.Meanwhile.{message_of, SaysOnly}
 use Rattle.ipx_laws.specs.WireAnnounces.{WasSaid, WasAnnounced}
-use Rattle.ipx_laws.specs.Wires.{Wires, WireStep, Occurs, Lands, as_step, flying, beaten, wired, wires_of, beats_of, EachBeat, AreBeats, EachWireStep, most_beats_gone, most_beats_flying}
+use Rattle.ipx_laws.specs.Wires.{Wires, WireStep, Occurs, Lands, as_step, flying, wired, wires_of, beats_of, EachBeat, AreBeats, EachWireStep, most_beats_gone, most_beats_flying}
 use Rattle.ipx_laws.proofs.ticks.FineOrSoonEnded.{IsFineService}
 use Rattle.ipx_laws.proofs.ticks.HarmlessWords.{EveryNetwork, SaysServed, harmless, message_served}
 use Rattle.ipx_laws.proofs.wires.BeatAfterBeat.{StepsArise, along_all}

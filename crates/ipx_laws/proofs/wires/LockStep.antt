@@ -1,5 +1,5 @@
 -- Lock step is an instance of wires: a busy tick is a beat with no delay, in which what is handed out lands.
-use Rattle.std.proofs.Common.{◌≡◌, refl, sym, ap, ◌∙◌, subst, ℕ, suc, ◌+◌, ◌-◌, ◌<◌, ◌≤◌, nat_le, true, if◌then◌else◌, List, [], ◌∷◌, ◌++◌, length, map, flat_map, Some, None, slice_get, arith, append_assoc, append-nil}
+use Rattle.std.proofs.Common.{◌≡◌, refl, sym, ap, ◌∙◌, subst, ℕ, suc, ◌+◌, ◌-◌, ◌≤◌, nat_le, true, List, [], ◌∷◌, ◌++◌, length, map, flat_map, Some, None, slice_get, arith, append_assoc, append-nil}
 use Rattle.std.specs.List.{AllByRecursion}
 use Rattle.std.proofs.lemmas.Bool.{le-leb}
 use Rattle.std.proofs.lemmas.List.{map-append, length-append, length-map}
@@ -16,7 +16,7 @@ use Rattle.ipx_laws.specs.Announces.{IsAccepted, IsSaid, IsAnnounced}
 use Rattle.ipx_laws.specs.Gone.{IsGone}
 use Rattle.ipx_laws.specs.Meanwhile.{EachStep, StaysGone, EachTick}
 use Rattle.ipx_laws.specs.WireAnnounces.{WasSaid, WasAnnounced}
-use Rattle.ipx_laws.specs.Wires.{Flight, Wires, WireStep, Occurs, Lands, as_step, still, beaten, occurs, lands, wired, wires_of, beats_of, Along, KeepGone, IsBeat, AreBeats, EachWireStep}
+use Rattle.ipx_laws.specs.Wires.{Flight, Wires, WireStep, Occurs, Lands, as_step, still, beaten, occurs, lands, wired, wires_of, beats_of, Along, KeepGone, AreBeats, EachWireStep}
 use Rattle.ipx_laws.proofs.ticks.AfterEachStep.{AfterEach}
 use Rattle.ipx_laws.proofs.wires.BeatAfterBeat.{along_first}
 

@@ -1,4 +1,4 @@
-use Rattle.std.proofs.Common.{◌≢◌, [], ◌∷◌}
+use Rattle.std.proofs.Common.{◌≢◌, ◌∷◌}
 use Rattle.ipx_router.specs.Facts.{services_held, offers}
 use Rattle.ipx_internet.specs.Internet.{ports_of}
 use Rattle.ipx_internet.specs.Queue.{history_of}
