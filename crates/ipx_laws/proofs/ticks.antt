@@ -9,5 +9,6 @@ pub mod OwnPagesSayFine
 pub mod RealFromTheFirst
 pub mod RealOrSoonEnded
 pub mod RoutesBecomeReal
+pub mod SaidInAMinute
 pub mod SaysFineOrSoonEnded
 pub mod TickAfterTick

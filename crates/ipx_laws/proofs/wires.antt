@@ -4,6 +4,7 @@ pub mod BeatAfterBeat
 pub mod EarlyFlights
 pub mod FineOnWires
 pub mod GoneOnWires
+pub mod HeardInLockStep
 pub mod HeardOnWires
 pub mod HomeOrOnward
 pub mod LockStep

@@ -40,7 +40,7 @@ use Rattle.ipx_laws.proofs.ticks.AfterRest.{Kept, steps_keep}
 use Rattle.ipx_laws.proofs.ticks.TickAfterTick.{second_there}
 
 -- the seconds of a router that runs, and goes on to run
-seconds_more : (router : ℕ) (history : History) (event : Event) → LeavesPorts (Happens router event) → running history ≡ true
+pub seconds_more : (router : ℕ) (history : History) (event : Event) → LeavesPorts (Happens router event) → running history ≡ true
     → seconds_run (history ++ event ∷ []) ≡ passed event 0 + seconds_run history
 seconds_more router history Second leaves runs =
     let longer = ap (λ (events : List Event). length (filter is_second events)) (present_run-more history Second refl runs)

@@ -22,13 +22,13 @@ use Rattle.ipx_laws.proofs.wires.BeatAfterBeat.{along_first}
 
 -- ---- lists
 
-first_of : {X : Type 0} (x y : X) (xs ys : List X) → x ∷ xs ≡ y ∷ ys → x ≡ y
+pub first_of : {X : Type 0} (x y : X) (xs ys : List X) → x ∷ xs ≡ y ∷ ys → x ≡ y
 first_of x y xs ys e = ap (λ (zs : List _). elim zs [ [] ↦ x | ◌∷◌ z behind ↦ z ]) e
 
-rest_of : {X : Type 0} (x y : X) (xs ys : List X) → x ∷ xs ≡ y ∷ ys → xs ≡ ys
+pub rest_of : {X : Type 0} (x y : X) (xs ys : List X) → x ∷ xs ≡ y ∷ ys → xs ≡ ys
 rest_of x y xs ys e = ap (λ (zs : List _). elim zs [ [] ↦ xs | ◌∷◌ z behind ↦ behind ]) e
 
-none_first : {X : Type 0} {A : Type 0} (x : X) (xs : List X) → [] ≡ x ∷ xs → A
+pub none_first : {X : Type 0} {A : Type 0} (x : X) (xs : List X) → [] ≡ x ∷ xs → A
 none_first x xs e = absurd (omega (arith, ap length e))
 
 -- what stands behind some, and behind all
@@ -139,6 +139,16 @@ module _ (net : Internet) (most_routes most_services : ℕ) where
       let ds = flat_map (deliveries_of net router) (sends_at net most_routes most_services w.histories router event) in
       record { queue = queue ++ ds; same = same; landed = landed; flights = sent_behind w queue ds landed flights }
 
+  -- the first that waits is the next to land
+  pub first_waits : (w : Wires) (d : Delivery) (queue : List Delivery) (landed : List Flight) → w.flights ≡ landed ++ flown w.beats (d ∷ queue)
+      → slice_get w.flights (length w.flights - length (d ∷ queue)) ≡ Some (record { delivery = d; sent = w.beats })
+  first_waits w d queue landed flights =
+      let first : Flight = record { delivery = d; sent = w.beats } in
+      let before : length landed ≡ length (landed ++ first ∷ flown w.beats queue) - length (d ∷ queue) =
+      omega (arith, length-append landed (first ∷ flown w.beats queue), length-map {B = Flight} queue (λ q. record { delivery = q; sent = w.beats })) in
+      subst (λ (fs : List Flight). slice_get fs (length fs - length (d ∷ queue)) ≡ Some first) (sym flights)
+      (subst (λ (n : ℕ). slice_get (landed ++ first ∷ flown w.beats queue) n ≡ Some first) before (found_after landed first (flown w.beats queue)))
+
   settles_follows : (run : Run) (w : Wires) (queue : List Delivery) (landed : List Flight)
       → forgotten run ≡ settled_one net most_routes most_services (record { histories = w.histories; queue = queue })
       → w.flights ≡ landed ++ flown w.beats queue → Follows run (wire w (Lands (length w.flights - length queue)))
@@ -148,19 +158,12 @@ module _ (net : Internet) (most_routes most_services : ℕ) where
       rw (none, wired) (record { queue = []; same = same; landed = landed; flights = flights })
   settles_follows run w (d ∷ queue) landed same flights =
       let first : Flight = record { delivery = d; sent = w.beats } in
-      let found : slice_get w.flights (length w.flights - length (d ∷ queue)) ≡ Some first =
-      subst (λ (fs : List Flight). slice_get fs (length fs - length (d ∷ queue)) ≡ Some first) (sym flights) (last_found first) in
       let timely : nat_le w.beats (w.beats + 0) ≡ true = le-leb w.beats (w.beats + 0) (omega arith) in
-      rw (found, wired) (rw (timely, lands) (event_follows run w queue (landed ++ first ∷ []) d.to.router (Packet d.to.port d.bytes) same
+      rw (first_waits w d queue landed flights, wired) (rw (timely, lands)
+      (event_follows run w queue (landed ++ first ∷ []) d.to.router (Packet d.to.port d.bytes) same
       (flights ∙ sym (append_assoc landed (first ∷ []) (flown w.beats queue)))))
-    where
-      last_found : (first : Flight) → slice_get (landed ++ first ∷ flown w.beats queue) (length (landed ++ first ∷ flown w.beats queue) - length (d ∷ queue)) ≡ Some first
-      last_found first =
-          let before : length landed ≡ length (landed ++ first ∷ flown w.beats queue) - length (d ∷ queue) =
-          omega (arith, length-append landed (first ∷ flown w.beats queue), length-map {B = Flight} queue (λ d. record { delivery = d; sent = w.beats })) in
-          subst (λ (n : ℕ). slice_get (landed ++ first ∷ flown w.beats queue) n ≡ Some first) before (found_after landed first (flown w.beats queue))
 
-  step_follows : (run : Run) (w : Wires) (step : Step) → Follows run w → Follows (one run step) (wire w (as_wire run w step))
+  pub step_follows : (run : Run) (w : Wires) (step : Step) → Follows run w → Follows (one run step) (wire w (as_wire run w step))
   step_follows run w (Happens router event) follows =
       event_follows (one run (Happens router event)) w follows.queue follows.landed router event
       (events net most_routes most_services run router event None
