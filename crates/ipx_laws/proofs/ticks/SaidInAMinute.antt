@@ -36,8 +36,24 @@ use Rattle.ipx_laws.proofs.services.FewestHops.{Link}
 use Rattle.ipx_laws.proofs.services.HeardAtAStep.{Hears, FirstHears, HeardWithin, HeardWithinTicks, AtEach, at_first}
 use Rattle.ipx_laws.proofs.services.ServiceIsTold.{AnyService, told_there, NamesTo, waits_for, second_says}
 use Rattle.ipx_laws.proofs.ticks.AfterRest.{Kept, steps_keep}
-use Rattle.ipx_laws.proofs.services.NeighbourIsHeard.{seconds_more}
 use Rattle.ipx_laws.proofs.ticks.TickAfterTick.{second_there}
+
+-- the seconds of a router that runs, and goes on to run
+seconds_more : (router : ℕ) (history : History) (event : Event) → LeavesPorts (Happens router event) → running history ≡ true
+    → seconds_run (history ++ event ∷ []) ≡ passed event 0 + seconds_run history
+seconds_more router history Second leaves runs =
+    let longer = ap (λ (events : List Event). length (filter is_second events)) (present_run-more history Second refl runs)
+    ∙ ap length (filter-append is_second (present_run history) (Second ∷ []))
+    ∙ length-append (filter is_second (present_run history)) (Second ∷ []) in
+    let one : seconds_run (history ++ Second ∷ []) ≡ seconds_run history + 1 = longer in
+    omega (arith, one)
+seconds_more router history (Packet number bytes) leaves runs =
+    let same = seconds_stay history (Packet number bytes) refl refl runs in
+    omega (arith, same)
+seconds_more router history Start leaves runs = absurd leaves
+seconds_more router history Stop leaves runs = absurd leaves
+seconds_more router history (PortDown number) leaves runs = absurd leaves
+seconds_more router history (PortUp number) leaves runs = absurd leaves
 
 module _ (net : Internet) (laws : Layouts) (is : IsInternet net) (most_routes most_services : ℕ) (up : ℕ → List ℕ) where
   abbrev pub Stay : List History → Type 0

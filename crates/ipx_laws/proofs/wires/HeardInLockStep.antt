@@ -32,12 +32,14 @@ use Rattle.ipx_internet.proofs.places.OneReceiverOfANode.{ports_at, port_is}
 use Rattle.ipx_laws.specs.InTime.{Names, HeardInSteps, HeardInBeats, Advertises, AreHeardInTime}
 use Rattle.ipx_laws.specs.Meanwhile.{LeavesPorts, EachStep, EachTick}
 use Rattle.ipx_laws.specs.Wires.{Flight, Wires, WireStep, still, beaten, wired, wires_of, beats_of, Along, EachBeat}
+use Rattle.ipx_laws.proofs.lists.FirstAndRest.{first_of, rest_of, none_first}
 use Rattle.ipx_laws.proofs.lists.SomeElement.{AnyIs, any_then, any_passes, passes_any, any-map, any_mapped, number_any}
 use Rattle.ipx_laws.proofs.losses.WordsThatWait.{no_way, IsWordFor, word_waits}
 use Rattle.ipx_laws.proofs.packets.PagesAreHeard.{heard_page}
 use Rattle.ipx_laws.proofs.tables.SaysItsLeastWay.{Tells, second_tells}
+use Rattle.ipx_laws.proofs.ticks.AfterRest.{steps_keep}
 use Rattle.ipx_laws.proofs.ticks.SaidInAMinute.{Stay, IsKept, is_place, runs_there, HasAlong, HandedIn, HandedInTicks, said_once}
-use Rattle.ipx_laws.proofs.wires.LockStep.{as_wire, as_beat, as_beats, Follows, first_of, rest_of, none_first, first_waits, same_histories, step_follows, tick_follows, follows_still}
+use Rattle.ipx_laws.proofs.wires.LockStep.{as_wire, as_beat, as_beats, as_many, Follows, first_waits, same_histories, step_follows, tick_follows, follows_still}
 
 -- networks that are the same by number
 same_network : (a b : Network) → a.0 ≡ b.0 → a ≡ b
@@ -205,3 +207,88 @@ module _ (net : Internet) (laws : Layouts) (is : IsInternet net) (differ : Nodes
       beats_heard run w ticks busy follows
       (said_once net laws is most_routes most_services up from on_from Has Word says run ticks kept (omega (arith, long)) busy leave
       (ticks_has run w ticks busy follows along))
+
+-- ---- at any time
+
+module _ (net : Internet) (laws : Layouts) (is : IsInternet net) (most_routes most_services : ℕ) (up : ℕ → List ℕ) where
+  abbrev beats_by : Run → Wires → List (List Step) → List (List WireStep)
+  beats_by = as_beats net most_routes most_services
+
+  abbrev after : Wires → List (List WireStep) → Wires
+  after = beats_of net most_routes most_services 0
+
+  -- ticks in which ports stay as they are, and the wires in which the same happens
+  pub record Goes (run : Run) (w : Wires) (ticks : List (List Step)) : Type 0 where
+    pub kept : IsKept net laws is most_routes most_services up run
+    pub follows : Follows net most_routes most_services run w
+    pub busy : EachTick net most_routes most_services (IsBusyTick net most_routes most_services) run ticks
+    pub leave : EachStep LeavesPorts ticks
+
+  tick_goes : (run : Run) (w : Wires) (steps : List Step) (ticks : List (List Step)) → Goes run w (steps ∷ ticks)
+      → Goes (run_of net most_routes most_services run steps)
+      (beaten (wires_of net most_routes most_services 0 w (as_beat net most_routes most_services run w steps))) ticks
+  tick_goes run w steps ticks goes = record {
+    kept = steps_keep net laws is most_routes most_services up run steps goes.busy.0.happens goes.leave.0 goes.kept;
+    follows = tick_follows net most_routes most_services run w steps goes.busy.0 goes.follows;
+    busy = goes.busy.1;
+    leave = goes.leave.1;
+  }
+
+  -- the ticks of the first of the beats
+  pub record Front (run : Run) (w : Wires) (front : List (List WireStep)) : Type 0 where
+    pub ticks : List (List Step)
+    pub same : beats_by run w ticks ≡ front
+    pub goes : Goes run w ticks
+
+  front_of : (run : Run) (w : Wires) (ticks : List (List Step)) (front rest : List (List WireStep)) → beats_by run w ticks ≡ front ++ rest → Goes run w ticks
+      → Front run w front
+  front_of run w ticks [] rest parts goes =
+      record { ticks = []; same = refl; goes = record { kept = goes.kept; follows = goes.follows; busy = tt; leave = tt } }
+  front_of run w [] (x ∷ front) rest parts goes = none_first x (front ++ rest) parts
+  front_of run w (steps ∷ ticks) (x ∷ front) rest parts goes =
+      let here = as_beat net most_routes most_services run w steps in
+      let next = run_of net most_routes most_services run steps in
+      let now = beaten (wires_of net most_routes most_services 0 w here) in
+      let behind = front_of next now ticks front rest (rest_of here x (beats_by next now ticks) (front ++ rest) parts) (tick_goes run w steps ticks goes) in
+      record {
+        ticks = steps ∷ behind.ticks;
+        same = ap₂ (λ (y : List WireStep) (ys : List (List WireStep)). y ∷ ys) (first_of here x (beats_by next now ticks) (front ++ rest) parts) behind.same;
+        goes = record {
+          kept = goes.kept;
+          follows = goes.follows;
+          busy = (goes.busy.0, behind.goes.busy);
+          leave = (goes.leave.0, behind.goes.leave);
+        };
+      }
+
+  -- and those of the rest
+  pub record Behind (w : Wires) (rest : List (List WireStep)) : Type 0 where
+    pub run : Run
+    pub ticks : List (List Step)
+    pub same : beats_by run w ticks ≡ rest
+    pub goes : Goes run w ticks
+
+  behind_of : (run : Run) (w : Wires) (ticks : List (List Step)) (front rest : List (List WireStep)) → beats_by run w ticks ≡ front ++ rest → Goes run w ticks
+      → Behind (after w front) rest
+  behind_of run w ticks [] rest parts goes = record { run = run; ticks = ticks; same = parts; goes = goes }
+  behind_of run w [] (x ∷ front) rest parts goes = none_first x (front ++ rest) parts
+  behind_of run w (steps ∷ ticks) (x ∷ front) rest parts goes =
+      let here = as_beat net most_routes most_services run w steps in
+      let next = run_of net most_routes most_services run steps in
+      let now = beaten (wires_of net most_routes most_services 0 w here) in
+      subst (λ (y : List WireStep). Behind (after (beaten (wires_of net most_routes most_services 0 w y)) front) rest)
+      (first_of here x (beats_by next now ticks) (front ++ rest) parts)
+      (behind_of next now ticks front rest (rest_of here x (beats_by next now ticks) (front ++ rest) parts) (tick_goes run w steps ticks goes))
+
+  pub in_time : NodesDiffer net → (run : Run) (w : Wires) (ticks : List (List Step)) → Goes run w ticks
+      → AreHeardInTime net most_routes most_services 0 period up w (beats_by run w ticks)
+  in_time differ run w ticks goes from to network before within later on_from on_to other one_network parts wide along =
+      let rest = behind_of run w ticks before (within ++ later) (parts ∙ append_assoc before within later) goes in
+      let part = front_of rest.run (after w before) rest.ticks within later rest.same rest.goes in
+      let many : length (beats_by rest.run (after w before) part.ticks) ≡ period = ap length part.same ∙ wide in
+      let as_long = as_many net most_routes most_services rest.run (after w before) part.ticks in
+      subst (λ (beats : List (List WireStep)). HeardInBeats net most_routes most_services 0 to (port_of net from).node network (after w before) beats) part.same
+      (heard_in_a_minute net laws is differ most_routes most_services up from to network on_from on_to other one_network rest.run (after w before) part.ticks
+      part.goes.kept part.goes.busy part.goes.leave part.goes.follows (omega (arith, many, as_long))
+      (subst (λ (beats : List (List WireStep)). EachBeat net most_routes most_services 0
+      (Along net most_routes most_services 0 (Advertises net most_routes most_services 0 from network)) (after w before) beats) (sym part.same) along))

@@ -17,19 +17,9 @@ use Rattle.ipx_laws.specs.Gone.{IsGone}
 use Rattle.ipx_laws.specs.Meanwhile.{EachStep, StaysGone, EachTick}
 use Rattle.ipx_laws.specs.WireAnnounces.{WasSaid, WasAnnounced}
 use Rattle.ipx_laws.specs.Wires.{Flight, Wires, WireStep, Occurs, Lands, as_step, still, beaten, occurs, lands, wired, wires_of, beats_of, Along, KeepGone, AreBeats, EachWireStep}
+use Rattle.ipx_laws.proofs.lists.FirstAndRest.{first_of, rest_of, none_first}
 use Rattle.ipx_laws.proofs.ticks.AfterEachStep.{AfterEach}
 use Rattle.ipx_laws.proofs.wires.BeatAfterBeat.{along_first}
-
--- ---- lists
-
-pub first_of : {X : Type 0} (x y : X) (xs ys : List X) → x ∷ xs ≡ y ∷ ys → x ≡ y
-first_of x y xs ys e = ap (λ (zs : List _). elim zs [ [] ↦ x | ◌∷◌ z behind ↦ z ]) e
-
-pub rest_of : {X : Type 0} (x y : X) (xs ys : List X) → x ∷ xs ≡ y ∷ ys → xs ≡ ys
-rest_of x y xs ys e = ap (λ (zs : List _). elim zs [ [] ↦ xs | ◌∷◌ z behind ↦ behind ]) e
-
-pub none_first : {X : Type 0} {A : Type 0} (x : X) (xs : List X) → [] ≡ x ∷ xs → A
-none_first x xs e = absurd (omega (arith, ap length e))
 
 -- what stands behind some, and behind all
 found_after : {X : Type 0} (front : List X) (x : X) (back : List X) → slice_get (front ++ x ∷ back) (length front) ≡ Some x
