@@ -69,7 +69,7 @@ module _ (net : Internet) (most_routes most_services : ℕ) where
   same_steps run w (Happens router event ∷ steps) = ap (λ rest. Happens router event ∷ rest) (same_steps (one run (Happens router event)) (wire w (Occurs router event)) steps)
   same_steps run w (Settles ∷ steps) = ap (λ rest. Settles ∷ rest) (same_steps (one run Settles) (wire w (as_wire run w Settles)) steps)
 
-  same_ticks : (run : Run) (w : Wires) (ticks : List (List Step)) → map (map as_step) (as_beats run w ticks) ≡ ticks
+  pub same_ticks : (run : Run) (w : Wires) (ticks : List (List Step)) → map (map as_step) (as_beats run w ticks) ≡ ticks
   same_ticks run w [] = refl
   same_ticks run w (steps ∷ ticks) =
       let next = beaten (wires w (as_beat run w steps)) in
