@@ -1,44 +1,37 @@
 -- A neighbour that has a service all the time, and didn't learn it on the common network, is heard to tell it there in any
 -- period.
-use Rattle.std.proofs.Common.{◌≡◌, ◌≢◌, refl, sym, ap, ◌∙◌, subst, ◌⊎◌, ℕ, zero, suc, ◌+◌, ◌%◌, ◌<◌, ◌≤◌, ◌==◌, nat_lt, Bool, true, false, List, [], ◌∷◌, ◌++◌, length, map, filter, flat_map, Some, None, inl, inr, arith, slice_get, get_or-set_same, get_or-set_other, length-append}
+use Rattle.std.proofs.Common.{◌≡◌, refl, sym, ap, ◌∙◌, subst, ℕ, zero, suc, ◌+◌, ◌%◌, ◌<◌, ◌≤◌, ◌==◌, nat_lt, Bool, true, false, List, [], ◌∷◌, ◌++◌, length, map, flat_map, Some, inl, inr, arith, slice_get}
 use Rattle.std.specs.List.{AllByRecursion}
-use Rattle.std.proofs.lemmas.Bool.{cases_eq, eq-eqb, lt-ltb}
-use Rattle.std.proofs.lemmas.List.Elements.{filter-append}
-use Rattle.std.proofs.lemmas.Nat.{mod_below}
+use Rattle.std.proofs.lemmas.Bool.{lt-ltb}
 use Rattle.ipx_wire.specs.WriteServices.{entry_of}
 use Rattle.ipx_wire.specs.declared.sap.Sap.TheVariants.{Response as SapResponse}
 use Rattle.ipx_wire.specs.declared.service.Service.{Service}
 use Rattle.ipx_router.specs.Facts.{services_held, offers}
 use Rattle.ipx_router.specs.Heard.{HeardSap, heard}
-use Rattle.ipx_router.specs.History.{Event, History, Start, Stop, Second, Packet, PortDown, PortUp, is_second, present_run, running, seconds_run, ports_up}
+use Rattle.ipx_router.specs.History.{History, Second, running, seconds_run, ports_up}
 use Rattle.ipx_router.specs.Numbers.{unreachable, period}
 use Rattle.ipx_router.specs.Port.{is_up, own_services}
 use Rattle.ipx_router.specs.Sends.{is_periodic}
 use Rattle.ipx_router.specs.Told.{farther, is_service_told}
 use Rattle.ipx_router.specs.declared.service_offer.ServiceOffer.{ServiceOffer}
-use Rattle.ipx_router.proofs.histories.OneEventMore.{present_run-more, seconds_stay, ports_stay, none_up}
+use Rattle.ipx_router.proofs.histories.OneEventMore.{ports_stay, none_up}
 use Rattle.ipx_router.proofs.port_values.PortOfEachNumber.{ports_up-within, one_up}
 use Rattle.ipx_internet.specs.Internet.{Internet, Place, IsInternet, IsPlace, NodesDiffer, ports_of, port_of, network_of}
-use Rattle.ipx_internet.specs.Queue.{Delivery, Queued, deliveries_of, history_of, with_event, sends_at, queued}
-use Rattle.ipx_internet.specs.Log.{Reception}
-use Rattle.ipx_internet.specs.Run.{Step, Happens, Settles, IsStep, AreHistories, Run, Waiting, forgotten, stepped, run_of}
-use Rattle.ipx_internet.specs.Ticks.{seconds_of}
+use Rattle.ipx_internet.specs.Queue.{Delivery, deliveries_of, history_of, sends_at}
+use Rattle.ipx_internet.specs.Run.{Step, Happens, Settles, AreHistories, Run, Waiting, forgotten, stepped, run_of}
 use Rattle.ipx_internet.specs.BusyTick.{IsBusyTick}
-use Rattle.ipx_internet.proofs.deliveries.QueueOfARun.{events, deliveries}
 use Rattle.ipx_internet.proofs.packets.SentOnOrReply.{Layouts}
 use Rattle.ipx_internet.proofs.places.OneReceiverOfANode.{port_is}
-use Rattle.ipx_internet.proofs.trees.RunIsALog.{router_there}
 use Rattle.ipx_laws.specs.Meanwhile.{LeavesPorts, EachTick}
 use Rattle.ipx_laws.specs.Servers.{Announcer, Server, at_hops}
 use Rattle.ipx_laws.specs.Ups.{ups}
 use Rattle.ipx_laws.proofs.lists.FirstAndRest.{first_of, none_first}
-use Rattle.ipx_laws.proofs.lists.SomeElement.{AnyIs, any_then, any_in_front, any_behind, number_any}
+use Rattle.ipx_laws.proofs.lists.SomeElement.{AnyIs, any_then, number_any}
 use Rattle.ipx_laws.proofs.packets.PagesAreHeard.{heard_services}
-use Rattle.ipx_laws.proofs.records.RecordsGrowOld.{passed}
 use Rattle.ipx_laws.proofs.services.FewestHops.{Link}
-use Rattle.ipx_laws.proofs.services.HeardAtAStep.{Hears, FirstHears, HeardWithin, HeardWithinTicks, AtEach, at_first}
+use Rattle.ipx_laws.proofs.services.HeardAtAStep.{Hears, FirstHears, HeardWithin, HeardWithinTicks, AtEach}
 use Rattle.ipx_laws.proofs.services.ServiceIsTold.{AnyService, told_there, NamesTo, waits_for, second_says}
-use Rattle.ipx_laws.proofs.ticks.AfterRest.{Kept, steps_keep}
+use Rattle.ipx_laws.proofs.ticks.AfterRest.{Kept}
 use Rattle.ipx_laws.proofs.ticks.SaidInAMinute.{HasAlong, HandedIn, HandedInTicks, said_once}
 
 module _ (net : Internet) (laws : Layouts) (is : IsInternet net) (differ : NodesDiffer net) (most_routes most_services : ℕ) (up : ℕ → List ℕ) (server : Server)

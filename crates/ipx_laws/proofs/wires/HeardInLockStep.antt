@@ -1,6 +1,5 @@
 -- In lock step routers are heard in time: each hears in any minute what a router beside it advertises all the time of that minute.
-use Rattle.std.proofs.Common.{◌≡◌, ◌≢◌, refl, sym, ap, ap₂, ◌∙◌, subst, ◌⊎◌, ℕ, ◌+◌, ◌-◌, ◌<◌, ◌≤◌, ◌==◌, Bool, true, if◌then◌else◌, List, [], ◌∷◌, ◌++◌, length, map, flat_map, Some, slice_get, inl, inr, arith, append_assoc}
-use Rattle.std.specs.List.{AllByRecursion}
+use Rattle.std.proofs.Common.{◌≡◌, ◌≢◌, refl, sym, ap, ap₂, ◌∙◌, subst, ℕ, ◌-◌, ◌≤◌, ◌==◌, Bool, true, if◌then◌else◌, List, [], ◌∷◌, ◌++◌, length, map, flat_map, Some, slice_get, inl, inr, arith, append_assoc}
 use Rattle.std.proofs.lemmas.Bool.{eq-eqb, eqb-true}
 use Rattle.ipx_wire.specs.Crossed.{is_among}
 use Rattle.ipx_wire.specs.Rip.{IsEntry}
@@ -9,29 +8,28 @@ use Rattle.ipx_wire.specs.declared.rip.Operation.TheVariants.{Response}
 use Rattle.ipx_wire.specs.declared.rip.RipEntry.{RipEntry}
 use Rattle.ipx_router.specs.Facts.{heard_after, routes_held, offers}
 use Rattle.ipx_router.specs.Heard.{Heard, HeardRip, heard}
-use Rattle.ipx_router.specs.History.{History, Second, Packet, IsOfBytes, running, ports_up}
+use Rattle.ipx_router.specs.History.{History, Second, IsOfBytes, running, ports_up}
 use Rattle.ipx_router.specs.News.{news}
 use Rattle.ipx_router.specs.Numbers.{period}
-use Rattle.ipx_router.specs.Port.{Port, IsPort, is_up, own_address}
+use Rattle.ipx_router.specs.Port.{Port, is_up, own_address}
 use Rattle.ipx_router.specs.Sends.{Holding, holding, is_periodic, second_on}
 use Rattle.ipx_router.specs.Told.{told}
 use Rattle.ipx_router.proofs.changes.ChangesFitFields.{news_fit}
 use Rattle.ipx_router.proofs.lists.EachElement.{all_both}
 use Rattle.ipx_router.proofs.histories.OneEventMore.{ports_stay}
 use Rattle.ipx_router.proofs.port_values.PortOfEachNumber.{ports_up-within}
-use Rattle.ipx_router.proofs.sending.OwnPacketsAreValid.{Writable}
 use Rattle.ipx_router.proofs.tables.HeldFitsFields.{held_routes_fit}
 use Rattle.ipx_router.proofs.telling.ToldFitsFields.{told_fits}
 use Rattle.ipx_internet.specs.BusyTick.{IsBusyTick}
 use Rattle.ipx_internet.specs.Internet.{Internet, Place, IsInternet, NodesDiffer, ports_of, port_of, network_of}
 use Rattle.ipx_internet.specs.Queue.{Delivery, Queued, deliveries_of, history_of, sends_at}
-use Rattle.ipx_internet.specs.Run.{Step, Happens, Settles, AreHistories, Run, forgotten, stepped, run_of}
+use Rattle.ipx_internet.specs.Run.{Step, Happens, Settles, AreHistories, Run, stepped, run_of}
 use Rattle.ipx_internet.proofs.lists.EachElement.{all_of, all-append}
 use Rattle.ipx_internet.proofs.packets.SentOnOrReply.{Layouts}
 use Rattle.ipx_internet.proofs.places.OneReceiverOfANode.{ports_at, port_is}
 use Rattle.ipx_laws.specs.InTime.{Names, HeardInSteps, HeardInBeats, Advertises, AreHeardInTime}
 use Rattle.ipx_laws.specs.Meanwhile.{LeavesPorts, EachStep, EachTick}
-use Rattle.ipx_laws.specs.Wires.{Flight, Wires, WireStep, still, beaten, wired, wires_of, beats_of, Along, EachBeat}
+use Rattle.ipx_laws.specs.Wires.{Flight, Wires, WireStep, beaten, wired, wires_of, beats_of, Along, EachBeat}
 use Rattle.ipx_laws.proofs.lists.FirstAndRest.{first_of, rest_of, none_first}
 use Rattle.ipx_laws.proofs.lists.SomeElement.{AnyIs, any_then, any_passes, passes_any, any-map, any_mapped, number_any}
 use Rattle.ipx_laws.proofs.losses.WordsThatWait.{no_way, IsWordFor, word_waits}
@@ -39,7 +37,7 @@ use Rattle.ipx_laws.proofs.packets.PagesAreHeard.{heard_page}
 use Rattle.ipx_laws.proofs.tables.SaysItsLeastWay.{Tells, second_tells}
 use Rattle.ipx_laws.proofs.ticks.AfterRest.{steps_keep}
 use Rattle.ipx_laws.proofs.ticks.SaidInAMinute.{Stay, IsKept, is_place, runs_there, HasAlong, HandedIn, HandedInTicks, said_once}
-use Rattle.ipx_laws.proofs.wires.LockStep.{as_wire, as_beat, as_beats, as_many, Follows, first_waits, same_histories, step_follows, tick_follows, follows_still}
+use Rattle.ipx_laws.proofs.wires.LockStep.{as_wire, as_beat, as_beats, as_many, Follows, first_waits, same_histories, step_follows, tick_follows}
 
 -- networks that are the same by number
 same_network : (a b : Network) → a.0 ≡ b.0 → a ≡ b
