@@ -4,8 +4,10 @@ pub mod BeatAfterBeat
 pub mod EarlyFlights
 pub mod FineOnWires
 pub mod GoneOnWires
+pub mod HeardInLockStep
 pub mod HeardOnWires
 pub mod HomeOrOnward
+pub mod LockStep
 pub mod PartsOfBeats
 pub mod RealOnWires
 pub mod RightOnWires

@@ -7,15 +7,17 @@ use Rattle.ipx_wire.specs.declared.node.Node.{Node}
 use Rattle.ipx_wire.specs.declared.rip.Operation.TheVariants.{Response}
 use Rattle.ipx_router.specs.Facts.{heard_after}
 use Rattle.ipx_router.specs.Heard.{Heard, HeardRip, HeardSap}
+use Rattle.ipx_router.specs.History.{History}
 use Rattle.ipx_router.specs.Port.{is_up}
 use Rattle.ipx_router.specs.Told.{told}
 use Rattle.ipx_internet.specs.Internet.{Internet, Place, ports_of, port_of, network_of}
 use Rattle.ipx_internet.specs.Queue.{history_of}
-use Rattle.ipx_internet.specs.Ticks.{seconds_of}
+use Rattle.ipx_internet.specs.Run.{Step, begun}
+use Rattle.ipx_internet.specs.Ticks.{seconds_of, ticked}
 use Rattle.ipx_laws.specs.Least.{Way}
 use Rattle.ipx_laws.specs.Tables.{routes_of}
 use Rattle.ipx_laws.specs.Ups.{ups}
-use Rattle.ipx_laws.specs.Wires.{Flight, Wires, WireStep, Occurs, Lands, as_step, beaten, wired, beats_of, Along, EachBeat, most_beats_gone}
+use Rattle.ipx_laws.specs.Wires.{Flight, Wires, WireStep, Occurs, Lands, as_step, still, beaten, wired, beats_of, Along, EachBeat, most_beats_gone}
 
 -- a response of routing information from that node, an entry of which names that network
 abbrev pub Names : Node → Network → Heard → Type 0
@@ -71,3 +73,9 @@ IsQuick window fastest = suc window * fastest < lifetime
 abbrev pub beats_right : (delay window : ℕ) → Option Way → ℕ
 beats_right delay window None = most_beats_gone delay
 beats_right delay window (Some way) = most_beats_gone delay + way.hops * (window + delay)
+
+-- beats have the same steps as ticks from where nothing waits, and in the end the same has happened to each router
+pub record IsInLockStep (net : Internet) (most_routes most_services : ℕ) (histories : List History) (ticks : List (List Step)) (beats : List (List WireStep))
+    : Type 0 where
+  pub steps : map (map as_step) beats ≡ ticks
+  pub same : (beats_of net most_routes most_services 0 (still histories) beats).histories ≡ (ticked net most_routes most_services (begun histories) ticks).histories

@@ -37,7 +37,9 @@ ghost use Rattle.ipx_laws.specs.Ups.{ups};
 
 pub use crate::laws::apart::{arrives_apart, real_apart, right_apart};
 pub use crate::laws::costs::{tables_stay, upkeep};
-pub use crate::laws::wires::{announced_on_wires, gone_on_wires, real_on_wires, right_on_wires};
+pub use crate::laws::wires::{
+    announced_on_wires, gone_on_wires, lock_step, real_on_wires, right_on_wires,
+};
 
 /// Over any run, no route goes back to where it was learned: no route that a router holds after an event, to a network that an
 /// entry of a packet names which it sends for that event, was learned on the port on which the packet leaves.
@@ -78,10 +80,8 @@ pub fn gone()
         → most_ticks_gone ≤ length ticks → router < length net
         → services_held (ports_of net router) most_services (history_of (ticked net most_routes most_services run (first ∷ ticks)).histories router) ≡ [] }
 {
-    ipx_wire::laws::readings();
-    ipx_wire::laws::service_readings();
-    ipx_wire::laws::reread();
-    ipx_router::laws::packets();
+    gone_meanwhile();
+    real();
 }
 
 /// What is gone stays gone, whatever else happens meanwhile: starts and stops, ports that go down and come up, packets of hosts.
@@ -107,6 +107,7 @@ pub fn gone_meanwhile()
     ipx_wire::laws::service_readings();
     ipx_wire::laws::reread();
     ipx_router::laws::packets();
+    crate::laws::wires::gone_on_wires();
 }
 
 /// Every service that a router has was announced by a host: after 2,880 ticks it is one that a packet of a host said in them, with type, name
@@ -127,6 +128,7 @@ pub fn announced()
     ipx_wire::laws::service_readings();
     ipx_wire::laws::reread();
     ipx_router::laws::packets();
+    crate::laws::wires::announced_on_wires();
 }
 
 /// Every route is of a real way after 2,880 calm ticks, whatever was in the tables before: each came by a port that is up from a router

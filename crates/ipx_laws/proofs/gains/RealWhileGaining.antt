@@ -51,7 +51,7 @@ use Rattle.ipx_laws.specs.Ups.{ups}
 use Rattle.ipx_laws.proofs.gains.GainsSayReal.{IsSaid, introduces, port_up_says, heard_says}
 use Rattle.ipx_laws.proofs.gains.OwnPacketsSayReal.{RealSaid, FineRip, FineHeard, IsOwn}
 use Rattle.ipx_laws.proofs.records.RecordsGrowOld.{Aged, IsOldOffer, after_offers, at_last}
-use Rattle.ipx_laws.proofs.ticks.BusyTickAfterTick.{each_so}
+use Rattle.ipx_laws.proofs.ticks.EventOfOneRouter.{each_so}
 use Rattle.ipx_laws.proofs.ticks.RealOrSoonEnded.{Reaches}
 
 -- ---- ports that are up stay up

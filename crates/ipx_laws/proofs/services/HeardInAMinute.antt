@@ -47,7 +47,7 @@ use Rattle.ipx_laws.proofs.services.HostsApart.{HostsApart}
 use Rattle.ipx_laws.proofs.services.NearestHost.{Sought, sought_of, here, Listed, key, shares, Real, host_of, SaidBy, Good, GoodOf, best, steady, Such, real_known, goes_on, place}
 use Rattle.ipx_laws.proofs.services.ServedOrSoonEnded.{Endures, ServiceOld, AreExact}
 use Rattle.ipx_laws.proofs.services.SpokenOfAServer.{EntrySaid, Told, Waits}
-use Rattle.ipx_laws.proofs.ticks.BusyTickAfterTick.{own_seconds}
+use Rattle.ipx_laws.proofs.ticks.EventOfOneRouter.{own_seconds}
 use Rattle.ipx_laws.proofs.ticks.TickAfterTick.{second_there}
 
 module _ (net : Internet) (laws : Layouts) (is : IsInternet net) (most_routes most_services : ℕ) (up : ℕ → List ℕ) (server : Server)

@@ -51,7 +51,7 @@ use Rattle.ipx_laws.proofs.packets.SentOnSaysTheSame.{heard_message}
 use Rattle.ipx_laws.proofs.records.RecordsGrowOld.{passed}
 use Rattle.ipx_laws.proofs.services.ServedOrSoonEnded.{Endures, at_begin, event_endures, services_said, changes_said, services_of, AreExact}
 use Rattle.ipx_laws.proofs.services.SpokenOfAServer.{at, Told, Waits, ServiceSaid, IsOwnServices, IsSpoken, host_waits, routes_silent, cast_spoken, spoken_waits}
-use Rattle.ipx_laws.proofs.ticks.BusyTickAfterTick.{each_so, own_seconds, passed_more}
+use Rattle.ipx_laws.proofs.ticks.EventOfOneRouter.{each_so, own_seconds, passed_more}
 use Rattle.ipx_laws.proofs.ticks.TickAfterTick.{second_there}
 
 module _ (net : Internet) (laws : Layouts) (is : IsInternet net) (most_routes most_services : ℕ) (up : ℕ → List ℕ) (server : Server) (Listed : ℕ × List ℕ → Type 0) where

@@ -1,5 +1,5 @@
 -- After steps that end with nothing that waits, whatever waited before: histories are as they should be, and ports as they were.
-use Rattle.std.proofs.Common.{◌≡◌, subst, refl, ℕ, ◌+◌, ◌<◌, false, List, [], ◌∷◌, length, arith, rules}
+use Rattle.std.proofs.Common.{◌≡◌, refl, ℕ, ◌<◌, false, List, [], ◌∷◌, length, arith, rules}
 use Rattle.std.specs.List.{AllByRecursion}
 use Rattle.ipx_wire.specs.declared.network.Network.{Network}
 use Rattle.ipx_router.specs.History.{Event, History, is_start, is_stop, takes_down, brings_up}
@@ -7,7 +7,6 @@ use Rattle.ipx_router.proofs.histories.OneEventMore.{ports_stay}
 use Rattle.ipx_internet.specs.Internet.{Internet, IsInternet}
 use Rattle.ipx_internet.specs.Queue.{Delivery, Queued, with_event, settled_one}
 use Rattle.ipx_internet.specs.Run.{Step, Happens, IsStep, AreHistories, Run, forgotten, stepped, run_of}
-use Rattle.ipx_internet.specs.Ticks.{ticked}
 use Rattle.ipx_internet.proofs.deliveries.QueueOfARun.{deliveries}
 use Rattle.ipx_internet.proofs.packets.SentOnOrReply.{Layouts}
 use Rattle.ipx_internet.proofs.ticks.TickCanBeHad.{Sound, step_sound, steps_sound, sound_run}
@@ -16,8 +15,8 @@ use Rattle.ipx_laws.specs.Apart.{AreTicksBesideAfter}
 use Rattle.ipx_laws.specs.Meanwhile.{LeavesPorts, AreCalmTicksAfter}
 use Rattle.ipx_laws.specs.Setting.{ComesToRest}
 use Rattle.ipx_laws.specs.Ups.{ups}
-use Rattle.ipx_laws.proofs.ticks.BusyTickAfterTick.{each_so}
-use Rattle.ipx_laws.proofs.ticks.TickAfterTick.{Rests, quiet_rests, ticks_rest, ticks_beside, calm_beside}
+use Rattle.ipx_laws.proofs.ticks.EventOfOneRouter.{each_so}
+use Rattle.ipx_laws.proofs.ticks.TickAfterTick.{Rests, quiet_rests, calm_beside}
 
 -- calm ticks are such for any list
 pub beside_after : (net : Internet) (most_routes most_services : ℕ) (foreign : List Network) (run : Run) (first : List Step) (ticks : List (List Step))
@@ -71,22 +70,11 @@ module _ (net : Internet) (laws : Layouts) (is : IsInternet net) (most_routes mo
     pub are_after : AreHistories net next.histories
     are_after = (steps_sound net laws is most_routes most_services run first rest.1 begins).are
 
+    pub kept_after : AllByRecursion LeavesPorts first → Kept (ups net run.histories) (forgotten next)
+    kept_after leaves = steps_keep (ups net run.histories) run first rest.1 leaves (record { sound = begins; stay = λ router. refl })
+
     pub begins_after : (foreign : List Network) → AllByRecursion LeavesPorts first
         → Rests net laws is most_routes most_services (ups net run.histories) foreign 0 next
     begins_after foreign leaves =
-        let kept = steps_keep (ups net run.histories) run first rest.1 leaves (record { sound = begins; stay = λ router. refl }) in
+        let kept = kept_after leaves in
         quiet_rests net laws is most_routes most_services (ups net run.histories) foreign next kept.sound.are kept.stay rest.2
-
-  pub rests_beside : (foreign : List Network) (run : Run) (first : List Step) (ticks : List (List Step)) → AreHistories net run.histories
-      → AreTicksBesideAfter net most_routes most_services foreign run first ticks
-      → Rests net laws is most_routes most_services (ups net run.histories) foreign (length ticks) (ticked net most_routes most_services run (first ∷ ticks))
-  rests_beside foreign run first ticks are (rest, leaves, beside) =
-      let next = run_of net most_routes most_services run first in
-      let count : length ticks + 0 ≡ length ticks = omega arith in
-      subst (λ (n : ℕ). Rests net laws is most_routes most_services (ups net run.histories) foreign n (ticked net most_routes most_services next ticks)) count
-      (ticks_rest net laws is most_routes most_services (ups net run.histories) foreign 0 next ticks (begins_after run first are rest foreign leaves)
-      (ticks_beside net most_routes most_services foreign next ticks beside))
-
-  pub rests_after : (run : Run) (first : List Step) (ticks : List (List Step)) → AreHistories net run.histories → AreCalmTicksAfter net most_routes most_services run first ticks
-      → Rests net laws is most_routes most_services (ups net run.histories) [] (length ticks) (ticked net most_routes most_services run (first ∷ ticks))
-  rests_after run first ticks are calm = rests_beside [] run first ticks are (beside_after net most_routes most_services [] run first ticks calm)

@@ -38,7 +38,7 @@ use Rattle.ipx_laws.specs.Departure.{Departure, routes_then, departures_at, depa
 use Rattle.ipx_laws.specs.Upkeep.{EndsThere, IsOfUpkeep, has, HaveTheSame, TablesStay, sent_by, all_pages}
 use Rattle.ipx_laws.specs.Ups.{ups}
 use Rattle.ipx_laws.proofs.packets.BroadcastEachSecond.{all_cast}
-use Rattle.ipx_laws.proofs.ticks.BusyTickAfterTick.{each_so}
+use Rattle.ipx_laws.proofs.ticks.EventOfOneRouter.{each_so}
 use Rattle.ipx_laws.proofs.ticks.TickAfterTick.{second_here, second_there}
 use Rattle.ipx_laws.proofs.upkeep.NothingNewIsSent.{reply_ends, second_sends, packet_sends_none}
 

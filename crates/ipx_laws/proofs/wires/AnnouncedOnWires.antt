@@ -15,26 +15,20 @@ use Rattle.ipx_internet.proofs.packets.SentOnOrReply.{Layouts}
 use Rattle.ipx_laws.specs.Announces.{IsAccepted, AsksApart}
 use Rattle.ipx_laws.specs.Meanwhile.{message_of, SaysOnly}
 use Rattle.ipx_laws.specs.WireAnnounces.{WasSaid, WasAnnounced}
-use Rattle.ipx_laws.specs.Wires.{Wires, WireStep, Occurs, Lands, as_step, flying, beaten, wired, wires_of, beats_of, EachBeat, AreBeats, EachWireStep, most_beats_gone, most_beats_flying}
+use Rattle.ipx_laws.specs.Wires.{Wires, WireStep, Occurs, Lands, as_step, flying, wired, wires_of, beats_of, EachBeat, AreBeats, EachWireStep, most_beats_gone, most_beats_flying}
 use Rattle.ipx_laws.proofs.ticks.FineOrSoonEnded.{IsFineService}
-use Rattle.ipx_laws.proofs.ticks.GoneWhateverHappens.{EveryNetwork}
-use Rattle.ipx_laws.proofs.ticks.ServicesWereAnnounced.{SaysServed, harmless, message_served}
+use Rattle.ipx_laws.proofs.ticks.HarmlessWords.{EveryNetwork, SaysServed, harmless, message_served}
 use Rattle.ipx_laws.proofs.wires.BeatAfterBeat.{StepsArise, along_all}
 use Rattle.ipx_laws.proofs.wires.FineOnWires.{Lasts, Flies, Arises, Good, Such}
 use Rattle.ipx_laws.proofs.wires.GoneOnWires.{ends, services_fine}
+use Rattle.ipx_laws.proofs.wires.PartsOfBeats.{beats_more}
 
 module _ (net : Internet) (most_routes most_services delay : ℕ) where
-  -- steps and beats go on
+  -- steps go on
   wires_on : (w : Wires) (steps : List WireStep) (step : WireStep)
       → wires_of net most_routes most_services delay w (steps ++ step ∷ []) ≡ wired net most_routes most_services delay (wires_of net most_routes most_services delay w steps) step
   wires_on w [] step = refl
   wires_on w (one ∷ steps) step = wires_on (wired net most_routes most_services delay w one) steps step
-
-  beats_on : (w : Wires) (beats : List (List WireStep)) (beat : List WireStep)
-      → beats_of net most_routes most_services delay w (beats ++ beat ∷ [])
-      ≡ beaten (wires_of net most_routes most_services delay (beats_of net most_routes most_services delay w beats) beat)
-  beats_on w [] beat = refl
-  beats_on w (steps ∷ beats) beat = beats_on (beaten (wires_of net most_routes most_services delay w steps)) beats beat
 
 module _ (net : Internet) (laws : Layouts) (is : IsInternet net) (most_routes most_services delay slack : ℕ) (first : Wires) (beats : List (List WireStep)) where
   abbrev pub Served : Service → Type 0
@@ -118,7 +112,7 @@ module _ (net : Internet) (laws : Layouts) (is : IsInternet net) (most_routes mo
           (λ now at number on. tt) (beats_by before) beat;
     },
     subst (λ (w : Wires). EachBeat net most_routes most_services delay (Such delay slack EveryNetwork Served net laws is most_routes most_services) w after)
-        (beats_on net most_routes most_services delay first before beat)
+        (beats_more net most_routes most_services delay first before (beat ∷ []))
         (beats_such (before ++ beat ∷ []) after (of_beats ∙ sym (append_assoc before (beat ∷ []) after)) apart.1),
   )
 

@@ -16,7 +16,7 @@ use Rattle.ipx_internet.proofs.ticks.TickCanBeHad.{seconds_more}
 use Rattle.ipx_internet.proofs.trees.RunIsALog.{histories_more}
 use Rattle.ipx_laws.specs.Wires.{Flight, Wires, WireStep, Occurs, Lands, as_step, flying, beaten, occurs, lands, wired, wires_of, beats_of, Along, EachBeat, IsBeat}
 use Rattle.ipx_laws.proofs.records.RecordsGrowOld.{passed}
-use Rattle.ipx_laws.proofs.ticks.BusyTickAfterTick.{passed_more, own_seconds, each_so}
+use Rattle.ipx_laws.proofs.ticks.EventOfOneRouter.{passed_more, own_seconds, each_so}
 use Rattle.ipx_laws.proofs.ticks.TickAfterTick.{second_there}
 
 -- what is so of each of a list is so of one that is found in it

@@ -26,7 +26,7 @@ use Rattle.ipx_laws.specs.Ups.{ups}
 use Rattle.ipx_laws.specs.Wires.{Flight, Wires, WireStep, Occurs, Lands, as_step, beaten, wired, wires_of, Along, EachBeat, EachWireStep, most_beats_flying}
 use Rattle.ipx_laws.proofs.packets.SentOnSaysTheSame.{of_packet, heard_message, message_heard, sent_on_message}
 use Rattle.ipx_laws.proofs.records.RecordsGrowOld.{passed}
-use Rattle.ipx_laws.proofs.ticks.BusyTickAfterTick.{passed_more}
+use Rattle.ipx_laws.proofs.ticks.EventOfOneRouter.{passed_more}
 use Rattle.ipx_laws.proofs.ticks.FineOrSoonEnded.{RouteSaid, EntrySaid, RipAsks, Asks, RipSaid, Said, Tells, EventTells, Abides, said_asks, abides_first, event_abides}
 use Rattle.ipx_laws.proofs.ticks.SaysFineOrSoonEnded.{EventAsks, tells_asks, event_tells}
 use Rattle.ipx_laws.proofs.wires.BeatAfterBeat.{Happening, Leaves, Sends, Keeps, StepsArise, AreSuch, arrival, along_then}

@@ -20,7 +20,7 @@ use Rattle.ipx_laws.specs.Meanwhile.{IsWithoutRoute, IsWithoutService, SaysOnly}
 use Rattle.ipx_laws.specs.Wires.{Wires, WireStep, flying, beats_of, KeepGone, AreBeats, EachWireStep, EachBeat, most_beats_gone, most_beats_flying}
 use Rattle.ipx_laws.proofs.records.RecordsGrowOld.{at_last}
 use Rattle.ipx_laws.proofs.ticks.FineOrSoonEnded.{IsFineService, abides_first}
-use Rattle.ipx_laws.proofs.ticks.GoneWhateverHappens.{EveryNetwork, EveryService, OtherNetwork, OtherService, routeless, serviceless, gone_stays}
+use Rattle.ipx_laws.proofs.ticks.HarmlessWords.{EveryNetwork, EveryService, OtherNetwork, OtherService, routeless, serviceless, gone_stays}
 use Rattle.ipx_laws.proofs.wires.BeatAfterBeat.{Going, beats_go, starts, each_all}
 use Rattle.ipx_laws.proofs.wires.FineOnWires.{Lasts, Flies, Arises, Good, Such, keeps, such_beats, any_flies}
 

@@ -44,7 +44,7 @@ use Rattle.ipx_laws.proofs.tables.LeastRouteSurvives.{EntryIs, foreign_keep, ent
 use Rattle.ipx_laws.proofs.tables.LeastWays.{IsNeighbour}
 use Rattle.ipx_laws.proofs.tables.NoRouteIsBetter.{there_where_up}
 use Rattle.ipx_laws.proofs.tables.SaysWhatItKnows.{Wants, StateFor, known_of, SourceOf}
-use Rattle.ipx_laws.proofs.ticks.BusyTickAfterTick.{own_seconds}
+use Rattle.ipx_laws.proofs.ticks.EventOfOneRouter.{own_seconds}
 use Rattle.ipx_laws.proofs.ticks.RealOrSoonEnded.{Reaches}
 use Rattle.ipx_laws.proofs.ticks.TickAfterTick.{second_there}
 use Rattle.ipx_laws.proofs.wires.BeatAfterBeat.{StepArises, along_first, found_at, step_goes, beat_goes, more_seconds}

@@ -7,16 +7,17 @@ ghost use Rattle.std.specs.Prelude.{◌≡◌, ◌≢◌, ℕ, ◌+◌, ◌<◌,
 ghost use Rattle.std.specs.List.{AllByRecursion};
 ghost use Rattle.ipx_wire.specs.declared.network.Network.{Network};
 ghost use Rattle.ipx_router.specs.History.{History};
+ghost use Rattle.ipx_router.specs.Numbers.{period};
 ghost use Rattle.ipx_router.specs.Port.{is_up};
-ghost use Rattle.ipx_internet.specs.Internet.{Internet, IsInternet};
+ghost use Rattle.ipx_internet.specs.Internet.{Internet, IsInternet, NodesDiffer};
 ghost use Rattle.ipx_internet.specs.Queue.{Delivery};
 ghost use Rattle.ipx_internet.specs.Rounds.{IsDelivery};
-ghost use Rattle.ipx_internet.specs.Run.{AreHistories};
+ghost use Rattle.ipx_internet.specs.Run.{Step, AreHistories, begun};
 ghost use Rattle.ipx_laws.specs.Announces.{AsksApart};
 ghost use Rattle.ipx_laws.specs.Apart.{TellsOnlyOf, IsRealApart, IsSettingBeside};
-ghost use Rattle.ipx_laws.specs.InTime.{AreHeardInTime, IsSlow, IsQuick, beats_right};
+ghost use Rattle.ipx_laws.specs.InTime.{AreHeardInTime, IsSlow, IsQuick, beats_right, IsInLockStep};
 ghost use Rattle.ipx_laws.specs.Least.{least_route};
-ghost use Rattle.ipx_laws.specs.Meanwhile.{IsWithoutRoute, IsWithoutService, TellsNoRoute, LeavesPorts, SaysOnly};
+ghost use Rattle.ipx_laws.specs.Meanwhile.{IsWithoutRoute, IsWithoutService, TellsNoRoute, LeavesPorts, SaysOnly, AreBusyTicks, AreTicksOfHosts};
 ghost use Rattle.ipx_laws.specs.Real.{IsReal};
 ghost use Rattle.ipx_laws.specs.Setting.{IsSetting};
 ghost use Rattle.ipx_laws.specs.Tables.{routes_of, IsRight, services_of};
@@ -160,6 +161,25 @@ pub fn right_on_wires()
         → AreHeardInTime net most_routes most_services delay window (ups net histories) (flying histories deliveries) beats → router < length net
         → most_beats_flying delay + beats_right delay window (least_route net (ups net histories) router network) ≤ length beats
         → IsRight net most_routes (beats_of net most_routes most_services delay (flying histories deliveries) beats).histories (ups net histories) router network }
+{
+    ipx_wire::laws::readings();
+    ipx_wire::laws::service_readings();
+    ipx_wire::laws::reread();
+    ipx_router::laws::packets();
+}
+
+/// Lock step is a case of this. From where nothing waits, busy ticks are beats: there are beats with the same steps, in which each delivery lands
+/// that is handed out, with a delay of 0, and in the end the same has happened to each router (`beats`). If ports stay as they are and nodes differ,
+/// routers are heard in time in such beats, with a window of 60 (`heard`): what a router advertises on a port all the time of any 60 of them, each router
+/// beside it hears in these.
+pub fn lock_step()
+    ensures beats { (net : Internet) (most_routes most_services : ℕ) (histories : List History) (ticks : List (List Step))
+        → AreBusyTicks net most_routes most_services (begun histories) ticks
+        → (beats : List (List WireStep)) × IsInLockStep net most_routes most_services histories ticks beats × AreBeats net beats }
+    ensures heard { (net : Internet) (most_routes most_services : ℕ) (histories : List History) (ticks : List (List Step))
+        → IsInternet net → NodesDiffer net → AreHistories net histories → AreTicksOfHosts net most_routes most_services (begun histories) ticks
+        → (beats : List (List WireStep)) × IsInLockStep net most_routes most_services histories ticks beats
+        × AreHeardInTime net most_routes most_services 0 period (ups net histories) (still histories) beats }
 {
     ipx_wire::laws::readings();
     ipx_wire::laws::service_readings();

@@ -1,8 +1,5 @@
-use Rattle.std.proofs.Common.{◌∷◌, length}
-use Rattle.ipx_internet.specs.Ticks.{ticked}
 use Rattle.ipx_internet.proofs.packets.SentOnOrReply.{Layouts}
 use Rattle.ipx_laws.proofs.laws.apart.real_apart.Goals as goal
-use Rattle.ipx_laws.proofs.ticks.AfterRest.{rests_beside}
 use Rattle.ipx_laws.proofs.ticks.RoutesBecomeReal.{all_real, all_on, none_over}
 
 -- the laws of packets and routers
@@ -29,16 +26,13 @@ layouts c = record {
 }
 
 pub returns-clause-routes : goal.returns-clause-routes
-returns-clause-routes c net most_routes most_services foreign run first ticks router is are calm long within =
-    all_real net (layouts c) is most_routes most_services run.histories foreign (length ticks) (ticked net most_routes most_services run (first ∷ ticks))
-    (rests_beside net (layouts c) is most_routes most_services foreign run first ticks are calm) router within long
+returns-clause-routes c net most_routes most_services foreign run first ticks router is are (rest, leaves, beside) long within =
+    all_real net (layouts c) is most_routes most_services foreign run first ticks are rest leaves beside router within long
 
 pub returns-clause-own_ports : goal.returns-clause-own_ports
-returns-clause-own_ports c net most_routes most_services foreign run first ticks router is are calm within =
-    all_on net (layouts c) is most_routes most_services run.histories foreign (length ticks) (ticked net most_routes most_services run (first ∷ ticks))
-    (rests_beside net (layouts c) is most_routes most_services foreign run first ticks are calm) router within
+returns-clause-own_ports c net most_routes most_services foreign run first ticks router is are (rest, leaves, beside) within =
+    all_on net (layouts c) is most_routes most_services foreign run first ticks are rest leaves beside router within
 
 pub returns-clause-down : goal.returns-clause-down
-returns-clause-down c net most_routes most_services foreign run first ticks router place is are calm long within down =
-    none_over net (layouts c) is most_routes most_services run.histories foreign (length ticks) (ticked net most_routes most_services run (first ∷ ticks))
-    (rests_beside net (layouts c) is most_routes most_services foreign run first ticks are calm) router within long place down
+returns-clause-down c net most_routes most_services foreign run first ticks router place is are (rest, leaves, beside) long within down =
+    none_over net (layouts c) is most_routes most_services foreign run first ticks are rest leaves beside router within long place down

@@ -15,7 +15,7 @@ use Rattle.ipx_laws.specs.Apart.{HasRoomBeside}
 use Rattle.ipx_laws.specs.Departure.{departures}
 use Rattle.ipx_laws.specs.Gone.{most_ticks_gone}
 use Rattle.ipx_laws.specs.Least.{AreCheap, HasRoom, FifteenSuffice, most_ticks_right}
-use Rattle.ipx_laws.specs.Meanwhile.{EachTick}
+use Rattle.ipx_laws.specs.Meanwhile.{AreCalmTicks}
 use Rattle.ipx_laws.specs.Setting.{IsSetting}
 use Rattle.ipx_laws.specs.Tables.{AreReal}
 use Rattle.ipx_laws.specs.Upkeep.{IsOfUpkeep, has, TablesStay, ServicesStay, steps_of, sent_by, all_pages}
@@ -26,7 +26,6 @@ use Rattle.ipx_laws.proofs.tables.AnyTablesBecomeRight.{from_any, from_real}
 use Rattle.ipx_laws.proofs.tables.AnEmptyList.{beside_none, real_beside}
 use Rattle.ipx_laws.proofs.tables.LeastWays.{ups_within}
 use Rattle.ipx_laws.proofs.tables.TablesAreRight.{parts_of}
-use Rattle.ipx_laws.proofs.ticks.GoneWhateverHappens.{each_then}
 use Rattle.ipx_laws.proofs.ticks.NoServiceInTicks.{NoService, stays_none, from_any as none_from_any, at_once}
 use Rattle.ipx_laws.proofs.ticks.TickAfterTick.{IsCalmTick, CalmTicks, Rests, calm_ticks, ticks_are_calm, rested}
 use Rattle.ipx_laws.proofs.upkeep.TablesStayInTicks.{tables_stay_in}
@@ -118,9 +117,11 @@ module _ (c : After-upkeep) (net : Internet) (most_routes most_services : ℕ) (
 
   -- ---- what is sent in a minute
 
-  module _ (all_calm : Calm (ticks ++ further)) where
+  module _ (all_calm : AreCalmTicks net most_routes most_services (begun histories) (ticks ++ further)) where
     abbrev both_calm : Calm ticks × CalmTicks net most_routes most_services [] run further
-    both_calm = parts_of net most_routes most_services (IsCalmTick net most_routes most_services []) (begun histories) ticks further all_calm
+    both_calm =
+        parts_of net most_routes most_services (IsCalmTick net most_routes most_services []) (begun histories) ticks further
+        (calm_ticks net most_routes most_services [] (begun histories) (ticks ++ further) all_calm)
 
     rests : Rests net (layouts c) is most_routes most_services (ups net histories) [] (length ticks) run
     rests = rested net (layouts c) is most_routes most_services (ups net histories) [] (begun histories) ticks are (λ router. refl) refl both_calm.0
@@ -134,13 +135,8 @@ module _ (c : After-upkeep) (net : Internet) (most_routes most_services : ℕ) (
         let on_now : is_up (ups net run.histories router) number ≡ true =
         subst (λ (us : List ℕ). is_up us number ≡ true) (sym (rests.routers router inside).ups) on in
         c.upkeep.ensures.pages net most_routes most_services run (steps_of further) router number is rests.are rests.quiet of_upkeep stay
-        (seconds_in net most_routes most_services router inside run further (all_busy run further both_calm.1) ∙ sixty) on_now
-      where
-        all_busy : (now : Run) (later : List (List Step)) → CalmTicks net most_routes most_services [] now later
-            → EachTick net most_routes most_services (IsBusyTick net most_routes most_services) now later
-        all_busy =
-            each_then net most_routes most_services (IsCalmTick net most_routes most_services []) (IsBusyTick net most_routes most_services)
-            (λ now steps tick. tick.busy)
+        (seconds_in net most_routes most_services router inside run further
+        (parts_of net most_routes most_services (IsBusyTick net most_routes most_services) (begun histories) ticks further all_calm.0.0).1 ∙ sixty) on_now
 
   -- ---- where nothing but ticks happens
 
@@ -187,13 +183,13 @@ returns-clause-alone_sooner c net most_routes most_services histories ticks furt
 pub returns-clause-minute : goal.returns-clause-minute
 returns-clause-minute c net most_routes most_services histories ticks further router number settings passes long sixty on =
     minute_then c net most_routes most_services histories ticks further settings
-    (calm c net most_routes most_services histories ticks further settings passes) router number
+    (ticks_are_calm net most_routes most_services (begun histories) (ticks ++ further) passes) router number
     (ticks_of_upkeep c net most_routes most_services histories ticks further settings passes) sixty on
     (alone_then c net most_routes most_services histories ticks further settings passes long)
 
 pub returns-clause-minute_meanwhile : goal.returns-clause-minute_meanwhile
 returns-clause-minute_meanwhile c net most_routes most_services histories ticks further router number settings calm of_upkeep sixty long on
     services =
-    let all_calm = calm_ticks net most_routes most_services [] (begun histories) (ticks ++ further) calm in
-    minute_then c net most_routes most_services histories ticks further settings all_calm router number of_upkeep sixty on
-    (stay_then c net most_routes most_services histories ticks further settings all_calm long services)
+    minute_then c net most_routes most_services histories ticks further settings calm router number of_upkeep sixty on
+    (stay_then c net most_routes most_services histories ticks further settings
+    (calm_ticks net most_routes most_services [] (begun histories) (ticks ++ further) calm) long services)
