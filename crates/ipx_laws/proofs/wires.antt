@@ -9,5 +9,7 @@ pub mod HomeOrOnward
 pub mod PartsOfBeats
 pub mod RealOnWires
 pub mod RightOnWires
+pub mod ServedOnWires
+pub mod ServicesOnWires
 pub mod SpokenOnWires
 pub mod WordsOnWires

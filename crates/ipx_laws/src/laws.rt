@@ -7,6 +7,7 @@ pub mod changes;
 mod costs;
 pub mod edges;
 pub mod services;
+mod wire_services;
 mod wires;
 
 ghost use Rattle.std.specs.Prelude.{◌≡◌, ◌≢◌, ℕ, ◌+◌, ◌<◌, ◌≤◌, true, false, List, [], ◌∷◌, ◌++◌, length, map, flat_map, Option, Some};
