@@ -6,10 +6,12 @@ pub mod FineOnWires
 pub mod GoneOnWires
 pub mod HeardOnWires
 pub mod HomeOrOnward
+pub mod KnownOnWires
 pub mod PartsOfBeats
 pub mod RealOnWires
 pub mod RightOnWires
 pub mod ServedOnWires
+pub mod ServiceHeardOnWires
 pub mod ServicesOnWires
 pub mod SpokenOnWires
 pub mod WordsOnWires

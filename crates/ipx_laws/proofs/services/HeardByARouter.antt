@@ -187,7 +187,7 @@ module _ (sought : Sought) where
   -- ---- a packet
 
   module _ (room : HasRoomFor net most_services names) (inside : r < length net) (listed : Listed sought (server.kind, server.name)) (Fresh : ℕ → Type 0) (newest : Fresh 0)
-      (delay slack begun had : ℕ) (late : had ≤ delay + begun) (long : slack + most_beats_gone delay ≤ had) (sure : slack + most_beats_gone delay ≤ begun)
+      (delay slack begun had : ℕ) (late : had ≤ delay + begun) (long : slack + most_beats_gone delay ≤ had) (sure : slack + most_beats_gone delay ≤ delay + begun)
       (number : ℕ) (bytes : List ℕ) (tells : (m : Heard) → message_of bytes ≡ Some m → Told net up server L delay slack W begun (at number) m) (history : History)
       (endures : Endures delay slack net up server L most_services r had history) where
     abbrev Fit : ServiceOffer → Type 0

@@ -198,7 +198,7 @@ module _ (sought : Sought) where
   there : (place : Place) → is_up (up place.router) place.port ≡ true → IsPlace net place
   there place on = holds_of (λ j. j < length (ports_of net place.router)) place.port (up place.router) (in_ports place.router) on
 
-  module _ (delay slack begun : ℕ) (long : slack + most_beats_gone delay ≤ begun) (number : ℕ) (on : is_up (up r) number ≡ true) (node : Node) (e : SapEntry)
+  module _ (delay slack begun : ℕ) (long : slack + most_beats_gone delay ≤ delay + begun) (number : ℕ) (on : is_up (up r) number ≡ true) (node : Node) (e : SapEntry)
       (said : EntrySaid net up server Listed delay slack Says begun (here number) node e) (name : List ℕ) (is : e.name ≡ Some name) where
     abbrev o : ServiceOffer
     o = service_offer number node e name
@@ -236,13 +236,13 @@ module _ (sought : Sought) where
           nearer : IsFewest net up server from.router n.less
           nearer = subst (λ (k : ℕ). IsFewest net up server k n.less) same_router n.nearer
 
-      by_who : SaidBy (g.port, g.node) → Who net up server Listed delay slack Says (here number) node (service_of e name) → Good o
+      pub by_who : SaidBy (g.port, g.node) → Who net up server Listed delay slack Says (here number) node (service_of e name) → Good o
       by_who (inl host) (inl announces) = of_host host announces
       by_who (inl host) (inr (from, reaches, from_node, says)) = grind arith
       by_who (inr n) (inl announces) = grind arith
       by_who (inr n) (inr (from, reaches, from_node, says)) = of_neighbour n from reaches from_node says
 
-    honest : IsOf server o.service → (g : ServiceOffer) → Good g → one_source (g.port, g.node) (number, node) ≡ true → Good o
+    pub honest : IsOf server o.service → (g : ServiceOffer) → Good g → one_source (g.port, g.node) (number, node) ≡ true → Good o
     honest of g good same = by_who of g (source_parts (g.port, g.node) (o.port, o.node) same) good.who (said.who name is of)
 
     pub steady : ◌≡◌ {A = ℕ × List ℕ} (e.kind, name) key

@@ -250,3 +250,21 @@ module _ (net : Internet) (up : ℕ → List ℕ) (server : Server) (Listed : �
         → Waits begun to s.bytes
     spoken_waits begun router s to reaches (inl own) = own_waits begun (at router s.port) to s.bytes (reaches own.0) own.1
     spoken_waits begun router s to reaches (inr silent) = silent_waits begun to s.bytes silent
+
+  -- what is told where routers say such words is told where they say what follows from them
+  module _ (delay slack : ℕ) (P Q : ℕ → Service → Type 0) (so : (router : ℕ) (s : Service) → P router s → Q router s) (begun : ℕ) (to : Place) where
+    who_so : (node : Node) (s : Service) → Who delay slack P to node s → Who delay slack Q to node s
+    who_so node s (inl announces) = inl announces
+    who_so node s (inr (from, reaches, same, says)) = inr (from, reaches, same, so from.router s says)
+
+    entry_so : (node : Node) (e : SapEntry) → EntrySaid delay slack P begun to node e → EntrySaid delay slack Q begun to node e
+    entry_so node e said = record { who = λ name named of. who_so node (service_of e name) (said.who name named of); fine = said.fine }
+
+    pub told_so : (m : Heard) → Told delay slack P begun to m → Told delay slack Q begun to m
+    told_so (HeardRip source rip) said = said
+    told_so (HeardSap source (Query nearest kind)) said = said
+    told_so (HeardSap source (SapResponse nearest entries)) said =
+        all_then (EntrySaid delay slack P begun to source.node) (EntrySaid delay slack Q begun to source.node) (entry_so source.node) entries said
+
+    pub waits_so : (bytes : List ℕ) → Waits delay slack P begun to bytes → Waits delay slack Q begun to bytes
+    waits_so bytes waits = record { tells = λ m e. told_so m (waits.tells m e); onward = waits.onward }
