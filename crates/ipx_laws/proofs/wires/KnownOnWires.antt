@@ -30,7 +30,7 @@ use Rattle.ipx_internet.proofs.packets.SentOnOrReply.{Layouts}
 use Rattle.ipx_internet.proofs.trees.RunIsALog.{router_there}
 use Rattle.ipx_laws.specs.InTime.{IsSlow, IsQuick}
 use Rattle.ipx_laws.specs.Meanwhile.{LeavesPorts, SaysOnly}
-use Rattle.ipx_laws.specs.Regular.{Announces, HasRoomFor, IsListedName, NoneNearer}
+use Rattle.ipx_laws.specs.Regular.{Announces, HaveOneVoice, HasRoomFor, IsListedName, NoneNearer}
 use Rattle.ipx_laws.specs.Servers.{Announcer, Server, IsOf, at_hops, known_of, SaysNoFalse, NamesOnly, IsAway, IsFewest}
 use Rattle.ipx_laws.specs.Ups.{ups}
 use Rattle.ipx_laws.specs.WireRegular.{NamesService, InSteps, InBeats, IsHostHeard, IsRouterHeard, AdvertisesService, AreHostsInTime, AreRoutersInTime, most_beats_known}
@@ -39,7 +39,7 @@ use Rattle.ipx_laws.proofs.lists.SomeElement.{AnyIs, any_then}
 use Rattle.ipx_laws.proofs.records.RecordsGrowOld.{at_last}
 use Rattle.ipx_laws.proofs.services.ExactWords.{IsNearer, Words, all_given, told_so, news_so, only_so, few}
 use Rattle.ipx_laws.proofs.services.FewestHops.{Link, neighbour, no_nearer, held_elsewhere}
-use Rattle.ipx_laws.proofs.services.HostsApart.{HostsApart}
+use Rattle.ipx_laws.proofs.services.HostsApart.{HostsApart, not_said}
 use Rattle.ipx_laws.proofs.services.KnownByFewestHops.{IsSaid, is_said}
 use Rattle.ipx_laws.proofs.services.NearestHost.{Sought, sought_of, SaidBy, OfNeighbour, Good}
 use Rattle.ipx_laws.proofs.services.ServiceIsTold.{told_there}
@@ -95,6 +95,45 @@ announces_names server host (HeardRip source rip) says = says
 announces_names server host (HeardSap source (Query nearest kind)) says = says
 announces_names server host (HeardSap source (SapResponse nearest entries)) (from_it, which, at_it) =
     (from_it, which, entry_of (at_hops server host.hops), at_it, server.name, refl, (refl, refl))
+
+-- ---- hosts are no routers
+
+module _ (net : Internet) (most_routes most_services delay : ℕ) (server : Server) where
+  -- no host has the node of a port where it is heard
+  not_heard : (host : Announcer) (to : Place) → (port_of net to).node ≡ host.node → (w : Wires) (step : WireStep)
+      → IsHostHeard net most_routes most_services delay server to host w step → ⊥
+  not_heard host to same w (Occurs router (Packet number bytes)) (there, on, m, heard, says) =
+      not_said net most_routes most_services server host to same (history_of w.histories to.router) bytes m heard says
+  not_heard host to same w (Occurs router Second) none = none
+  not_heard host to same w (Occurs router Start) none = none
+  not_heard host to same w (Occurs router Stop) none = none
+  not_heard host to same w (Occurs router (PortDown number)) none = none
+  not_heard host to same w (Occurs router (PortUp number)) none = none
+  not_heard host to same w (Lands which) none = none
+
+  pub hosts_apart : (window : ℕ) (up : ℕ → List ℕ) (w : Wires) (beats : List (List WireStep)) → HaveOneVoice server
+      → AreHostsInTime net most_routes most_services delay server window up w beats → window ≤ length beats → HostsApart net up server
+  hosts_apart window up w beats one_voice in_time long = record {
+    from_routers = λ which host place listed there on same.
+        in_beats_none net most_routes most_services delay (IsHostHeard net most_routes most_services delay server place host) (not_heard host place same) w front
+        (in_time which host place listed on there [] front back whole count);
+    one_voice = one_voice;
+  }
+    where
+      cut : (front : List (List WireStep)) × (back : List (List WireStep)) × (beats ≡ front ++ back) × (length front ≡ window)
+      cut = parted window beats long
+
+      front : List (List WireStep)
+      front = cut.0
+
+      back : List (List WireStep)
+      back = cut.1
+
+      whole : beats ≡ [] ++ front ++ back
+      whole = cut.2
+
+      count : length front ≡ window
+      count = cut.3
 
 module _ (delay slack : ℕ) (net : Internet) (laws : Layouts) (is : IsInternet net) (most_routes most_services : ℕ) (up : ℕ → List ℕ) (server : Server)
     (names : List (ℕ × List ℕ)) (apart : HostsApart net up server) (in_ports : (router : ℕ) → AllByRecursion (λ j. j < length (ports_of net router)) (up router))
@@ -187,6 +226,14 @@ module _ (delay slack : ℕ) (net : Internet) (laws : Layouts) (is : IsInternet 
       at_last service_reading service_order service_total most_services (map (λ p. p.service_share) (ports_of net router)) (λ s. s.service.hops) (λ s. refl) delay slack
       (IsFine net up server L router) (length front) (service_facts (ports_of net router) (history_of now.histories router)) long
       (going.routers router (length front) inside (omega arith) (omega arith)).services)
+
+  -- and histories are such
+  pub sound_in : (router : ℕ) → router < length net → (front : List (List WireStep)) (steps : List WireStep) (rest : List (List WireStep)) → beats ≡ front ++ steps ∷ rest
+      → slack + most_beats_gone delay ≤ length front
+      → Along net most_routes most_services delay (λ now. AreHistories net now.histories × AllFine router now) (at front) steps
+  sound_in router inside front steps rest parts long =
+      along_both net most_routes most_services delay (λ now. AreHistories net now.histories) (AllFine router) (at front) steps
+      (each_moment (λ now. AreHistories net now.histories) front steps rest parts (λ seconds now going. going.are)) (fine_in router inside front steps rest parts long)
 
   -- ---- where those that are nearer are right
 
