@@ -9,7 +9,8 @@ use Rattle.ipx_laws.specs.Wires.{still, flying, most_beats_flying, most_beats_go
 use Rattle.ipx_laws.proofs.laws.wire_services.beside_on_wires.Goals as goal
 use Rattle.ipx_laws.specs.WireRegular.{most_beats_known}
 use Rattle.ipx_laws.proofs.services.FewestHops.{no_nearer}
-use Rattle.ipx_laws.proofs.wires.KnownOnWires.{hosts_apart, beside_known}
+use Rattle.ipx_laws.proofs.wires.HeardInBeats.{hosts_apart}
+use Rattle.ipx_laws.proofs.wires.KnownOnWires.{beside_known}
 
 -- the laws of packets and routers
 layouts : goal.After-packets → Layouts

@@ -8,7 +8,8 @@ use Rattle.ipx_laws.specs.Tables.{services_of}
 use Rattle.ipx_laws.specs.Ups.{ups}
 use Rattle.ipx_laws.specs.Wires.{still, flying, beats_of, most_beats_flying}
 use Rattle.ipx_laws.proofs.laws.wire_services.everywhere_on_wires.Goals as goal
-use Rattle.ipx_laws.proofs.wires.KnownOnWires.{hosts_apart, known, known_last}
+use Rattle.ipx_laws.proofs.wires.HeardInBeats.{hosts_apart}
+use Rattle.ipx_laws.proofs.wires.KnownOnWires.{known, known_last}
 use Rattle.ipx_laws.proofs.wires.PartsOfBeats.{along_prefix}
 
 -- the laws of packets and routers

@@ -13,7 +13,8 @@ use Rattle.ipx_laws.specs.Wires.{Wires, still, beats_of, wires_of}
 use Rattle.ipx_laws.proofs.laws.wire_services.nearest_on_wires.Goals as goal
 use Rattle.ipx_laws.proofs.services.NearestIsAnswered.{answered_now}
 use Rattle.ipx_laws.proofs.services.SpokenOfAServer.{IsFine}
-use Rattle.ipx_laws.proofs.wires.KnownOnWires.{hosts_apart, known, sound_in}
+use Rattle.ipx_laws.proofs.wires.HeardInBeats.{hosts_apart}
+use Rattle.ipx_laws.proofs.wires.KnownOnWires.{known, sound_in}
 use Rattle.ipx_laws.proofs.wires.PartsOfBeats.{along_prefix}
 
 -- the laws of packets and routers
