@@ -28,8 +28,8 @@ ghost use Rattle.ipx_laws.specs.Wires.{WireStep, still, flying, wires_of, beats_
 /// there are, of nodes, costs or room, nor that anything be heard.
 pub fn served_on_wires()
     ensures real { (net : Internet) (most_routes most_services delay : ℕ) (server : Server) (histories : List History) (beats : List (List WireStep)) (router : ℕ)
-        → IsInternet net → AreHistories net histories → AreBeats net beats → EachWireStep LeavesPorts beats
-        → EachWireStep (SaysNoFalse net server) beats → most_beats_gone delay ≤ length beats → router < length net
+        → IsInternet net → AreHistories net histories → AreBeats net beats
+        → EachWireStep LeavesPorts beats → EachWireStep (SaysNoFalse net server) beats → most_beats_gone delay ≤ length beats → router < length net
         → AllByRecursion (λ s. IsOf server s.service → IsServed net (ups net histories) server router s)
         (services_of net most_services (beats_of net most_routes most_services delay (still histories) beats).histories router) }
     ensures away { (net : Internet) (most_routes most_services delay : ℕ) (server : Server) (histories : List History) (beats : List (List WireStep)) (router : ℕ)
