@@ -80,7 +80,8 @@ module _ (net : Internet) (most_routes most_services delay : ℕ) where
     AreRegularBeats window names up w beats =
         EachWireStep (SaysNoFalse net server) beats × EachWireStep (SaysOnly (NamesOnly (IsListedName names))) beats × AreHostsInTime window up w beats
 
--- the beats after which a router has a service whose fewest hops there are so many, where each host says that many hops at least: those after which
--- what is false of it is gone, a window in which hosts are heard, and for each hop more what still flies and a window in which neighbours are
+-- the beats after which a router has a service whose fewest hops there are so many, where each host says that many hops at least: those after
+-- which what is false of it is gone, a window in which hosts are heard, and for each hop more what still flies and a window in which
+-- neighbours are
 abbrev pub most_beats_known : (delay window nearest hops : ℕ) → ℕ
 most_beats_known delay window nearest hops = most_beats_gone delay + window + (hops - nearest) * (window + delay)

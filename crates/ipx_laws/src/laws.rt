@@ -38,6 +38,9 @@ ghost use Rattle.ipx_laws.specs.Ups.{ups};
 
 pub use crate::laws::apart::{arrives_apart, real_apart, right_apart};
 pub use crate::laws::costs::{tables_stay, upkeep};
+pub use crate::laws::wire_services::{
+    beside_on_wires, everywhere_on_wires, nearest_on_wires, served_on_wires,
+};
 pub use crate::laws::wires::{announced_on_wires, gone_on_wires, real_on_wires, right_on_wires};
 
 /// Over any run, no route goes back to where it was learned: no route that a router holds after an event, to a network that an

@@ -1,5 +1,5 @@
--- What a router has of a service while hosts and neighbours that say it with the fewest hops have still to be heard: it is young, or one of these has;
--- and a second or a packet leaves it so.
+-- What a router has of a service while hosts and neighbours that say it with the fewest hops have still to be heard: it is young, or one of
+-- these has; and a second or a packet leaves it so.
 use Rattle.std.proofs.Common.{◌≡◌, ◌≢◌, refl, sym, ap, ◌∙◌, subst, ◌⊎◌, ℕ, zero, suc, ◌+◌, ◌-◌, ◌*◌, ◌<◌, ◌≤◌, true, List, [], ◌∷◌, ◌++◌, length, Option, None, Some, option_map, inl, inr, arith, append-nil, is_eq, slice_get, get_or-set_same, get_or-set_other, rules}
 use Rattle.std.specs.List.{AllByRecursion}
 use Rattle.std.proofs.lemmas.Bool.{cases_Bool, cases_eq}

@@ -1,5 +1,5 @@
--- Over wires: what is so of one of the steps of some beats; and hosts that are heard in them, on every port of their network that is up, have the node
--- of none of these.
+-- Over wires: what is so of one of the steps of some beats; and hosts that are heard in them, on every port of their network that is up, have
+-- the node of none of these.
 use Rattle.std.proofs.Common.{◌≡◌, ◌≢◌, refl, sym, ap, ◌∙◌, subst, ◌⊎◌, ℕ, zero, suc, ◌+◌, ◌-◌, ◌*◌, ◌<◌, ◌≤◌, ◌==◌, Bool, true, false, List, [], ◌∷◌, ◌++◌, length, map, take, drop, Some, slice_get, inl, inr, arith, append_assoc, length-append, rules}
 use Rattle.std.specs.List.{AllByRecursion}
 use Rattle.std.proofs.Math.Nat.{mul-le-mul_right}
@@ -74,7 +74,8 @@ module _ (net : Internet) (most_routes most_services delay : ℕ) where
       → InBeats net most_routes most_services delay Is w beats → InBeats net most_routes most_services delay So w beats
   in_beats_so Is So so w [] none = none
   in_beats_so Is So so w (steps ∷ beats) found =
-      in_steps_so Is So (λ next. InBeats net most_routes most_services delay Is (beaten next) beats) (λ next. InBeats net most_routes most_services delay So (beaten next) beats)
+      in_steps_so Is So (λ next. InBeats net most_routes most_services delay Is (beaten next) beats) (λ next. InBeats net most_routes most_services delay So
+      (beaten next) beats)
       so (λ next later. in_beats_so Is So so (beaten next) beats later) w steps found
 
   in_steps_none : (Is : Wires → WireStep → Type 0) (Later : Wires → Type 0) → ((w : Wires) (step : WireStep) → Is w step → ⊥) → ((w : Wires) → Later w → ⊥)
@@ -87,7 +88,8 @@ module _ (net : Internet) (most_routes most_services delay : ℕ) where
       → InBeats net most_routes most_services delay Is w beats → ⊥
   in_beats_none Is never w [] found = found
   in_beats_none Is never w (steps ∷ beats) found =
-      in_steps_none Is (λ next. InBeats net most_routes most_services delay Is (beaten next) beats) never (λ next later. in_beats_none Is never (beaten next) beats later) w steps found
+      in_steps_none Is (λ next. InBeats net most_routes most_services delay Is (beaten next) beats) never (λ next later. in_beats_none Is never
+      (beaten next) beats later) w steps found
 
 -- who announces it names it
 pub announces_names : (server : Server) (host : Announcer) (m : Heard) → Announces server host m → NamesService server host.node m

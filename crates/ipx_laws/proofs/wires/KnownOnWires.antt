@@ -1,5 +1,5 @@
--- Over wires each router comes to have a service with the fewest hops of all its ways there: by induction on these hops, what still flies and a window
--- for each; and at each moment of the beats that follow.
+-- Over wires each router comes to have a service with the fewest hops of all its ways there: by induction on these hops, what still flies and
+-- a window for each; and at each moment of the beats that follow.
 use Rattle.std.proofs.Common.{◌≡◌, ◌≢◌, refl, sym, ap, ◌∙◌, subst, ◌⊎◌, ℕ, zero, suc, ◌+◌, ◌-◌, ◌*◌, ◌<◌, ◌≤◌, ◌==◌, Bool, true, false, List, [], ◌∷◌, ◌++◌, length, map, take, drop, Some, slice_get, inl, inr, arith, append_assoc, length-append, rules}
 use Rattle.std.specs.List.{AllByRecursion}
 use Rattle.std.proofs.Math.Nat.{mul-le-mul_right}
@@ -129,7 +129,8 @@ module _ (delay slack : ℕ) (net : Internet) (laws : Layouts) (is : IsInternet 
       (keeps delay slack net laws is most_routes most_services up server L AnyHistory AnyWord (nothing_more delay slack net laws is most_routes most_services up server L))
       Is (length front + 0) so steps (at front) (λ router. 0) (beat_is front steps rest parts).happens (record {
         arise =
-            steps_arise delay slack net laws is most_routes most_services up server L AnyHistory AnyWord (at front) steps (rest_of front (steps ∷ rest) parts StepsLeave leave).0
+            steps_arise delay slack net laws is most_routes most_services up server L AnyHistory AnyWord (at front) steps (rest_of front
+            (steps ∷ rest) parts StepsLeave leave).0
             (rest_of front (steps ∷ rest) parts StepsSay say).0 (rest_of front (steps ∷ rest) parts StepsName named).0;
         good = along_all net most_routes most_services delay (λ now. (router : ℕ) → router < length net → Unit {0}) (λ now router inside. tt) (at front) steps;
       }) (reals front (steps ∷ rest) parts)
@@ -235,7 +236,8 @@ module _ (delay slack : ℕ) (net : Internet) (laws : Layouts) (is : IsInternet 
           good_in =
               each_at net most_routes most_services delay GoodBeat (flying histories deliveries) front part (λ earlier steps later e.
               let sum = length-append front earlier in
-              moments (front ++ earlier) steps (later ++ rest) (parts ∙ ap (λ (p : List (List WireStep)). front ++ (p ++ rest)) e ∙ ap (λ (p : List (List WireStep)). front ++ p)
+              moments (front ++ earlier) steps (later ++ rest) (parts ∙ ap (λ (p : List (List WireStep)). front ++ (p ++ rest)) e ∙ ap (λ (p : List
+              (List WireStep)). front ++ p)
               (append_assoc earlier (steps ∷ later) rest) ∙ sym (append_assoc front earlier (steps ∷ (later ++ rest)))) (omega (arith, late, sum)))
 
           such_in : EachBeat net most_routes most_services delay SuchOnes (at front) part
@@ -274,7 +276,8 @@ module _ (delay slack : ℕ) (net : Internet) (laws : Layouts) (is : IsInternet 
         going : (before after : List (List WireStep)) → rest ≡ before ++ after → Going (length before + start) (λ router. 0) (at (zeroth ++ before))
         going before after same =
             let part = parts ∙ ap (λ (r : List (List WireStep)). zeroth ++ r) same in
-            subst (λ (v : Wires). Going (length before + start) (λ router. 0) v) (sym (beats_more net most_routes most_services delay (flying histories deliveries) zeroth before))
+            subst (λ (v : Wires). Going (length before + start) (λ router. 0) v) (sym (beats_more net most_routes most_services delay
+            (flying histories deliveries) zeroth before))
             (beats_go net laws is most_routes most_services delay Lasting Fl Rises GoodOnes
             (keeps delay slack net laws is most_routes most_services up server L F Says extras) start before (at zeroth)
             (of_part zeroth before after part (IsBeat net) all) (such_in zeroth before after part (omega (arith, count))) stage)
@@ -397,7 +400,8 @@ module _ (delay slack : ℕ) (net : Internet) (laws : Layouts) (is : IsInternet 
               (host_heard s announcer refl) (at behind) cut.inside
               (hosts host.which announcer (here s.0) host.listed on refl behind cut.inside rest as_window cut.wide)
           heard s (inr n, on) =
-              in_beats_so net most_routes most_services delay (IsRouterHeard net most_routes most_services delay server (here s.0) s.1) (Heard_at s) (router_heard s) (at behind)
+              in_beats_so net most_routes most_services delay (IsRouterHeard net most_routes most_services delay server (here s.0) s.1) (Heard_at s)
+              (router_heard s) (at behind)
               cut.inside (neighbours behind cut.inside rest as_window cut.wide flushed_behind s n)
 
           abbrev then_at : Wires
@@ -513,7 +517,8 @@ module _ (delay slack : ℕ) (net : Internet) (laws : Layouts) (is : IsInternet 
         neighbours : Neighbours far reached unlike moments r within fewest
         neighbours before inside after whole wide enough s n =
             let link = n.link in
-            subst (λ (node : Node). InBeats net most_routes most_services delay (IsRouterHeard net most_routes most_services delay server (record { router = r; port = s.0 }) node)
+            subst (λ (node : Node). InBeats net most_routes most_services delay (IsRouterHeard net most_routes most_services delay server
+            (record { router = r; port = s.0 }) node)
             (at before) inside) (sym n.node)
             (routers n.from (record { router = r; port = s.0 }) before inside after link.there link.here (λ same. link.other (sym same)) (sym link.network) whole wide
             (each_at net most_routes most_services delay (Along net most_routes most_services delay (AdvertisesService net most_routes most_services delay server n.from))
@@ -523,7 +528,8 @@ module _ (delay slack : ℕ) (net : Internet) (laws : Layouts) (is : IsInternet 
             ∙ ap (λ (p : List (List WireStep)). before ++ p) (append_assoc earlier (steps ∷ later) after) ∙ sym (append_assoc before earlier (steps ∷ (later ++ after))) in
             along_then net most_routes most_services delay (λ now. Right far reached unlike now × AllFine n.from.router now)
             (AdvertisesService net most_routes most_services delay server n.from)
-            (λ now both. advertises s.0 n.less n.from n.more link n.nearer now both.1 (both.0 n.from.router there (record { hops = n.less; near = less; fewest = n.nearer })))
+            (λ now both. advertises s.0 n.less n.from n.more link n.nearer now both.1 (both.0 n.from.router there
+            (record { hops = n.less; near = less; fewest = n.nearer })))
             (at (before ++ earlier)) steps
             (along_both net most_routes most_services delay (Right far reached unlike) (AllFine n.from.router) (at (before ++ earlier)) steps
             (moments (before ++ earlier) steps (later ++ after) parts (omega (arith, sum, enough)))
@@ -533,7 +539,8 @@ module _ (delay slack : ℕ) (net : Internet) (laws : Layouts) (is : IsInternet 
             less = let more = n.more in omega (arith, more)
 
             there : n.from.router < length net
-            there = router_there net n.from.router n.from.port (holds_of (λ j. j < length (ports_of net n.from.router)) n.from.port (up n.from.router) (in_ports n.from.router) n.link.there)
+            there =
+                router_there net n.from.router n.from.port (holds_of (λ j. j < length (ports_of net n.from.router)) n.from.port (up n.from.router) (in_ports n.from.router) n.link.there)
 
       known_next : Known far
       known_next front steps rest parts late router within fewest =

@@ -1,5 +1,5 @@
--- A router has a service with its fewest hops after beats in which all were heard that say it so, where those that are nearer were right; and at each
--- moment of the beat that follows.
+-- A router has a service with its fewest hops after beats in which all were heard that say it so, where those that are nearer were right; and
+-- at each moment of the beat that follows.
 use Rattle.std.proofs.Common.{◌≡◌, ◌≢◌, refl, sym, ap, ◌∙◌, subst, ◌⊎◌, ℕ, suc, ◌+◌, ◌-◌, ◌*◌, ◌<◌, ◌≤◌, nat_le, Bool, true, false, if◌then◌else◌, List, [], ◌∷◌, ◌++◌, length, map, Option, None, Some, slice_get, inl, inr, arith, get_or-set_same, get_or-set_other}
 use Rattle.std.specs.List.{AllByRecursion}
 use Rattle.std.proofs.lemmas.Bool.{cases_eq, leb-true, leb-false}
@@ -368,7 +368,8 @@ module _ (delay slack : ℕ) (sought : Sought) (laws : Layouts) (is : IsInternet
         let now_state = step_tracks beats seconds now going enough long top step are.0 such.arise.0 (omega (arith, sum, young)) (WaitsIn After next steps)
         (by_passes top top (WaitsIn After now (step ∷ steps)) (λ s. HeardBy now step s ⊎ WaitsIn After next steps s) (history_of now.histories r) (omega arith)
         (λ s waits. parted After now step steps s waits) state) in
-        let later = steps_track beats enough long steps next (λ router. seconds_of router (as_step step ∷ []) + seconds router) (seconds_of r (as_step step ∷ []) + top) are.1
+        let later = steps_track beats enough long steps next (λ router. seconds_of router (as_step step ∷ []) + seconds router) (seconds_of r
+        (as_step step ∷ []) + top) are.1
         (record { arise = such.arise.1; good = such.good.1 }) (next_goes beats now seconds step steps are.0 such going) (omega (arith, sum, young)) After now_state in
         let total : seconds_of r (map as_step steps) + (seconds_of r (as_step step ∷ []) + top) ≡ seconds_of r (map as_step (step ∷ steps)) + top = omega (arith, sum) in
         subst (λ (n : ℕ). At n (λ s. Sayer s × After s (wires_of net most_routes most_services delay next steps))
@@ -419,15 +420,18 @@ module _ (delay slack : ℕ) (sought : Sought) (laws : Layouts) (is : IsInternet
           (λ s next. InBeats net most_routes most_services delay (IsHeardAt s) (beaten next) beats) state in
           let older = by_passes (seconds_of r (map as_step steps) + top) (fastest + top) (WaitsBeats next beats) (WaitsBeats next beats)
           (history_of next.histories r) (omega (arith, most)) (λ s waits. waits) after in
-          let going_on = beat_goes net laws is most_routes most_services delay (Lasts delay slack net laws is most_routes most_services up server L F X) AllFly Rises GoodOnes
+          let going_on = beat_goes net laws is most_routes most_services delay
+          (Lasts delay slack net laws is most_routes most_services up server L F X) AllFly Rises GoodOnes
           (keeps delay slack net laws is most_routes most_services up server L F X extras) so_far steps now are.0 such.0 going in
           let sum : length beats * fastest + (fastest + top) ≡ length (steps ∷ beats) * fastest + top = omega (arith, total) in
           subst (λ (n : ℕ). At n (λ s. ⊥) (beats_of net most_routes most_services delay next beats)) sum
-          (beats_track (suc so_far) (omega (arith, enough)) (omega (arith, long)) beats next (fastest + top) are.1 slow.1 such.1 going_on (omega (arith, young, total)) older)
+          (beats_track (suc so_far) (omega (arith, enough)) (omega (arith, long)) beats next (fastest + top) are.1 slow.1 such.1 going_on (omega
+          (arith, young, total)) older)
 
       -- a window in which each of them is heard
       module _ (so_far : ℕ) (enough : start + delay ≤ so_far) (long : slack + most_beats_gone delay ≤ so_far) (window : List (List WireStep)) (now : Wires)
-          (are : AllByRecursion (IsBeat net) window) (slow : AllByRecursion (IsSlow net fastest) window) (such : EachBeat net most_routes most_services delay SuchBeat now window)
+          (are : AllByRecursion (IsBeat net) window) (slow : AllByRecursion (IsSlow net fastest) window)
+          (such : EachBeat net most_routes most_services delay SuchBeat now window)
           (going : GoesOn so_far (λ router. 0) now) (quick : suc (length window) * fastest < lifetime)
           (in_time : (s : Source sought) → Sayer s → InBeats net most_routes most_services delay (IsHeardAt s) now window)
           (first : ServiceOffer) (good : Good sought first) where

@@ -1,5 +1,5 @@
--- What flies while hosts announce a service and ports stay as they are: what a router says of it, which was so when it was sent; what doesn't name
--- it; and what flew at first, which is over soon.
+-- What flies while hosts announce a service and ports stay as they are: what a router says of it, which was so when it was sent; what doesn't
+-- name it; and what flew at first, which is over soon.
 use Rattle.std.proofs.Common.{◌≡◌, refl, sym, ◌∙◌, subst, ◌⊎◌, ℕ, suc, ◌+◌, ◌<◌, ◌≤◌, List, [], ◌∷◌, ◌++◌, length, map, flat_map, Option, None, Some, IfSome, inl, inr, arith, get_or-set_same}
 use Rattle.std.specs.List.{AllByRecursion}
 use Rattle.ipx_table.specs.Facts.{Fact, Offered}
@@ -159,7 +159,8 @@ module _ (delay slack : ℕ) (net : Internet) (laws : Layouts) (is : IsInternet 
         record {
           services =
               subst (λ (fs : List (Fact ServiceOffer)). AgedSo fs) (sym (facts_from-more (service_facts_of ports) [] history (Packet number bytes)))
-              (after_offers service_reading service_order service_total most_services (map (λ p. p.service_share) ports) (λ s. s.service.hops) (λ s. refl) delay slack fine had
+              (after_offers service_reading service_order service_total most_services (map (λ p. p.service_share) ports) (λ s. s.service.hops)
+              (λ s. refl) delay slack fine had
               (services_heard number (heard_after ports history number bytes)) (service_facts ports history)
               (any_old number (heard_after ports history number bytes)) endures.services);
           ups = ports_stay ports history (Packet number bytes) refl refl (λ port. refl) (λ port. refl) ∙ endures.ups;
@@ -335,7 +336,11 @@ module _ (delay slack : ℕ) (net : Internet) (laws : Layouts) (is : IsInternet 
       outside_sends Second place outside = second_sends beats histories router place
       outside_sends (Packet number bytes) place outside =
           let waits = since_now number bytes outside in
-          packet_sends beats histories (record { to = record { router = router; port = number }; bytes = bytes }) place (record { place = place.on; bytes = place.of_bytes })
+          packet_sends beats histories (record {
+            to =
+                record { router = router; port = number };
+            bytes = bytes;
+          }) place (record { place = place.on; bytes = place.of_bytes })
           (λ m e. told_asks net up server Listed delay slack (Says beats) (suc beats) (own_port router number) m (waits.tells m e)) waits.onward
       outside_sends Start place outside = absurd outside
       outside_sends Stop place outside = absurd outside
