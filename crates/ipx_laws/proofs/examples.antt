@@ -16,6 +16,7 @@ pub mod Neighbours
 pub mod Premises
 pub mod Rights
 pub mod Servers
+pub mod Spreading
 pub mod Staying
 pub mod Telling
 pub mod Ticks

@@ -3,6 +3,7 @@ pub mod BesideHosts
 pub mod ExactWords
 pub mod FewestHops
 pub mod HeardAtAStep
+pub mod HeardByARouter
 pub mod HeardInAMinute
 pub mod HostTickAfterTick
 pub mod HostsApart

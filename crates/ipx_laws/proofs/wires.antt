@@ -6,10 +6,15 @@ pub mod FineOnWires
 pub mod GoneOnWires
 pub mod HeardInLockStep
 pub mod HeardOnWires
+pub mod HeardInBeats
 pub mod HomeOrOnward
+pub mod KnownOnWires
 pub mod LockStep
 pub mod PartsOfBeats
 pub mod RealOnWires
 pub mod RightOnWires
+pub mod ServedOnWires
+pub mod ServiceHeardOnWires
+pub mod ServicesOnWires
 pub mod SpokenOnWires
 pub mod WordsOnWires

@@ -35,3 +35,5 @@ pub mod Wires
 pub mod WireAnnounces
 -- InTime
 pub mod InTime
+-- WireRegular
+pub mod WireRegular

@@ -7,6 +7,7 @@ pub mod changes;
 mod costs;
 pub mod edges;
 pub mod services;
+mod wire_services;
 mod wires;
 
 ghost use Rattle.std.specs.Prelude.{◌≡◌, ◌≢◌, ℕ, ◌+◌, ◌<◌, ◌≤◌, true, false, List, [], ◌∷◌, ◌++◌, length, map, flat_map, Option, Some};
@@ -37,6 +38,9 @@ ghost use Rattle.ipx_laws.specs.Ups.{ups};
 
 pub use crate::laws::apart::{arrives_apart, real_apart, right_apart};
 pub use crate::laws::costs::{tables_stay, upkeep};
+pub use crate::laws::wire_services::{
+    beside_on_wires, everywhere_on_wires, nearest_on_wires, served_on_wires,
+};
 pub use crate::laws::wires::{
     announced_on_wires, gone_on_wires, lock_step, real_on_wires, right_on_wires,
 };

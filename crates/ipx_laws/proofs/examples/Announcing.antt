@@ -84,19 +84,19 @@ each_of P of_one (steps ∷ ticks) ones = (of_one steps ones.0, each_of P of_one
 
 -- ---- where the host is heard
 
-abbrev host : Announcer
+abbrev pub host : Announcer
 host = record { network = network 0x10; node = node 0xAA; hops = 1 }
 
 abbrev message : Heard
 message = HeardSap (own_services (port_on 0x10 0xAA)) (Response false (entry_of (at_hops (server 0x10) 1) ∷ []))
 
 -- by a router that runs, with both ports up
-heard_so : heard (ports_of segment 0) (0 ∷ 1 ∷ []) true 0 (said 0x10) ≡ Some message
+pub heard_so : heard (ports_of segment 0) (0 ∷ 1 ∷ []) true 0 (said 0x10) ≡ Some message
 unfolding header_bytes address_bytes network_bytes service_bytes name_field packet_of header_at address_at items network_at entry_bytes entry_at rip_of sap_of sap_entry_at name_of
 heard_so = refl
 
 -- the only port on its network
-the_port : (router port : ℕ) → (network_of segment (at router port)).0 ≡ 0x10 → at router port ≡ at 0 0
+pub the_port : (router port : ℕ) → (network_of segment (at router port)).0 ≡ 0x10 → at router port ≡ at 0 0
 the_port router port e = grind arith
 
 pub setting : IsServiceSetting segment 8 start.histories names (server 0x10)

@@ -62,7 +62,7 @@ quick = omega arith
 -- ---- who is heard
 
 -- one beat has one window of one beat
-one_window : {X : Type 0} (x : X) (before within after : List X) → x ∷ [] ≡ before ++ within ++ after → length within ≡ 1 → (before ≡ []) × (within ≡ x ∷ [])
+pub one_window : {X : Type 0} (x : X) (before within after : List X) → x ∷ [] ≡ before ++ within ++ after → length within ≡ 1 → (before ≡ []) × (within ≡ x ∷ [])
 one_window x [] [] after parts wide = absurd (omega (arith, wide))
 one_window x [] (y ∷ []) after parts wide =
     (refl, ap (λ (xs : List _). elim xs [ [] ↦ y ∷ [] | ◌∷◌ z zs ↦ z ∷ [] ]) (sym parts))

@@ -53,7 +53,7 @@ one_name a b e = by (nat_cmp a.0 b.0) refl
 -- ---- lists
 
 -- what holds for each of something
-all_given : {A X : Type 0} (P : A → X → Type 0) (xs : List X) → ((a : A) → AllByRecursion (P a) xs) → AllByRecursion (λ x. (a : A) → P a x) xs
+pub all_given : {A X : Type 0} (P : A → X → Type 0) (xs : List X) → ((a : A) → AllByRecursion (P a) xs) → AllByRecursion (λ x. (a : A) → P a x) xs
 all_given P [] all = tt
 all_given P (x ∷ xs) all = ((λ a. (all a).0), all_given P xs (λ a. (all a).1))
 
@@ -107,7 +107,7 @@ module _ (server : Server) where
             (only_found (λ x. is_of x.offer) records h few is)))
 
     -- what a router has of it is what is known
-    only_so : (s : Service) → known_of server held_now ≡ Some s → AllByRecursion (λ o. IsOf server o.service → o.service ≡ s) held_now
+    pub only_so : (s : Service) → known_of server held_now ≡ Some s → AllByRecursion (λ o. IsOf server o.service → o.service ≡ s) held_now
     only_so s is_known = by (find is_of held_now) refl is_known
       where
         by : (k : Option ServiceOffer) → find is_of held_now ≡ k → option_map (λ o. o.service) k ≡ Some s
@@ -132,7 +132,7 @@ module _ (server : Server) where
     farther_so : (s : ServiceOffer) → Is s → So (farther s.service)
     farther_so s one of = grind arith
 
-    told_so : (j : ℕ) → AllByRecursion So (told_services services j)
+    pub told_so : (j : ℕ) → AllByRecursion So (told_services services j)
     told_so j =
         all_sorted So name_before (map (λ s. farther s.service) (filter (is_service_told j) services))
         (all-map Is So (λ s. farther s.service) farther_so (filter (is_service_told j) services) (all-filter Is (is_service_told j) services only))
@@ -161,7 +161,7 @@ module _ (server : Server) where
         subst (λ (x : ℕ × List ℕ). find (λ o. is_eq (service_order (o.service.kind, o.service.name) x)) services ≡ None) same none in
         nothing (sym (ap (option_map (λ o. o.service)) gone) ∙ is_known)
 
-    news_so : (before : List ServiceOffer) (j : ℕ) → AllByRecursion So (news_services before services j)
+    pub news_so : (before : List ServiceOffer) (j : ℕ) → AllByRecursion So (news_services before services j)
     news_so before j =
         all-flat_map Said So (service_told j) (λ c said. said) (changes (λ s. (s.service.kind, s.service.name)) service_order same_service before services)
         (all-filter Said (differs (λ s. (s.service.kind, s.service.name)) service_order same_service)
@@ -212,7 +212,7 @@ module _ (net : Internet) (up : ℕ → List ℕ) (server : Server) (most_servic
   NearerRight histories =
       (router : ℕ) → router < length net → (nearer : IsNearer router) → known_of server (services_of net most_services histories router) ≡ Some (at_hops server nearer.hops)
 
-  few : (router : ℕ) (nearer : IsNearer router) → suc nearer.hops < unreachable
+  pub few : (router : ℕ) (nearer : IsNearer router) → suc nearer.hops < unreachable
   few router nearer = grind arith
 
   pub exact : AreExact net most_services Words NearerRight

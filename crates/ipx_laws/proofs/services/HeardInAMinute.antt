@@ -41,6 +41,7 @@ use Rattle.ipx_laws.proofs.packets.SentOnSaysTheSame.{heard_message}
 use Rattle.ipx_laws.proofs.records.BestIsKept.{State, Comes, known, offers_keep, offers_come, second_keeps}
 use Rattle.ipx_laws.proofs.records.RecordsGrowOld.{IsWithin}
 use Rattle.ipx_laws.proofs.services.ExactWords.{one_name, Words, NearerRight, exact}
+use Rattle.ipx_laws.proofs.services.HeardByARouter.{StateOf, MissingOf, right_then, passes_by, second_goes, packet_goes}
 use Rattle.ipx_laws.proofs.services.HeardAtAStep.{Hears, FirstHears, IsHeardAt, HeardWithin, HeardWithinTicks, AtEach, at_first}
 use Rattle.ipx_laws.proofs.services.HostTickAfterTick.{Going, Rests, begins, step_goes, tick_rests, ticks_rest, outside_waits}
 use Rattle.ipx_laws.proofs.services.HostsApart.{HostsApart}
@@ -65,28 +66,12 @@ module _ (net : Internet) (laws : Layouts) (is : IsInternet net) (most_routes mo
   abbrev Source : Type 0
   Source = ℕ × Node
 
-  abbrev K : ℕ × List ℕ
-  K = key sought
-
-  abbrev one : (k : ℕ × List ℕ) → is_eq (service_order k K) ≡ true → k ≡ K
-  one k = one_name k K
-
-  abbrev ss : List ℕ
-  ss = shares sought
-
-  abbrev R : ServiceOffer → Type 0
-  R = Real sought
-
   abbrev pub G : ServiceOffer → Type 0
   G = Good sought
-
-  abbrev Of : Source → ServiceOffer → Type 0
-  Of = GoodOf sought
 
   abbrev L : ℕ × List ℕ → Type 0
   L = Listed sought
 
-  -- what routers say that are nearer, as long as they are right
   abbrev W : ℕ → Service → Type 0
   W = Words net up server most_services hops reached
 
@@ -99,25 +84,17 @@ module _ (net : Internet) (laws : Layouts) (is : IsInternet net) (most_routes mo
   abbrev pub Surely : Run → List Step → Type 0
   Surely run steps = AtEach net most_routes most_services server (λ now. N now.histories) run steps
 
-  abbrev By : Source → Type 0
-  By = SaidBy sought
-
   abbrev at : ℕ → Place
   at port = here sought port
 
   abbrev pub host : Source → Announcer
   host = host_of sought
 
-  abbrev pub known_now : List (Fact ServiceOffer) → Option (Held ServiceOffer)
-  known_now = known service_reading service_order service_total most_services ss K one R Of
-
   abbrev pub S : (ℕ → Type 0) → (Source → Type 0) → Type 0 → List (Fact ServiceOffer) → Type 0
-  S Fresh Late Later facts =
-      State service_reading service_order service_total most_services ss K one R Of (λ s age. Fresh age) (λ s age. Late s) Later (λ o. Unit {0}) (known_now facts)
+  S Fresh Late Later facts = StateOf sought Fresh Late Later facts
 
-  -- the service may be missing while one of the hosts has still to be heard
   abbrev pub Missing : (Source → Type 0) → Type 0
-  Missing Late = (g : ServiceOffer) × G g × Late (g.port, g.node)
+  Missing Late = MissingOf sought Late
 
   -- the router has it with those hops
   abbrev pub IsRight : Run → Type 0
@@ -125,58 +102,7 @@ module _ (net : Internet) (laws : Layouts) (is : IsInternet net) (most_routes mo
 
   -- once nobody has still to be heard
   right_now : (Fresh : ℕ → Type 0) (run : Run) → S Fresh (λ s. ⊥) (Missing (λ s. ⊥)) (service_facts ports (history_of run.histories r)) → IsRight run
-  right_now Fresh run state = elim state.holds [
-    | inr missing ↦ absurd missing.2
-    | inl held ↦
-        ap (option_map (λ s. s.service))
-        (among_alive service_reading service_order service_total most_services ss K (service_facts ports (history_of run.histories r))
-        ∙ ap (option_map (λ h. h.offer)) held.2)
-        ∙ ap (λ (s : Service). Some s) held.3.0.said
-  ]
-
-  -- ---- from step to step
-
-  -- what is heard now needn't be waited for
-  moves : (Fresh : ℕ → Type 0) (Before After Now : Source → Type 0) (facts : List (Fact ServiceOffer)) → ((s : Source) → Before s → Now s ⊎ After s)
-      → S Fresh Before (Missing Before) facts
-      → ((g : ServiceOffer) → G g → Now (g.port, g.node) → S Fresh (λ s. Before s × (s ≢ (g.port, g.node))) ⊥ facts)
-      → S Fresh After (Missing After) facts
-  moves Fresh Before After Now facts split state comes = record {
-    aged = λ h s e good. elim (state.aged h s e good) [
-      | inl young ↦ inl young
-      | inr late ↦ elim (split s late) [
-        | inr later ↦ inr later
-        | inl now ↦ elim ((comes h.offer good.0 (subst Now (sym good.1) now)).aged h s e good) [
-          | inl young ↦ inl young
-          | inr both ↦ absurd (both.1 (sym good.1))
-        ]
-      ]
-    ];
-    holds = elim state.holds [
-      | inl held ↦ inl held
-      | inr missing ↦ elim (split (missing.0.port, missing.0.node) missing.2) [
-        | inr later ↦ inr (missing.0, missing.1, later)
-        | inl now ↦ elim (comes missing.0 missing.1 now).holds [
-          | inl held ↦ inl held
-          | inr none ↦ absurd none
-        ]
-      ]
-    ];
-  }
-
-  -- nothing that counts is heard
-  passes_by : (Fresh Then : ℕ → Type 0) (Before After : Source → Type 0) (facts : List (Fact ServiceOffer)) → ((age : ℕ) → Fresh age → Then age)
-      → ((s : Source) → Before s → After s) → S Fresh Before (Missing Before) facts → S Then After (Missing After) facts
-  passes_by Fresh Then Before After facts grows still state = record {
-    aged = λ h s e good. elim (state.aged h s e good) [
-      | inl young ↦ inl (grows h.age young)
-      | inr late ↦ inr (still s late)
-    ];
-    holds = elim state.holds [
-      | inl held ↦ inl held
-      | inr missing ↦ inr (missing.0, missing.1, still (missing.0.port, missing.0.node) missing.2)
-    ];
-  }
+  right_now Fresh run state = right_then sought Fresh (history_of run.histories r) state
 
   -- so many seconds of a tick are left, and so old may it be at its end
   abbrev pub Young : ℕ → ℕ → ℕ → Type 0
@@ -186,162 +112,10 @@ module _ (net : Internet) (laws : Layouts) (is : IsInternet net) (most_routes mo
     abbrev Q : ℕ → (Source → Type 0) → History → Type 0
     Q left Late history = S (Young top left) Late (Missing Late) (service_facts ports history)
 
-    -- ---- a second
-
     second_own : (rest : ℕ) (Late : Source → Type 0) (history : History) → Q (suc rest) Late history → Q rest Late (history ++ Second ∷ [])
     second_own rest Late history state =
-        let facts = service_facts ports history in
-        subst (λ (fs : List (Fact ServiceOffer)). S (Young top rest) Late (Missing Late) fs) (sym (facts_from-more (service_facts_of ports) [] history Second))
-        (elim (cases_Bool (running history)) [
-          | inl runs ↦
-              rw runs (second_keeps service_reading service_order service_total most_services ss K one R Of (λ s age. Young top (suc rest) age)
-              (λ s age. Young top rest age) (λ s age. Late s) (λ s age. Late s) (Missing Late) (Missing Late) (λ o. Unit {0}) (λ s age young. omega (arith, young))
-              (λ s h good late. late) (λ missing. missing) (λ s h good last either. elim either [
-                | inl old ↦ absurd (omega (arith, last, old, few))
-                | inr late ↦ (h.offer, good.0, subst Late (sym good.1) late)
-              ]) facts state)
-          | inr stopped ↦
-              rw stopped (subst (λ (fs : List (Fact ServiceOffer)). S (Young top rest) Late (Missing Late) fs) (sym (append-nil facts))
-              (passes_by (Young top (suc rest)) (Young top rest) Late Late facts (λ age young. omega (arith, young)) (λ s late. late) state))
-        ])
-
-    -- ---- a packet
-
-    module _ (ticks had : ℕ) (late : had ≤ ticks) (long : most_ticks_gone ≤ had) (number : ℕ) (bytes : List ℕ)
-        (waits : Waits net up server L W ticks (at number) bytes) (history : History) (endures : Endures net up server L most_services r had history)
-        (left : ℕ) (one_left : left ≤ 1) where
-      abbrev Fit : ServiceOffer → Type 0
-      Fit = ServiceOld net up server L most_services r had had (omega arith)
-
-      abbrev Arrives : ServiceOffer → Type 0
-      Arrives = Comes service_reading service_order service_total most_services ss K one R Of (λ s age. Young top left age)
-          (λ s. omega (arith, one_left, some)) (λ o. Unit {0}) (best sought)
-          (Such sought had long) Fit
-          (real_known sought had long)
-          (goes_on sought had long)
-
-      sure : most_ticks_gone ≤ ticks
-      sure = omega (arith, late, long)
-
-      arrive : is_up (up r) number ≡ true → (node : Node) (entries : List SapEntry) → AllByRecursion (EntrySaid net up server L W ticks (at number) node) entries
-          → AllByRecursion (OffersOf Arrives) (services_offered number node entries)
-      arrive on node [] all = tt
-      arrive on node (e ∷ entries) all =
-          all-append (OffersOf Arrives) _ (services_offered number node entries) (by e.name (λ name named.
-          (fit name named, steady sought ticks sure number on node e all.0 name named))) (arrive on node entries all.1)
-        where
-          fit : (name : List ℕ) → e.name ≡ Some name → Fit (service_offer number node e name)
-          fit name named near = sooner (all.0.fine on near name named)
-            where
-              sooner : {A : Type 0} → A ⊎ (ticks ≤ lifetime * e.hops) → A ⊎ IsWithin 0 0 e.hops had
-              sooner (inl fine) = inl fine
-              sooner (inr soon) = inr (omega (arith, soon, late))
-
-          by : (name : Option (List ℕ)) → ((given : List ℕ) → name ≡ Some given → Arrives (service_offer number node e given))
-              → AllByRecursion (OffersOf Arrives) (elim name [
-                | None ↦ []
-                | Some name ↦ Offered (service_offer number node e name) ∷ []
-              ])
-          by None step = tt
-          by (Some name) step = (step name refl, tt)
-
-      -- what one of the hosts says is among what is offered
-      among : (g : ServiceOffer) → G g → g.port ≡ number → (node : Node) → node ≡ g.node → (entries : List SapEntry) (which : ℕ)
-          → slice_get entries which ≡ Some (entry_of (at_hops server hops))
-          → AnyIs (λ fact. OffersOf (λ o. G o × ◌≡◌ {A = Source} (o.port, o.node) (g.port, g.node)) fact) (services_offered number node entries)
-      among g good port node same [] which at_it = nothing at_it
-      among g good port node same (e ∷ entries) (suc which) at_it =
-          any_behind _ (elim e.name [
-            | None ↦ []
-            | Some name ↦ Offered (service_offer number node e name) ∷ []
-          ]) (services_offered number node entries) (among g good port node same entries which at_it)
-      among g good port node same (e ∷ entries) zero at_it =
-          any_in_front _ (elim e.name [
-            | None ↦ []
-            | Some name ↦ Offered (service_offer number node e name) ∷ []
-          ]) (services_offered number node entries)
-          (it_is (λ (x : SapEntry). AnyIs (λ fact. OffersOf (λ o. G o × ◌≡◌ {A = Source} (o.port, o.node) (g.port, g.node)) fact) (elim x.name [
-            | None ↦ []
-            | Some name ↦ Offered (service_offer number node x name) ∷ []
-          ])) e (entry_of (at_hops server hops)) (sym at_it) (inl (is_good, source)))
-        where
-          o : ServiceOffer
-          o = record { service = at_hops server hops; port = number; node = node }
-
-          source : ◌≡◌ {A = Source} (number, node) (g.port, g.node)
-          source = ap (λ (p : ℕ). (p, node)) (sym port) ∙ ap (λ (n : Node). (g.port, n)) same
-
-          is_good : G o
-          is_good = record {
-            who = subst By (sym source) good.who;
-            on = subst (λ (p : ℕ). is_up (up r) p ≡ true) port good.on;
-            said = refl;
-          }
-
-      module _ (Before After Now : Source → Type 0) (split : (s : Source) → Before s → Now s ⊎ After s)
-          (now_is : (s : Source) → Now s → (number ≡ s.0) × (m : Heard) × (heard_after ports history s.0 bytes ≡ Some m) × Announces server (host s) m)
-          (state : Q left Before history) where
-        abbrev facts : List (Fact ServiceOffer)
-        facts = service_facts ports history
-
-        by_heard : (o : Option Heard) → heard_after ports history number bytes ≡ o
-            → S (Young top left) After (Missing After) (facts ++ services_heard number o)
-        by_heard None e =
-            subst (λ (fs : List (Fact ServiceOffer)). S (Young top left) After (Missing After) fs) (sym (append-nil facts))
-            (passes_by (Young top left) (Young top left) Before After facts (λ age young. young) (λ s late. never s (split s late)) state)
-          where
-            never : (s : Source) → Now s ⊎ After s → After s
-            never s (inr later) = later
-            never s (inl now) =
-                let it = now_is s now in
-                nothing (sym e ∙ ap (λ (n : ℕ). heard_after ports history n bytes) it.0 ∙ it.2)
-        by_heard (Some m) e = heard m e (waits.tells m (heard_message ports history number bytes m e))
-          where
-            on : is_up (up r) number ≡ true
-            on = subst (λ (us : List ℕ). is_up us number ≡ true) endures.ups (heard_up ports (ports_up ports history) number (running history) bytes m e)
-
-            -- it is this message
-            same_message : (x : Heard) → heard_after ports history number bytes ≡ Some x → (s : Source) → Now s → Announces server (host s) x
-            same_message x e s now =
-                let it = now_is s now in
-                it_is (λ (h : Heard). Announces server (host s) h) x it.1 (sym it.2 ∙ sym (ap (λ (n : ℕ). heard_after ports history n bytes) it.0) ∙ e) it.3
-
-            silent : (x : Heard) → heard_after ports history number bytes ≡ Some x → ((s : Source) → Announces server (host s) x → ⊥)
-                → S (Young top left) After (Missing After) (facts ++ [])
-            silent x e none =
-                subst (λ (fs : List (Fact ServiceOffer)). S (Young top left) After (Missing After) fs) (sym (append-nil facts))
-                (passes_by (Young top left) (Young top left) Before After facts (λ age young. young)
-                (λ s late. elim (split s late) [ inr later ↦ later | inl now ↦ absurd (none s (same_message x e s now)) ]) state)
-
-            heard : (x : Heard) → heard_after ports history number bytes ≡ Some x → Told net up server L W ticks (at number) x
-                → S (Young top left) After (Missing After) (facts ++ services_heard number (Some x))
-            heard (HeardRip source rip) e tells = silent (HeardRip source rip) e (λ s none. none)
-            heard (HeardSap source (Query nearest kind)) e tells = silent (HeardSap source (Query nearest kind)) e (λ s none. none)
-            heard (HeardSap source (SapResponse nearest entries)) e tells =
-                let new = services_offered number source.node entries in
-                let all = arrive on source.node entries tells in
-                let such = endures.services in
-                moves (Young top left) Before After Now (facts ++ new) split
-                (offers_keep service_reading service_order service_total most_services ss K one R Of
-                (λ s age. Young top left age) (λ s. omega (arith, one_left, some)) (λ o. Unit {0})
-                (best sought)
-                (Such sought had long) Fit
-                (real_known sought had long)
-                (goes_on sought had long) (λ s age. Before s) (Missing Before) new facts all state)
-                (λ g good now.
-                let said = same_message (HeardSap source (SapResponse nearest entries)) e (g.port, g.node) now in
-                offers_come service_reading service_order service_total most_services ss K one R Of
-                (λ s age. Young top left age) (λ s. omega (arith, one_left, some)) (λ o. Unit {0})
-                (best sought)
-                (Such sought had long) Fit
-                (real_known sought had long)
-                (goes_on sought had long)
-                (place sought had long room inside listed) (g.port, g.node)
-                (λ s age. Before s) (Missing Before) (λ missing o. tt) new facts all
-                (among g good (sym (now_is (g.port, g.node) now).0) source.node said.0 entries said.1 said.2) such state)
-
-        pub packet_own : Q left After (history ++ Packet number bytes ∷ [])
-        packet_own = search (rules, facts_from-more, by_heard)
+        second_goes sought (Young top (suc rest)) (Young top rest) (λ age young. omega (arith, young)) (λ age last old. omega (arith, last, old, few)) Late history state
+        (λ age young. omega (arith, young))
 
     -- ---- one step
 
@@ -358,14 +132,14 @@ module _ (net : Internet) (laws : Layouts) (is : IsInternet net) (most_routes mo
       elsewhere histories router event off left rest same Before After still state =
           let stays = get_or-set_other histories router r (history_of histories router ++ event ∷ []) [] off in
           subst (λ (h : History). Q rest After h) (sym stays)
-          (passes_by (Young top left) (Young top rest) Before After (service_facts ports (history_of histories r)) (λ age young. omega (arith, young, same)) still state)
+          (passes_by sought (Young top left) (Young top rest) Before After (service_facts ports (history_of histories r)) (λ age young. omega (arith, young, same)) still state)
 
       -- an event of its own
       here_now : (histories : List History) (event : Event) → r < length histories → (rest : ℕ) (After : Source → Type 0)
           → Q rest After (history_of histories r ++ event ∷ []) → Q rest After (history_of (with_event histories r event) r)
       here_now histories event within rest After state = grind (arith, get_or-set_same)
 
-      lasted : (left : ℕ → ℕ) (run : Run) → Goes ticks left run → Endures net up server L most_services r (ticks - left r) (history_of run.histories r)
+      lasted : (left : ℕ → ℕ) (run : Run) → Goes ticks left run → Endures 0 0 net up server L most_services r (ticks - left r) (history_of run.histories r)
       lasted left run going =
           let some_left = (going.few r inside).1 in
           going.routers r (ticks - left r) inside (omega (arith, some_left))
@@ -373,15 +147,15 @@ module _ (net : Internet) (laws : Layouts) (is : IsInternet net) (most_routes mo
       within : (left : ℕ → ℕ) (run : Run) → Goes ticks left run → r < length run.histories
       within left run going = grind arith
 
-      own_packet : (run : Run) (left : ℕ → ℕ) (number : ℕ) (bytes : List ℕ) → Goes ticks left run → Waits net up server L W ticks (at number) bytes
+      own_packet : (run : Run) (left : ℕ → ℕ) (number : ℕ) (bytes : List ℕ) → Goes ticks left run → Waits net up server L 0 0 W ticks (at number) bytes
           → (Before After Now : Source → Type 0) → ((s : Source) → Before s → Now s ⊎ After s)
           → ((s : Source) → Now s → (number ≡ s.0) × (m : Heard) × (heard_after ports (history_of run.histories r) s.0 bytes ≡ Some m) × Announces server (host s) m)
           → Q (left r) Before (history_of run.histories r) → Q (left r) After (history_of (with_event run.histories r (Packet number bytes)) r)
       own_packet run left number bytes going waits Before After Now split now_is state =
           let one_left = (going.few r inside).0 in
           here_now run.histories (Packet number bytes) (within left run going) (left r) After
-          (packet_own ticks (ticks - left r) (omega arith) (omega (arith, one_left, long)) number bytes waits (history_of run.histories r) (lasted left run going)
-          (left r) one_left Before After Now split now_is state)
+          (packet_goes sought room inside listed (Young top (left r)) (omega (arith, one_left, some)) 0 0 ticks (ticks - left r) (omega arith)
+          (omega (arith, one_left, long)) (omega (arith, long)) number bytes waits.tells (history_of run.histories r) (lasted left run going) Before After Now split now_is state)
 
       abbrev left_of : List Step → ℕ → ℕ
       left_of steps k = seconds_of k steps
@@ -404,14 +178,14 @@ module _ (net : Internet) (laws : Layouts) (is : IsInternet net) (most_routes mo
           subst (λ (k : ℕ). Q (seconds_of r rest) After (history_of (with_event run.histories k Second) r)) same
           (here_now run.histories Second (within (left_of (Happens router Second ∷ rest)) run going) (seconds_of r rest) After
           (second_own (seconds_of r rest) After (history_of run.histories r)
-          (passes_by (Young top (seconds_of r (Happens router Second ∷ rest))) (Young top (suc (seconds_of r rest)))
+          (passes_by sought (Young top (seconds_of r (Happens router Second ∷ rest))) (Young top (suc (seconds_of r rest)))
           (λ s. Heard_by run (Happens router Second) s ⊎ After s) After facts (λ age young. omega (arith, young, more)) (λ s either. later_of (λ none. none) either) state)))
       own_step run router same (Packet number bytes) rest leaves says names going After state =
           let step = Happens router (Packet number bytes) in
           let e = subst (λ (k : ℕ). seconds_of r (Happens k (Packet number bytes) ∷ rest) ≡ 0 + seconds_of r rest) same (own_seconds r (Packet number bytes) rest) in
           let as_many : seconds_of r (step ∷ rest) ≡ seconds_of r rest = omega (arith, e) in
           let came = outside_waits net laws is most_routes most_services up server L W N E ticks router (Packet number bytes) says names number bytes refl in
-          let waits = subst (λ (k : ℕ). Waits net up server L W ticks (record { router = k; port = number }) bytes) (sym same) came in
+          let waits = subst (λ (k : ℕ). Waits net up server L 0 0 W ticks (record { router = k; port = number }) bytes) (sym same) came in
           subst (λ (k : ℕ). Q (seconds_of r rest) After (history_of (with_event run.histories k (Packet number bytes)) r)) same
           (subst (λ (n : ℕ). Q n After (history_of (with_event run.histories r (Packet number bytes)) r)) as_many
           (own_packet run (left_of (step ∷ rest)) number bytes going waits (λ s. Heard_by run step s ⊎ After s) After (Heard_by run step) (λ s either. either)
@@ -428,7 +202,7 @@ module _ (net : Internet) (laws : Layouts) (is : IsInternet net) (most_routes mo
           → Q (left r) After
           (history_of (stepped net most_routes most_services (record { histories = histories; waiting = waiting; log = log }) Settles).histories r)
       settles_tracks histories [] log left going After state =
-          passes_by (Young top (left r)) (Young top (left r)) (λ s. ⊥ ⊎ After s) After (service_facts ports (history_of histories r)) (λ age young. young)
+          passes_by sought (Young top (left r)) (Young top (left r)) (λ s. ⊥ ⊎ After s) After (service_facts ports (history_of histories r)) (λ age young. young)
           (λ s either. later_of (λ none. none) either) state
       settles_tracks histories (w ∷ waiting) log left going After state =
           let d = w.delivery in
@@ -439,7 +213,7 @@ module _ (net : Internet) (laws : Layouts) (is : IsInternet net) (most_routes mo
                 elsewhere histories d.to.router (Packet d.to.port d.bytes) off (left r) (left r) refl (λ s. Now s ⊎ After s) After
                 (λ s either. later_of (λ now. off (sym now.0)) either) state
             | inl same ↦
-                let waits = subst (λ (k : ℕ). Waits net up server L W ticks (record { router = k; port = d.to.port }) d.bytes) (sym same) going.waiting.0.waits in
+                let waits = subst (λ (k : ℕ). Waits net up server L 0 0 W ticks (record { router = k; port = d.to.port }) d.bytes) (sym same) going.waiting.0.waits in
                 subst (λ (k : ℕ). Q (left r) After (history_of (with_event histories k (Packet d.to.port d.bytes)) r)) same
                 (own_packet run left d.to.port d.bytes going waits (λ s. Now s ⊎ After s) After Now (λ s either. either)
                 (λ s now. (now.1, now.2, now.3, now.4)) state)
@@ -483,7 +257,7 @@ module _ (net : Internet) (laws : Layouts) (is : IsInternet net) (most_routes mo
             steps_right steps next are.1 leave.1 say.1 names.1 surely.1
                 (step_goes net laws is most_routes most_services up server L W N E ticks step steps run are.0 leave.0 say.0 names.0 surely.0 next_sure going)
                 (step_tracks step steps run leave.0 say.0 names.0 going (λ s. ⊥)
-                (passes_by (Young top left) (Young top left) (λ s. ⊥) (λ s. Heard_by run step s ⊎ ⊥) (service_facts ports (history_of run.histories r))
+                (passes_by sought (Young top left) (Young top left) (λ s. ⊥) (λ s. Heard_by run step s ⊎ ⊥) (service_facts ports (history_of run.histories r))
                 (λ age young. young) (λ s none. absurd none) state)),
           )
 
@@ -499,7 +273,7 @@ module _ (net : Internet) (laws : Layouts) (is : IsInternet net) (most_routes mo
       → S (λ age. age ≤ top) (Waiting_for run ticks) (Missing (Waiting_for run ticks)) (service_facts ports (history_of run.histories r))
       → S (λ age. age ≤ period) (λ s. ⊥) (Missing (λ s. ⊥)) (service_facts ports (history_of (ticked net most_routes most_services run ticks).histories r))
   ticks_track so_far top run [] long few rests busy leave say names surely state =
-      passes_by (λ age. age ≤ top) (λ age. age ≤ period) (Waiting_for run []) (λ s. ⊥) (service_facts ports (history_of run.histories r))
+      passes_by sought (λ age. age ≤ top) (λ age. age ≤ period) (Waiting_for run []) (λ s. ⊥) (service_facts ports (history_of run.histories r))
       (λ age young. omega (arith, young, few)) (λ s late. late) state
   ticks_track so_far top run (steps ∷ ticks) long few rests busy leave say names surely state =
       let next = run_of net most_routes most_services run steps in
@@ -507,13 +281,13 @@ module _ (net : Internet) (laws : Layouts) (is : IsInternet net) (most_routes mo
       let going = begins net laws is most_routes most_services up server L W N E so_far run steps rests busy.0 in
       let begun : S (Young (suc top) (seconds_of r steps)) (Waiting_for run (steps ∷ ticks)) (Missing (Waiting_for run (steps ∷ ticks)))
       (service_facts ports (history_of run.histories r)) =
-      passes_by (λ age. age ≤ top) (Young (suc top) (seconds_of r steps)) (Waiting_for run (steps ∷ ticks)) (Waiting_for run (steps ∷ ticks))
+      passes_by sought (λ age. age ≤ top) (Young (suc top) (seconds_of r steps)) (Waiting_for run (steps ∷ ticks)) (Waiting_for run (steps ∷ ticks))
       (service_facts ports (history_of run.histories r)) (λ age young. omega (arith, young, one_second)) (λ s late. late) state in
       let done = steps_track (suc top) (omega (arith, few)) (omega arith) (suc so_far) (omega (arith, long)) steps run busy.0.happens leave.0 say.0 names.0 surely.0 going
       (λ s after. HeardWithinTicks net most_routes most_services server (at s.0) (host s) after ticks) begun in
       ticks_track (suc so_far) (suc top) next ticks (omega (arith, long)) (omega (arith, few))
       (tick_rests net laws is most_routes most_services up server L so_far run steps rests busy.0 leave.0 say.0 names.0) busy.1 leave.1 say.1 names.1 surely.1
-      (passes_by (Young (suc top) 0) (λ age. age ≤ suc top) (Waiting_for next ticks) (Waiting_for next ticks) (service_facts ports (history_of next.histories r))
+      (passes_by sought (Young (suc top) 0) (λ age. age ≤ suc top) (Waiting_for next ticks) (Waiting_for next ticks) (service_facts ports (history_of next.histories r))
       (λ age young. omega (arith, young)) (λ s late. late) done)
 
   -- so it is known then, from one of them
@@ -547,5 +321,5 @@ module _ (net : Internet) (laws : Layouts) (is : IsInternet net) (most_routes mo
         let rests_then = ticks_rest net laws is most_routes most_services up server L so_far run window rests busy leave say named in
         steps_right (period + 1) (omega arith) (omega arith) (suc begun) (omega (arith, long)) steps last tick.happens leaves says naming sure_then
         (begins net laws is most_routes most_services up server L W N E begun last steps rests_then tick)
-        (passes_by (λ age. age ≤ period) (Young (period + 1) (seconds_of r steps)) (λ s. ⊥) (λ s. ⊥) (service_facts ports (history_of last.histories r))
+        (passes_by sought (λ age. age ≤ period) (Young (period + 1) (seconds_of r steps)) (λ s. ⊥) (λ s. ⊥) (service_facts ports (history_of last.histories r))
         (λ age young. omega (arith, young, one_second)) (λ s none. none) all_heard)

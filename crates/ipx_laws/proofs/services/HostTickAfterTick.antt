@@ -43,20 +43,21 @@ use Rattle.ipx_internet.proofs.packets.SentOnOrReply.{Layouts, IsCast, IsOnward,
 use Rattle.ipx_internet.proofs.places.OneReceiverOfANode.{ports_at, receives_is}
 use Rattle.ipx_internet.proofs.rounds.OneRound.{each_delivery}
 use Rattle.ipx_internet.proofs.trees.RunIsALog.{histories_more}
-use Rattle.ipx_laws.specs.Meanwhile.{AsksElsewhere, LeavesPorts, SaysOnly, EachTick}
+use Rattle.ipx_laws.specs.Announces.{AsksApart}
+use Rattle.ipx_laws.specs.Meanwhile.{message_of, AsksElsewhere, LeavesPorts, SaysOnly, EachTick}
 use Rattle.ipx_laws.specs.Servers.{Server, SaysNoFalse, NamesOnly}
 use Rattle.ipx_laws.specs.Ups.{ups}
 use Rattle.ipx_laws.proofs.packets.BroadcastEachSecond.{all_cast}
 use Rattle.ipx_laws.proofs.packets.SentOnSaysTheSame.{heard_message}
 use Rattle.ipx_laws.proofs.records.RecordsGrowOld.{passed}
 use Rattle.ipx_laws.proofs.services.ServedOrSoonEnded.{Endures, at_begin, event_endures, services_said, changes_said, services_of, AreExact}
-use Rattle.ipx_laws.proofs.services.SpokenOfAServer.{at, Told, Waits, ServiceSaid, IsOwnServices, IsSpoken, host_waits, routes_silent, cast_spoken, spoken_waits}
+use Rattle.ipx_laws.proofs.services.SpokenOfAServer.{at, Silent, told_asks, Waits, ServiceSaid, IsOwnServices, IsSpoken, host_waits, routes_silent, cast_spoken, spoken_waits}
 use Rattle.ipx_laws.proofs.ticks.EventOfOneRouter.{each_so, own_seconds, passed_more}
 use Rattle.ipx_laws.proofs.ticks.TickAfterTick.{second_there}
 
 module _ (net : Internet) (laws : Layouts) (is : IsInternet net) (most_routes most_services : ℕ) (up : ℕ → List ℕ) (server : Server) (Listed : ℕ × List ℕ → Type 0) where
   abbrev pub Lasts : ℕ → ℕ → History → Type 0
-  Lasts router had history = Endures net up server Listed most_services router had history
+  Lasts router had history = Endures 0 0 net up server Listed most_services router had history
 
   -- after so many ticks, where nothing waits
   pub record Rests (ticks : ℕ) (run : Run) : Type 0 where
@@ -69,9 +70,9 @@ module _ (net : Internet) (laws : Layouts) (is : IsInternet net) (most_routes mo
   abbrev pub left_of : List Step → ℕ → ℕ
   left_of steps router = seconds_of router steps
 
-  -- ---- where routers say such words as follow from what they have
+  -- ---- where routers say such words
 
-  module _ (Speaks : ℕ → Service → Type 0) (Sure : List History → Type 0) (exact : AreExact net most_services Speaks Sure) where
+  module _ (delay slack : ℕ) (Speaks : ℕ → Service → Type 0) where
     -- all routes
     abbrev AnyRoute : ℕ → RipEntry → Type 0
     AnyRoute j e = Unit {0}
@@ -86,14 +87,14 @@ module _ (net : Internet) (laws : Layouts) (is : IsInternet net) (most_routes mo
       ports = ports_of net router
 
       abbrev Said : ℕ → Service → Type 0
-      Said j = ServiceSaid net up server Listed Speaks begun (at net up server Listed router j)
+      Said j = ServiceSaid net up server Listed delay slack Speaks begun (at net up server Listed router j)
 
       abbrev Spoken : Sent → Type 0
-      Spoken s = IsSpoken net up server Listed Speaks begun router s
+      Spoken s = IsSpoken net up server Listed delay slack Speaks begun router s
 
       casts : (us : List ℕ) (sent : List Sent) → us ≡ up router → AllByRecursion (IsCast us AnyRoute Said ports) sent → AllByRecursion Spoken sent
       casts us sent same all =
-          all_then (IsCast (up router) AnyRoute Said ports) Spoken (cast_spoken net up server Listed Speaks begun router AnyRoute) sent
+          all_then (IsCast (up router) AnyRoute Said ports) Spoken (cast_spoken net up server Listed delay slack Speaks begun router AnyRoute) sent
           (subst (λ (vs : List ℕ). AllByRecursion (IsCast vs AnyRoute Said ports) sent) same all)
 
       pub second_spoken : let now = history ++ Second ∷ [] in
@@ -106,7 +107,8 @@ module _ (net : Internet) (laws : Layouts) (is : IsInternet net) (most_routes mo
           (all_cast laws ports (ports_at net is router) most_routes most_services history of_bytes AnyRoute Said (λ j. anything _) (λ j. anything _) all changed)
 
       module _ (number : ℕ) (bytes : List ℕ) (within : number < length ports) (are_bytes : IsBytes bytes)
-          (waits : Waits net up server Listed Speaks begun (at net up server Listed router number) bytes)
+          (asks : (m : Heard) → message_of bytes ≡ Some m → AsksApart m)
+          (onward : (sent : List ℕ) → IsOnward (port_at (ports_of net router) number) bytes sent → Silent net up server Listed sent)
           (ups_before : ports_up ports history ≡ up router) (ups_after : ports_up ports (history ++ Packet number bytes ∷ []) ≡ up router)
           (all : (j : ℕ) → AllByRecursion (Said j) (told_services (offers (services_held ports most_services history)) j))
           (changed : (j : ℕ) → AllByRecursion (Said j)
@@ -158,17 +160,17 @@ module _ (net : Internet) (laws : Layouts) (is : IsInternet net) (most_routes mo
             (all_both IsTellable (Said number) known (told_services_fit before.services number (held_services_fit laws.readings ports most_services history of_bytes)) (all number)) in
             let answer = if nearest then nearest_of services else services in
             all_then (λ s. IsSapPage (Said number) (own_services here) to nearest s.bytes × (s.port ≡ number)) Spoken
-            (λ s page. inl (subst (λ (k : ℕ). (is_up (up router) k ≡ true) × IsOwnServices net up server Listed Speaks begun (at net up server Listed router k) s.bytes) (sym page.1)
+            (λ s page. inl (subst (λ (k : ℕ). (is_up (up router) k ≡ true) × IsOwnServices net up server Listed delay slack Speaks begun (at net up server Listed router k) s.bytes) (sym page.1)
             (here_up, record { to = to; home = refl; nearest = nearest; page = page.0 })))
             (sap_sends ports number to nearest answer)
             (sap_pages laws.readings laws.again ports number is_here (Said number) to (reply_is here source is_here from) nearest answer
             (either (Tellable (Said number)) nearest (nearest_of services) services (nearest_all (Tellable (Said number)) services fits) fits))
 
-        heard_spoken : (m : Heard) → is_up (up router) number ≡ true → IsPlaced (source_of m) → Told net up server Listed Speaks begun (at net up server Listed router number) m
+        heard_spoken : (m : Heard) → is_up (up router) number ≡ true → IsPlaced (source_of m) → AsksApart m
             → AllByRecursion Spoken (heard_sends ports before after number m)
-        heard_spoken (HeardRip source rip) here_up from tells = rip_spoken source rip.operation rip.entries from tells
-        heard_spoken (HeardSap source (Query nearest kind)) here_up from tells = sap_spoken here_up source nearest kind from
-        heard_spoken (HeardSap source (SapResponse nearest entries)) here_up from tells = changes_spoken
+        heard_spoken (HeardRip source rip) here_up from apart = rip_spoken source rip.operation rip.entries from apart
+        heard_spoken (HeardSap source (Query nearest kind)) here_up from apart = sap_spoken here_up source nearest kind from
+        heard_spoken (HeardSap source (SapResponse nearest entries)) here_up from apart = changes_spoken
 
         pub packet_spoken : AllByRecursion Spoken (sends ports most_routes most_services history (Packet number bytes))
         packet_spoken = by (heard_after ports history number bytes) refl
@@ -178,20 +180,23 @@ module _ (net : Internet) (laws : Layouts) (is : IsInternet net) (most_routes mo
 
             by : (o : Option Heard) → heard_after ports history number bytes ≡ o → AllByRecursion Spoken these
             by None e =
-                all_then (λ s. IsOnward here bytes s.bytes) Spoken (λ s onward. inr (waits.onward s.bytes onward)) these
+                all_then (λ s. IsOnward here bytes s.bytes) Spoken (λ s is. inr (onward s.bytes is)) these
                 (unsaid laws ports (ports_at net is router) most_routes most_services history on of_bytes number bytes within are_bytes e)
             by (Some m) e =
                 let here_up = subst (λ (us : List ℕ). is_up us number ≡ true) ups_before (heard_up ports (ports_up ports history) number (running history) bytes m e) in
                 subst (λ (ss : List Sent). AllByRecursion Spoken ss)
                 (sym (said_so laws ports (ports_at net is router) most_routes most_services history on of_bytes number bytes within are_bytes m e))
                 (heard_spoken m here_up (heard_is laws.readings ports (ports_up ports history) number bytes are_bytes (running history) m e).source
-                (waits.tells m (heard_message ports history number bytes m e)))
+                (asks m (heard_message ports history number bytes m e)))
 
+  -- ---- where routers say such words as follow from what they have
+
+  module _ (Speaks : ℕ → Service → Type 0) (Sure : List History → Type 0) (exact : AreExact net most_services Speaks Sure) where
     -- ---- what waits, and what each router has
 
     pub record Arrives (begun : ℕ) (d : Delivery) : Type 0 where
       pub delivery : IsDelivery net d
-      pub waits : Waits net up server Listed Speaks begun d.to d.bytes
+      pub waits : Waits net up server Listed 0 0 Speaks begun d.to d.bytes
 
     -- what is so while a tick goes on, with the seconds that are left of each router
     pub record Going (ticks : ℕ) (left : ℕ → ℕ) (q : Queued) : Type 0 where
@@ -204,7 +209,7 @@ module _ (net : Internet) (laws : Layouts) (is : IsInternet net) (most_routes mo
 
     module _ (ticks : ℕ) (histories : List History) (queue : List Delivery) (router : ℕ) (event : Event) (left rest : ℕ → ℕ)
         (within : router < length net) (on : IsOnPort (ports_of net router) event) (of_bytes : IsOfBytes event) (leaves : LeavesPorts (Happens router event))
-        (waits : (number : ℕ) (bytes : List ℕ) → event ≡ Packet number bytes → Waits net up server Listed Speaks ticks (at net up server Listed router number) bytes)
+        (waits : (number : ℕ) (bytes : List ℕ) → event ≡ Packet number bytes → Waits net up server Listed 0 0 Speaks ticks (at net up server Listed router number) bytes)
         (own : left router ≡ passed event 0 + rest router) (others : (other : ℕ) → other ≢ router → left other ≡ rest other)
         (sure_before : Sure histories) (sure_after : Sure (with_event histories router event))
         (going : Going ticks left (record { histories = histories; queue = queue })) where
@@ -236,7 +241,7 @@ module _ (net : Internet) (laws : Layouts) (is : IsInternet net) (most_routes mo
           omega (arith, few)
 
       lasts : Lasts router (passed event had) now
-      lasts = event_endures net up server Listed most_services router had ticks (omega arith) Speaks past lasted event leaves waits
+      lasts = event_endures 0 0 net up server Listed most_services router had ticks (omega arith) Speaks past lasted event leaves waits
 
       -- what it says then, and of the change
       abbrev TellsSo : History → Type 0
@@ -256,22 +261,24 @@ module _ (net : Internet) (laws : Layouts) (is : IsInternet net) (most_routes mo
       changes_now : ChangesSo now
       changes_now = subst ChangesSo now_is (exact.news (with_event histories router event) sure_after router within)
 
-      all_spoken : AllByRecursion (IsSpoken net up server Listed Speaks ticks router) sents
+      all_spoken : AllByRecursion (IsSpoken net up server Listed 0 0 Speaks ticks router) sents
       all_spoken = by event leaves on of_bytes waits lasts (let more = passed_more event had in omega (arith, more, soon)) tells_now changes_now
         where
           by : (e : Event) → LeavesPorts (Happens router e) → IsOnPort (ports_of net router) e → IsOfBytes e
-              → ((number : ℕ) (bytes : List ℕ) → e ≡ Packet number bytes → Waits net up server Listed Speaks ticks (at net up server Listed router number) bytes)
+              → ((number : ℕ) (bytes : List ℕ) → e ≡ Packet number bytes → Waits net up server Listed 0 0 Speaks ticks (at net up server Listed router number) bytes)
               → Lasts router (passed e had) (past ++ e ∷ []) → ticks ≤ passed e had + 1 → TellsSo (past ++ e ∷ []) → ChangesSo (past ++ e ∷ [])
-              → AllByRecursion (IsSpoken net up server Listed Speaks ticks router) (sends_at net most_routes most_services histories router e)
+              → AllByRecursion (IsSpoken net up server Listed 0 0 Speaks ticks router) (sends_at net most_routes most_services histories router e)
           by Second leave there bytes wait last young tells changed =
-              second_spoken ticks router past (going.are.on_ports router) (going.are.of_bytes router) last.ups
-              (λ j. services_said net up server Listed most_services router (suc had) ticks young (past ++ Second ∷ []) last Speaks j (tells j))
-              (λ j. changes_said net up server Listed most_services router (suc had) ticks young (past ++ Second ∷ []) last Speaks
+              second_spoken 0 0 Speaks ticks router past (going.are.on_ports router) (going.are.of_bytes router) last.ups
+              (λ j. services_said 0 0 net up server Listed most_services router (suc had) ticks young (past ++ Second ∷ []) last Speaks j (tells j))
+              (λ j. changes_said 0 0 net up server Listed most_services router (suc had) ticks young (past ++ Second ∷ []) last Speaks
               (offers (services_held (ports_of net router) most_services past)) j (changed (offers (services_held (ports_of net router) most_services past)) j))
           by (Packet number bytes) leave there are_bytes wait last young tells changed =
-              packet_spoken ticks router past (going.are.on_ports router) (going.are.of_bytes router) number bytes there are_bytes (wait number bytes refl) lasted.ups last.ups
-              (λ j. services_said net up server Listed most_services router had ticks soon past lasted Speaks j (exact.told histories sure_before router within j))
-              (λ j. changes_said net up server Listed most_services router had ticks young (past ++ Packet number bytes ∷ []) last Speaks
+              packet_spoken 0 0 Speaks ticks router past (going.are.on_ports router) (going.are.of_bytes router) number bytes there are_bytes
+              (λ m e. told_asks net up server Listed 0 0 Speaks ticks (at net up server Listed router number) m ((wait number bytes refl).tells m e))
+              (wait number bytes refl).onward lasted.ups last.ups
+              (λ j. services_said 0 0 net up server Listed most_services router had ticks soon past lasted Speaks j (exact.told histories sure_before router within j))
+              (λ j. changes_said 0 0 net up server Listed most_services router had ticks young (past ++ Packet number bytes ∷ []) last Speaks
               (offers (services_held (ports_of net router) most_services past)) j (changed (offers (services_held (ports_of net router) most_services past)) j))
           by Start leave there bytes wait last young tells changed = absurd leave
           by Stop leave there bytes wait last young tells changed = absurd leave
@@ -284,14 +291,14 @@ module _ (net : Internet) (laws : Layouts) (is : IsInternet net) (most_routes mo
           let bytes = laws.bytes ports_here most_routes most_services past event (ports_at net is router)
           (all-append (IsOnPort ports_here) past (event ∷ []) (going.are.on_ports router) (on, tt))
           (all-append IsOfBytes past (event ∷ []) (going.are.of_bytes router) (of_bytes, tt)) in
-          each_delivery net most_routes most_services (Arrives ticks) (λ s. IsBytes s.bytes × IsSpoken net up server Listed Speaks ticks router s) router
+          each_delivery net most_routes most_services (Arrives ticks) (λ s. IsBytes s.bytes × IsSpoken net up server Listed 0 0 Speaks ticks router s) router
           (λ s to both place received.
           let got = receives_is net (at net up server Listed router s.port) s.link to received in
           record {
             delivery = record { place = place; bytes = both.0 };
-            waits = spoken_waits net up server Listed Speaks ticks router s to (λ here_up. record { other = got.other; network = got.network; on = here_up }) both.1;
+            waits = spoken_waits net up server Listed 0 0 Speaks ticks router s to (λ here_up. record { other = got.other; network = got.network; on = here_up }) both.1;
           })
-          sents (all_both (λ s. IsBytes s.bytes) (IsSpoken net up server Listed Speaks ticks router) sents bytes all_spoken)
+          sents (all_both (λ s. IsBytes s.bytes) (IsSpoken net up server Listed 0 0 Speaks ticks router) sents bytes all_spoken)
 
       lasts_as : (count : ℕ) → count + rest router ≡ ticks → Lasts router count now
       lasts_as count e = grind (arith, passed_more, passed, lasts)
@@ -316,14 +323,14 @@ module _ (net : Internet) (laws : Layouts) (is : IsInternet net) (most_routes mo
 
     -- what an outside packet says waits as what a router says
     pub outside_waits : (ticks router : ℕ) (event : Event) → SaysNoFalse net server (Happens router event) → SaysOnly (NamesOnly Listed) (Happens router event) → (number : ℕ) (bytes : List ℕ) → event ≡ Packet number bytes
-        → Waits net up server Listed Speaks ticks (at net up server Listed router number) bytes
+        → Waits net up server Listed 0 0 Speaks ticks (at net up server Listed router number) bytes
     outside_waits ticks router event says names number bytes same =
-        host_waits net up server Listed Speaks ticks (at net up server Listed router number) bytes (subst (λ (e : Event). SaysNoFalse net server (Happens router e)) same says)
+        host_waits net up server Listed 0 0 Speaks ticks (at net up server Listed router number) bytes (subst (λ (e : Event). SaysNoFalse net server (Happens router e)) same says)
         (λ m e. subst (λ (o : Option Heard). IfSome o (NamesOnly Listed)) e (subst (λ (x : Event). SaysOnly (NamesOnly Listed) (Happens router x)) same names))
 
     -- what waited first is what comes
-    pub first_waits : (ticks : ℕ) (d : Delivery) → Waits net up server Listed Speaks ticks d.to d.bytes → (number : ℕ) (bytes : List ℕ)
-        → Packet d.to.port d.bytes ≡ Packet number bytes → Waits net up server Listed Speaks ticks (at net up server Listed d.to.router number) bytes
+    pub first_waits : (ticks : ℕ) (d : Delivery) → Waits net up server Listed 0 0 Speaks ticks d.to d.bytes → (number : ℕ) (bytes : List ℕ)
+        → Packet d.to.port d.bytes ≡ Packet number bytes → Waits net up server Listed 0 0 Speaks ticks (at net up server Listed d.to.router number) bytes
     first_waits ticks d waits number bytes same = grind arith
 
     settles_goes : (ticks : ℕ) (left : ℕ → ℕ) (histories : List History) (queue : List Delivery) → Sure histories
@@ -419,6 +426,6 @@ module _ (net : Internet) (laws : Layouts) (is : IsInternet net) (most_routes mo
       subst (λ (n : ℕ). Rests n (ticked net most_routes most_services run ticks)) count
       (ticks_rest 0 run ticks (record {
         are = are;
-        routers = λ router within. at_begin net up server Listed most_services router (history_of run.histories router) (same router within);
+        routers = λ router within. at_begin 0 0 net up server Listed most_services router (history_of run.histories router) (same router within);
         quiet = quiet;
       }) busy leave say names)

@@ -22,7 +22,7 @@ pub record HostsApart (net : Internet) (up : ℕ → List ℕ) (server : Server)
 
 module _ (net : Internet) (most_routes most_services : ℕ) (server : Server) where
   module _ (host : Announcer) (to : Place) (same : (port_of net to).node ≡ host.node) where
-    not_said : (history : History) (bytes : List ℕ) (m : Heard) → heard_after (ports_of net to.router) history to.port bytes ≡ Some m → Announces server host m → ⊥
+    pub not_said : (history : History) (bytes : List ℕ) (m : Heard) → heard_after (ports_of net to.router) history to.port bytes ≡ Some m → Announces server host m → ⊥
     not_said history bytes (HeardRip source rip) e says = says
     not_said history bytes (HeardSap source (Query nearest kind)) e says = says
     not_said history bytes (HeardSap source (Response nearest entries)) e says =

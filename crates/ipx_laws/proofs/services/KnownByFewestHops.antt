@@ -44,7 +44,7 @@ module _ (net : Internet) (up : ℕ → List ℕ) (server : Server) where
         ⊎ ((from : Place) × (less : ℕ) × (hops ≡ suc less) × Link net up server router port from × (node ≡ (port_of net from).node)
         × IsAway net up server from.router less)
 
-  is_said : {router hops : ℕ} → IsAway net up server router hops → IsSaid router hops
+  pub is_said : {router hops : ℕ} → IsAway net up server router hops → IsSaid router hops
   is_said (beside port which host on listed network) = record {
     port = port;
     node = host.node;

@@ -1,8 +1,9 @@
 -- What is best of all that a router may know of a service: what the nearest hosts beside it say, and neighbours that are one hop nearer. There is
 -- room for it.
-use Rattle.std.proofs.Common.{◌≡◌, refl, sym, ap, ap₂, ◌∙◌, subst, ◌⊎◌, ℕ, suc, ◌*◌, ◌<◌, ◌≤◌, nat_le, true, false, List, [], ◌∷◌, ◌++◌, find, length, map, None, Some, inl, inr, arith, is_eq, slice_get, rules}
+use Rattle.std.proofs.Common.{◌≡◌, refl, sym, ap, ap₂, ◌∙◌, subst, ◌⊎◌, ℕ, suc, ◌+◌, ◌-◌, ◌*◌, ◌<◌, ◌≤◌, nat_le, true, false, List, [], ◌∷◌, ◌++◌, find, length, map, None, Some, inl, inr, arith, is_eq, slice_get, rules}
 use Rattle.std.specs.List.{AllByRecursion}
 use Rattle.std.specs.Ordering.{is_gt}
+use Rattle.std.proofs.Math.Nat.{mul-le-mul_left}
 use Rattle.std.proofs.lemmas.Bool.{cases_Bool, cases_eq, leb-true, leb-false}
 use Rattle.ipx_table.specs.Facts.{Fact, Offered}
 use Rattle.ipx_table.specs.Reading.{one_source, rank_order, rules_of}
@@ -22,14 +23,14 @@ use Rattle.ipx_internet.specs.Internet.{Internet, Place, NodesDiffer, IsPlace, p
 use Rattle.ipx_internet.proofs.lists.EachElement.{all_then, all_mapped, all_at, holds_of}
 use Rattle.ipx_internet.proofs.records.HeardChangesItsKeys.{service_offer}
 use Rattle.ipx_laws.specs.Announces.{service_of}
-use Rattle.ipx_laws.specs.Gone.{most_ticks_gone}
 use Rattle.ipx_laws.specs.Least.{Way}
 use Rattle.ipx_laws.specs.Regular.{HasRoomFor, IsListedName}
 use Rattle.ipx_laws.specs.Servers.{Announcer, Server, IsOf, at_hops, IsAnnouncedOn, IsServed, IsFewest}
+use Rattle.ipx_laws.specs.Wires.{most_beats_gone}
 use Rattle.ipx_laws.proofs.lists.SomeElement.{found_with}
 use Rattle.ipx_laws.proofs.records.BestIsKept.{AreBest, IsSteady, HasPlace, records, known}
 use Rattle.ipx_laws.proofs.records.KeysHaveRoom.{AreSingle, admits, replaces}
-use Rattle.ipx_laws.proofs.records.RecordsGrowOld.{fine_at_last, after_offers}
+use Rattle.ipx_laws.proofs.records.RecordsGrowOld.{IsWithin, fine_at_last, after_offers}
 use Rattle.ipx_laws.proofs.services.ExactWords.{one_name, Words}
 use Rattle.ipx_laws.proofs.services.FewestHops.{Link, PassedOn, of_fewest}
 use Rattle.ipx_laws.proofs.services.HostsApart.{HostsApart}
@@ -197,8 +198,8 @@ module _ (sought : Sought) where
   there : (place : Place) → is_up (up place.router) place.port ≡ true → IsPlace net place
   there place on = holds_of (λ j. j < length (ports_of net place.router)) place.port (up place.router) (in_ports place.router) on
 
-  module _ (begun : ℕ) (long : most_ticks_gone ≤ begun) (number : ℕ) (on : is_up (up r) number ≡ true) (node : Node) (e : SapEntry)
-      (said : EntrySaid net up server Listed Says begun (here number) node e) (name : List ℕ) (is : e.name ≡ Some name) where
+  module _ (delay slack begun : ℕ) (long : slack + most_beats_gone delay ≤ delay + begun) (number : ℕ) (on : is_up (up r) number ≡ true) (node : Node) (e : SapEntry)
+      (said : EntrySaid net up server Listed delay slack Says begun (here number) node e) (name : List ℕ) (is : e.name ≡ Some name) where
     abbrev o : ServiceOffer
     o = service_offer number node e name
 
@@ -235,13 +236,13 @@ module _ (sought : Sought) where
           nearer : IsFewest net up server from.router n.less
           nearer = subst (λ (k : ℕ). IsFewest net up server k n.less) same_router n.nearer
 
-      by_who : SaidBy (g.port, g.node) → Who net up server Listed Says (here number) node (service_of e name) → Good o
+      pub by_who : SaidBy (g.port, g.node) → Who net up server Listed delay slack Says (here number) node (service_of e name) → Good o
       by_who (inl host) (inl announces) = of_host host announces
       by_who (inl host) (inr (from, reaches, from_node, says)) = grind arith
       by_who (inr n) (inl announces) = grind arith
       by_who (inr n) (inr (from, reaches, from_node, says)) = of_neighbour n from reaches from_node says
 
-    honest : IsOf server o.service → (g : ServiceOffer) → Good g → one_source (g.port, g.node) (number, node) ≡ true → Good o
+    pub honest : IsOf server o.service → (g : ServiceOffer) → Good g → one_source (g.port, g.node) (number, node) ≡ true → Good o
     honest of g good same = by_who of g (source_parts (g.port, g.node) (o.port, o.node) same) good.who (said.who name is of)
 
     pub steady : ◌≡◌ {A = ℕ × List ℕ} (e.kind, name) key
@@ -253,24 +254,26 @@ module _ (sought : Sought) where
           honest = λ s g good same. (honest of g good.0 same, sym (same_source of g (source_parts (g.port, g.node) (o.port, o.node) same)) ∙ good.1);
         }
       where
-        by : e.hops < unreachable → Fine net up server Listed most_services r o ⊎ (begun ≤ lifetime * e.hops) → IsOf server o.service → Real o
+        by : e.hops < unreachable → Fine delay slack net up server Listed most_services r o ⊎ IsWithin delay slack e.hops (delay + begun) → IsOf server o.service → Real o
         by near (inl fine) of = fine.1 of
-        by near (inr soon) of = absurd (omega (arith, near, soon, long))
+        by near (inr soon) of =
+            let most = mul-le-mul_left {m = e.hops} {n = unreachable - 1} (delay + lifetime) (omega (arith, near)) in
+            absurd (omega (arith, most, soon, long))
 
   -- ---- what is known is real, and there is room
 
-  module _ (had : ℕ) (long : most_ticks_gone ≤ had) where
+  module _ (delay slack had : ℕ) (long : slack + most_beats_gone delay ≤ had) where
     abbrev pub Such : List (Fact ServiceOffer) → Type 0
-    Such = ServicesAged net up server Listed most_services r had
+    Such = ServicesAged delay slack net up server Listed most_services r had
 
     abbrev pub Facts : List (Fact ServiceOffer) → List (Held ServiceOffer)
     Facts = records service_reading service_order service_total most_services shares key (λ k. one_name k key) Real GoodOf
 
     abbrev F : ServiceOffer → Type 0
-    F = Fine net up server Listed most_services r
+    F = Fine delay slack net up server Listed most_services r
 
     all_fine : (facts : List (Fact ServiceOffer)) → Such facts → AllByRecursion (λ h. F h.offer) (Facts facts)
-    all_fine = fine_at_last service_reading service_order service_total most_services shares (λ s. s.service.hops) (λ s. refl) 0 0 F had long
+    all_fine = fine_at_last service_reading service_order service_total most_services shares (λ s. s.service.hops) (λ s. refl) delay slack F had long
 
     pub real_known : (facts : List (Fact ServiceOffer)) → Such facts → (h : Held ServiceOffer)
         → known service_reading service_order service_total most_services shares key (λ k. one_name k key) Real GoodOf facts ≡ Some h → Real h.offer
@@ -278,7 +281,7 @@ module _ (sought : Sought) where
         let found = found_with (λ x. F x.offer) (λ x. is_eq (service_order (x.offer.service.kind, x.offer.service.name) key)) (Facts facts) h (all_fine facts aged) some in
         found.0.1 (of_key h.offer.service.kind h.offer.service.name (one_name (h.offer.service.kind, h.offer.service.name) key found.1))
 
-    pub goes_on : (facts : List (Fact ServiceOffer)) (o : ServiceOffer) → Such facts → ServiceOld net up server Listed most_services r had had (omega arith) o
+    pub goes_on : (facts : List (Fact ServiceOffer)) (o : ServiceOffer) → Such facts → ServiceOld delay slack net up server Listed most_services r had had (omega arith) o
         → Such (facts ++ Offered o ∷ [])
     goes_on facts o aged old = search (rules, after_offers, service_total)
 

@@ -152,7 +152,7 @@ module _ (net : Internet) (laws : Layouts) (is : IsInternet net) (most_routes mo
     Answers run =
         IsAnswered (ports_of net router) number source server.kind (suc hops) (sends_at net most_routes most_services run.histories router (Packet number bytes))
 
-    answered_now : (run : Run) → IsSound run → known_of server (services run) ≡ Some (at_hops server hops)
+    pub answered_now : (run : Run) → IsSound run → known_of server (services run) ≡ Some (at_hops server hops)
         → heard_after (ports_of net router) (history_of run.histories router) number bytes ≡ Some (HeardSap source (Query true server.kind)) → Answers run
     answered_now run now is_known heard =
         let ports = ports_of net router in

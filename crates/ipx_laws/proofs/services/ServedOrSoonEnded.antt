@@ -34,7 +34,7 @@ use Rattle.ipx_laws.proofs.records.RecordsGrowOld.{IsWithin, IsBelow, Aged, IsOl
 use Rattle.ipx_laws.proofs.services.SpokenOfAServer.{IsFine, EntrySaid, Told, Waits, IsSoon, ServiceSaid}
 use Rattle.ipx_laws.proofs.ticks.RealOrSoonEnded.{Reaches}
 
-module _ (net : Internet) (up : ℕ → List ℕ) (server : Server) (Listed : ℕ × List ℕ → Type 0) (most_services router : ℕ) where
+module _ (delay slack : ℕ) (net : Internet) (up : ℕ → List ℕ) (server : Server) (Listed : ℕ × List ℕ → Type 0) (most_services router : ℕ) where
   abbrev pub ports : List Port
   ports = ports_of net router
 
@@ -42,7 +42,7 @@ module _ (net : Internet) (up : ℕ → List ℕ) (server : Server) (Listed : �
   Fine = IsFine net up server Listed router
 
   abbrev pub ServicesAged : ℕ → List (Fact ServiceOffer) → Type 0
-  ServicesAged = Aged service_reading service_order service_total most_services (map (λ p. p.service_share) ports) (λ s. s.service.hops) (λ s. refl) 0 0 Fine
+  ServicesAged = Aged service_reading service_order service_total most_services (map (λ p. p.service_share) ports) (λ s. s.service.hops) (λ s. refl) delay slack Fine
 
   -- what a router has that had so many seconds
   pub record Endures (had : ℕ) (history : History) : Type 0 where
@@ -57,21 +57,21 @@ module _ (net : Internet) (up : ℕ → List ℕ) (server : Server) (Listed : �
   ups_stay : (history : History) (event : Event) → LeavesPorts (Happens router event) → ports_up ports (history ++ event ∷ []) ≡ ports_up ports history
   ups_stay history event leaves = grind (arith, ports_stay)
 
-  module _ (had begun : ℕ) (late : had ≤ begun) where
+  module _ (had begun : ℕ) (late : had ≤ delay + begun) where
     abbrev pub ServiceOld : ServiceOffer → Type 0
     ServiceOld =
-        IsOldOffer service_reading service_order service_total most_services (map (λ p. p.service_share) ports) (λ s. s.service.hops) (λ s. refl) 0 0 Fine had
+        IsOldOffer service_reading service_order service_total most_services (map (λ p. p.service_share) ports) (λ s. s.service.hops) (λ s. refl) delay slack Fine had
 
     module _ (Speaks : ℕ → Service → Type 0) where
       services_old : (number : ℕ) → is_up (up router) number ≡ true → (node : Node) (entries : List SapEntry)
-          → AllByRecursion (EntrySaid net up server Listed Speaks begun (record { router = router; port = number }) node) entries
+          → AllByRecursion (EntrySaid net up server Listed delay slack Speaks begun (record { router = router; port = number }) node) entries
           → AllByRecursion (OffersOf ServiceOld) (services_offered number node entries)
       services_old number on node [] all = tt
       services_old number on node (e ∷ entries) all =
           all-append (OffersOf ServiceOld) _ (services_offered number node entries) (by e.name (λ name is near. sooner (all.0.fine on near name is)))
           (services_old number on node entries all.1)
         where
-          sooner : {A : Type 0} → A ⊎ (begun ≤ lifetime * e.hops) → A ⊎ IsWithin 0 0 e.hops had
+          sooner : {A : Type 0} → A ⊎ IsWithin delay slack e.hops (delay + begun) → A ⊎ IsWithin delay slack e.hops had
           sooner (inl fine) = inl fine
           sooner (inr soon) = inr (omega (arith, soon, late))
 
@@ -83,12 +83,12 @@ module _ (net : Internet) (up : ℕ → List ℕ) (server : Server) (Listed : �
           by None step = tt
           by (Some name) step = (step name refl, tt)
 
-      heard_old : (number : ℕ) → is_up (up router) number ≡ true → (m : Heard) → Told net up server Listed Speaks begun (record { router = router; port = number }) m
+      heard_old : (number : ℕ) → is_up (up router) number ≡ true → (m : Heard) → Told net up server Listed delay slack Speaks begun (record { router = router; port = number }) m
           → AllByRecursion (OffersOf ServiceOld) (services_heard number (Some m))
       heard_old number on m said = grind (arith, services_old)
 
       module _ (history : History) (endures : Endures had history) where
-        packet_old : (number : ℕ) (bytes : List ℕ) → Waits net up server Listed Speaks begun (record { router = router; port = number }) bytes
+        packet_old : (number : ℕ) (bytes : List ℕ) → Waits net up server Listed delay slack Speaks begun (record { router = router; port = number }) bytes
             → AllByRecursion (OffersOf ServiceOld) (services_heard number (heard_after ports history number bytes))
         packet_old number bytes waits = by (heard_after ports history number bytes) refl
           where
@@ -109,7 +109,7 @@ module _ (net : Internet) (up : ℕ → List ℕ) (server : Server) (Listed : �
                 true≢false (sym none_on)
 
         pub event_endures : (event : Event) → LeavesPorts (Happens router event)
-            → ((number : ℕ) (bytes : List ℕ) → event ≡ Packet number bytes → Waits net up server Listed Speaks begun (record { router = router; port = number }) bytes)
+            → ((number : ℕ) (bytes : List ℕ) → event ≡ Packet number bytes → Waits net up server Listed delay slack Speaks begun (record { router = router; port = number }) bytes)
             → Endures (passed event had) (history ++ event ∷ [])
         event_endures event leaves waits = search (rules, passed, facts_from-more, after_event, service_total, none_where, packet_old, ups_stay)
 
@@ -118,41 +118,41 @@ module _ (net : Internet) (up : ℕ → List ℕ) (server : Server) (Listed : �
   module _ (had begun : ℕ) (soon : begun ≤ had + 1) (history : History) (endures : Endures had history) where
     abbrev ServiceHeld : ServiceOffer → Type 0
     ServiceHeld =
-        IsOldHeld service_reading service_order service_total most_services (map (λ p. p.service_share) ports) (λ s. s.service.hops) (λ s. refl) 0 0 Fine had
+        IsOldHeld service_reading service_order service_total most_services (map (λ p. p.service_share) ports) (λ s. s.service.hops) (λ s. refl) delay slack Fine had
 
     services_are : AllByRecursion ServiceHeld (offers (services_held ports most_services history))
     services_are = search (rules, old_held, service_total)
 
-    learned_said : (j : ℕ) (s : ServiceOffer) → ServiceHeld s → IsSoon net up server Listed begun (record { router = router; port = j }) (farther s.service)
+    learned_said : (j : ℕ) (s : ServiceOffer) → ServiceHeld s → IsSoon net up server Listed delay slack begun (record { router = router; port = j }) (farther s.service)
     learned_said j s held near = by held.0
       where
         from : Place
         from = record { router = router; port = j }
 
-        by : Fine s ⊎ IsBelow 0 0 (s.service.hops + 1) had
+        by : Fine s ⊎ IsBelow delay slack (s.service.hops + 1) had
             → ((to : Place) → Reaches net up from to → is_up (up to.router) to.port ≡ true
             → IsFine net up server Listed to.router (record { service = farther s.service; port = to.port; node = (port_of net from).node }))
-            ⊎ (begun ≤ lifetime * (s.service.hops + 1))
+            ⊎ IsWithin delay slack (s.service.hops + 1) (delay + begun)
         by (inr old) = inr (omega (arith, old, soon))
         by (inl fine) = inl (λ to reaches here. (fine.0, (λ of. passed_on from s reaches.other here reaches.on reaches.network refl refl near (fine.1 of))))
 
-    ended_said : (j : ℕ) (s : Service) → IsSoon net up server Listed begun (record { router = router; port = j }) (dead_service s)
+    ended_said : (j : ℕ) (s : Service) → IsSoon net up server Listed delay slack begun (record { router = router; port = j }) (dead_service s)
     ended_said j s near = absurd (omega (arith, near))
 
     pub services_said : (Speaks : ℕ → Service → Type 0) (j : ℕ) → AllByRecursion (Speaks router) (told_services (offers (services_held ports most_services history)) j)
-        → AllByRecursion (ServiceSaid net up server Listed Speaks begun (record { router = router; port = j }))
+        → AllByRecursion (ServiceSaid net up server Listed delay slack Speaks begun (record { router = router; port = j }))
         (told_services (offers (services_held ports most_services history)) j)
     services_said Speaks j say =
-        let Soon = IsSoon net up server Listed begun (record { router = router; port = j }) in
+        let Soon = IsSoon net up server Listed delay slack begun (record { router = router; port = j }) in
         all_both (Speaks router) Soon (told_services (offers (services_held ports most_services history)) j) say
         (told_services_all Soon ServiceHeld (learned_said j) (ended_said j) (offers (services_held ports most_services history)) services_are j)
 
     pub changes_said : (Speaks : ℕ → Service → Type 0) (before : List ServiceOffer) (j : ℕ)
         → AllByRecursion (Speaks router) (news_services before (offers (services_held ports most_services history)) j)
-        → AllByRecursion (ServiceSaid net up server Listed Speaks begun (record { router = router; port = j }))
+        → AllByRecursion (ServiceSaid net up server Listed delay slack Speaks begun (record { router = router; port = j }))
         (news_services before (offers (services_held ports most_services history)) j)
     changes_said Speaks before j say =
-        let Soon = IsSoon net up server Listed begun (record { router = router; port = j }) in
+        let Soon = IsSoon net up server Listed delay slack begun (record { router = router; port = j }) in
         all_both (Speaks router) Soon (news_services before (offers (services_held ports most_services history)) j) say
         (news_services_told Soon ServiceHeld (learned_said j) (ended_said j) before (offers (services_held ports most_services history)) services_are j)
 

@@ -1,6 +1,6 @@
 -- After the ticks by which what is gone is gone, what a router has of a service that hosts announce is as it may know it: at its address, on a
 -- way of as many hops.
-use Rattle.std.proofs.Common.{◌≡◌, refl, sym, ap, ◌∙◌, subst, ℕ, suc, ◌<◌, ◌≤◌, List, [], ◌∷◌, length, map, Option, Some, None, IfSome, arith}
+use Rattle.std.proofs.Common.{◌≡◌, refl, sym, ap, ◌∙◌, subst, ℕ, suc, ◌+◌, ◌<◌, ◌≤◌, List, [], ◌∷◌, length, map, Option, Some, None, IfSome, arith}
 use Rattle.std.specs.List.{AllByRecursion}
 use Rattle.ipx_wire.specs.declared.sap.Sap.TheVariants.{Query, Response as SapResponse}
 use Rattle.ipx_wire.specs.declared.service.Service.{Service}
@@ -20,12 +20,13 @@ use Rattle.ipx_internet.specs.Run.{Step, Happens, Settles, AreHistories, Run, ru
 use Rattle.ipx_internet.specs.Ticks.{ticked}
 use Rattle.ipx_internet.proofs.lists.EachElement.{all_of, all_then}
 use Rattle.ipx_internet.proofs.packets.SentOnOrReply.{Layouts}
-use Rattle.ipx_laws.specs.Gone.{most_ticks_gone}
 use Rattle.ipx_laws.specs.Meanwhile.{message_of, SaysOnly, AreTicksOfHostsAfter}
 use Rattle.ipx_laws.specs.Servers.{Server, IsOf, at_hops, SaysNoFalse, NamesOnly, IsServed, IsAway, announced, passed_on, beside, beyond}
 use Rattle.ipx_laws.specs.Ups.{ups}
+use Rattle.ipx_laws.specs.Wires.{most_beats_gone}
 use Rattle.ipx_laws.proofs.records.RecordsGrowOld.{at_last, old_held, IsOldHeld}
 use Rattle.ipx_laws.proofs.services.HostTickAfterTick.{Rests, rested}
+use Rattle.ipx_laws.proofs.services.ServedOrSoonEnded.{Endures}
 use Rattle.ipx_laws.proofs.services.SpokenOfAServer.{IsFine}
 use Rattle.ipx_laws.proofs.ticks.AfterRest.{begins_after}
 
@@ -48,11 +49,8 @@ module _ (net : Internet) (up : ℕ → List ℕ) (server : Server) where
 
 -- ---- after that many ticks
 
-module _ (net : Internet) (laws : Layouts) (is : IsInternet net) (most_routes most_services : ℕ) (up : ℕ → List ℕ) (server : Server) (Listed : ℕ × List ℕ → Type 0) (count : ℕ) (last : Run)
-    (rests : Rests net laws is most_routes most_services up server Listed count last) (long : most_ticks_gone ≤ count) (router : ℕ) (within : router < length net) where
-  abbrev past : History
-  past = history_of last.histories router
-
+module _ (delay slack : ℕ) (net : Internet) (up : ℕ → List ℕ) (server : Server) (Listed : ℕ × List ℕ → Type 0) (most_services router had : ℕ) (past : History)
+    (endures : Endures delay slack net up server Listed most_services router had past) (long : slack + most_beats_gone delay ≤ had) where
   abbrev ports : List Port
   ports = ports_of net router
 
@@ -62,8 +60,8 @@ module _ (net : Internet) (laws : Layouts) (is : IsInternet net) (most_routes mo
   pub all_real : AllByRecursion (λ s. IsOf server s.service → IsServed net up server router s) Known
   all_real =
       all_then (IsFine net up server Listed router) (λ s. IsOf server s.service → IsServed net up server router s) (λ s fine. fine.1) Known
-      (at_last service_reading service_order service_total most_services (map (λ p. p.service_share) ports) (λ s. s.service.hops) (λ s. refl) 0 0
-      (IsFine net up server Listed router) count (service_facts ports past) long (rests.routers router within).services)
+      (at_last service_reading service_order service_total most_services (map (λ p. p.service_share) ports) (λ s. s.service.hops) (λ s. refl) delay slack
+      (IsFine net up server Listed router) had (service_facts ports past) long endures.services)
 
   -- at that address, reached, on such a way
   abbrev pub IsOnWay : ServiceOffer → Type 0
@@ -72,10 +70,10 @@ module _ (net : Internet) (laws : Layouts) (is : IsInternet net) (most_routes mo
   all_near : AllByRecursion (λ s. s.service.hops < unreachable) Known
   all_near =
       let Fine : ServiceOffer → Type 0 = IsFine net up server Listed router in
-      all_then (IsOldHeld service_reading service_order service_total most_services (map (λ p. p.service_share) ports) (λ s. s.service.hops) (λ s. refl) 0 0 Fine count)
+      all_then (IsOldHeld service_reading service_order service_total most_services (map (λ p. p.service_share) ports) (λ s. s.service.hops) (λ s. refl) delay slack Fine had)
       (λ s. s.service.hops < unreachable) (λ s old. old.1) Known
-      (old_held service_reading service_order service_total most_services (map (λ p. p.service_share) ports) (λ s. s.service.hops) (λ s. refl) 0 0 Fine count
-      (service_facts ports past) (rests.routers router within).services)
+      (old_held service_reading service_order service_total most_services (map (λ p. p.service_share) ports) (λ s. s.service.hops) (λ s. refl) delay slack Fine had
+      (service_facts ports past) endures.services)
 
   pub all_away : AllByRecursion (λ s. IsOf server s.service → IsOnWay s) Known
   all_away =
@@ -105,23 +103,23 @@ module _ (net : Internet) (laws : Layouts) (is : IsInternet net) (most_routes mo
 abbrev pub AnyName : ℕ × List ℕ → Type 0
 AnyName name = Unit {0}
 
+message_any : (m : Heard) → NamesOnly AnyName m
+message_any (HeardRip source rip) = tt
+message_any (HeardSap source (Query nearest kind)) = tt
+message_any (HeardSap source (SapResponse nearest entries)) = all_of (λ e. (name : List ℕ) → e.name ≡ Some name → Unit {0}) (λ e name is. tt) entries
+
+may_be : (o : Option Heard) → IfSome o (NamesOnly AnyName)
+may_be None = tt
+may_be (Some m) = message_any m
+
+pub name_any : (step : Step) → SaysOnly (NamesOnly AnyName) step
+name_any (Happens router (Packet number bytes)) = may_be (message_of bytes)
+name_any (Happens router Second) = tt
+name_any (Happens router Start) = tt
+name_any (Happens router Stop) = tt
+name_any (Happens router (PortDown number)) = tt
+name_any (Happens router (PortUp number)) = tt
+name_any Settles = tt
+
 pub names_any : (net : Internet) (server : Server) (ticks : List (List Step)) → AllByRecursion (AllByRecursion (SaysOnly (NamesOnly AnyName))) ticks
-names_any net server ticks = all_of (AllByRecursion (SaysOnly (NamesOnly AnyName))) (λ steps. all_of (SaysOnly (NamesOnly AnyName)) step_any steps) ticks
-  where
-    message_any : (m : Heard) → NamesOnly AnyName m
-    message_any (HeardRip source rip) = tt
-    message_any (HeardSap source (Query nearest kind)) = tt
-    message_any (HeardSap source (SapResponse nearest entries)) = all_of (λ e. (name : List ℕ) → e.name ≡ Some name → Unit {0}) (λ e name is. tt) entries
-
-    may_be : (o : Option Heard) → IfSome o (NamesOnly AnyName)
-    may_be None = tt
-    may_be (Some m) = message_any m
-
-    step_any : (step : Step) → SaysOnly (NamesOnly AnyName) step
-    step_any (Happens router (Packet number bytes)) = may_be (message_of bytes)
-    step_any (Happens router Second) = tt
-    step_any (Happens router Start) = tt
-    step_any (Happens router Stop) = tt
-    step_any (Happens router (PortDown number)) = tt
-    step_any (Happens router (PortUp number)) = tt
-    step_any Settles = tt
+names_any net server ticks = all_of (AllByRecursion (SaysOnly (NamesOnly AnyName))) (λ steps. all_of (SaysOnly (NamesOnly AnyName)) name_any steps) ticks

@@ -1,6 +1,6 @@
 -- What waits for a port, of a service that hosts announce: what the router or the host that sends it may say there. A router sends nothing
 -- else, neither at a second nor for such a packet.
-use Rattle.std.proofs.Common.{◌≡◌, ◌≢◌, refl, sym, ap, ◌∙◌, ◌⊎◌, ℕ, ◌*◌, ◌<◌, ◌≤◌, Bool, true, false, not, List, map, Some, None, Result, Ok, Err, inl, inr, arith, true≢false, rules}
+use Rattle.std.proofs.Common.{◌≡◌, ◌≢◌, refl, sym, ap, ◌∙◌, ◌⊎◌, ℕ, ◌+◌, ◌<◌, ◌≤◌, Bool, true, false, not, List, map, Some, None, Result, Ok, Err, inl, inr, arith, true≢false, rules}
 use Rattle.std.specs.List.{AllByRecursion}
 use Rattle.std.proofs.lemmas.Bool.{cases_Bool, and_parts, eqb-true}
 use Rattle.ipx_wire.specs.Packet.{Parts}
@@ -16,7 +16,6 @@ use Rattle.ipx_wire.specs.declared.rip.RipFault.{RipFault}
 use Rattle.ipx_wire.specs.declared.sap.Sap.TheVariants.{Query, Response as SapResponse}
 use Rattle.ipx_wire.specs.declared.sap_entries.SapEntry.{SapEntry}
 use Rattle.ipx_wire.specs.declared.service.Service.{Service}
-use Rattle.ipx_table.specs.Alive.{lifetime}
 use Rattle.ipx_router.specs.Heard.{Heard, HeardRip, HeardSap, heard_in}
 use Rattle.ipx_router.specs.Numbers.{rip_socket, sap_socket, unreachable}
 use Rattle.ipx_router.specs.Port.{Port, port_at, is_local, is_up, own_address, own_services, everyone, every_server}
@@ -37,6 +36,7 @@ use Rattle.ipx_laws.specs.Announces.{service_of, AsksApart}
 use Rattle.ipx_laws.specs.Meanwhile.{message_in, message_of, AsksElsewhere}
 use Rattle.ipx_laws.specs.Servers.{Server, IsOf, IsAnnouncedOn, IsSilentOf, SaysAsAnnounced, IsForHere, MaySay, NamesOnly, IsServed, announced}
 use Rattle.ipx_laws.proofs.packets.SentOnSaysTheSame.{of_packet, for_rip, for_sap, message_heard, sent_on_message}
+use Rattle.ipx_laws.proofs.records.RecordsGrowOld.{IsWithin}
 use Rattle.ipx_laws.proofs.ticks.RealOrSoonEnded.{Reaches}
 
 -- a response isn't answered at all
@@ -65,11 +65,11 @@ module _ (net : Internet) (up : ℕ → List ℕ) (server : Server) (Listed : �
   IsFine router s = Listed (s.service.kind, s.service.name) × (IsOf server s.service → IsServed net up server router s)
 
   -- a service that is sent on a port: whoever learns of it there may know it so, or it was said soon enough
-  abbrev pub IsSoon : ℕ → Place → Service → Type 0
-  IsSoon begun from s =
+  abbrev pub IsSoon : (delay slack begun : ℕ) → Place → Service → Type 0
+  IsSoon delay slack begun from s =
       s.hops < unreachable
       → ((to : Place) → Reaches net up from to → is_up (up to.router) to.port ≡ true
-      → IsFine to.router (record { service = s; port = to.port; node = (port_of net from).node })) ⊎ (begun ≤ lifetime * s.hops)
+      → IsFine to.router (record { service = s; port = to.port; node = (port_of net from).node })) ⊎ IsWithin delay slack s.hops (delay + begun)
 
   -- ---- what doesn't name it
 
@@ -100,7 +100,7 @@ module _ (net : Internet) (up : ℕ → List ℕ) (server : Server) (Listed : �
 
   -- ---- what is said of it, where routers say such words
 
-  module _ (Speaks : ℕ → Service → Type 0) where
+  module _ (delay slack : ℕ) (Speaks : ℕ → Service → Type 0) where
     -- who says something of it on a port: who announces it there, or the port of another router that says so
     abbrev pub Who : Place → Node → Service → Type 0
     Who to node s =
@@ -112,12 +112,16 @@ module _ (net : Internet) (up : ℕ → List ℕ) (server : Server) (Listed : �
     pub record EntrySaid (begun : ℕ) (to : Place) (node : Node) (e : SapEntry) : Type 0 where
       pub who : (name : List ℕ) → e.name ≡ Some name → IsOf server (service_of e name) → Who to node (service_of e name)
       pub fine : is_up (up to.router) to.port ≡ true → e.hops < unreachable → (name : List ℕ) → e.name ≡ Some name
-          → IsFine to.router (service_offer to.port node e name) ⊎ (begun ≤ lifetime * e.hops)
+          → IsFine to.router (service_offer to.port node e name) ⊎ IsWithin delay slack e.hops (delay + begun)
 
     abbrev pub Told : ℕ → Place → Heard → Type 0
     Told begun to (HeardRip source rip) = AsksElsewhere source rip.operation
     Told begun to (HeardSap source (Query nearest kind)) = Unit
     Told begun to (HeardSap source (SapResponse nearest entries)) = AllByRecursion (EntrySaid begun to source.node) entries
+
+    pub told_asks : (begun : ℕ) (to : Place) (m : Heard) → Told begun to m → AsksApart m
+    told_asks begun to (HeardRip source rip) tells = tells
+    told_asks begun to (HeardSap source sap) tells = tt
 
     -- what comes to a port tells of such; and sent on from there, it doesn't name it
     pub record Waits (begun : ℕ) (to : Place) (bytes : List ℕ) : Type 0 where
@@ -175,7 +179,7 @@ module _ (net : Internet) (up : ℕ → List ℕ) (server : Server) (Listed : �
 
     -- a service that is sent on a port: the router says so, and it is soon enough
     abbrev pub ServiceSaid : ℕ → Place → Service → Type 0
-    ServiceSaid begun from s = Speaks from.router s × IsSoon begun from s
+    ServiceSaid begun from s = Speaks from.router s × IsSoon delay slack begun from s
 
     -- a page of services that a port sends to its own network, to all or to who asked
     pub record IsOwnServices (begun : ℕ) (from : Place) (bytes : List ℕ) : Type 0 where
@@ -215,8 +219,8 @@ module _ (net : Internet) (up : ℕ → List ℕ) (server : Server) (Listed : �
         where
           by : is_up (up to.router) to.port ≡ true → (name : List ℕ) → Some s.name ≡ Some name
               → ((other : Place) → Reaches net up from other → is_up (up other.router) other.port ≡ true
-              → IsFine other.router (record { service = s; port = other.port; node = port.node })) ⊎ (begun ≤ lifetime * s.hops)
-              → IsFine to.router (service_offer to.port port.node (sap_entry s) name) ⊎ (begun ≤ lifetime * s.hops)
+              → IsFine other.router (record { service = s; port = other.port; node = port.node })) ⊎ IsWithin delay slack s.hops (delay + begun)
+              → IsFine to.router (service_offer to.port port.node (sap_entry s) name) ⊎ IsWithin delay slack s.hops (delay + begun)
           by here name same (inr soon) = inr soon
           by here name same (inl fine) =
               inl (it_is (λ (n : List ℕ). IsFine to.router (service_offer to.port port.node (sap_entry s) n)) name s.name same (fine to reaches here))
@@ -246,3 +250,21 @@ module _ (net : Internet) (up : ℕ → List ℕ) (server : Server) (Listed : �
         → Waits begun to s.bytes
     spoken_waits begun router s to reaches (inl own) = own_waits begun (at router s.port) to s.bytes (reaches own.0) own.1
     spoken_waits begun router s to reaches (inr silent) = silent_waits begun to s.bytes silent
+
+  -- what is told where routers say such words is told where they say what follows from them
+  module _ (delay slack : ℕ) (P Q : ℕ → Service → Type 0) (so : (router : ℕ) (s : Service) → P router s → Q router s) (begun : ℕ) (to : Place) where
+    who_so : (node : Node) (s : Service) → Who delay slack P to node s → Who delay slack Q to node s
+    who_so node s (inl announces) = inl announces
+    who_so node s (inr (from, reaches, same, says)) = inr (from, reaches, same, so from.router s says)
+
+    entry_so : (node : Node) (e : SapEntry) → EntrySaid delay slack P begun to node e → EntrySaid delay slack Q begun to node e
+    entry_so node e said = record { who = λ name named of. who_so node (service_of e name) (said.who name named of); fine = said.fine }
+
+    pub told_so : (m : Heard) → Told delay slack P begun to m → Told delay slack Q begun to m
+    told_so (HeardRip source rip) said = said
+    told_so (HeardSap source (Query nearest kind)) said = said
+    told_so (HeardSap source (SapResponse nearest entries)) said =
+        all_then (EntrySaid delay slack P begun to source.node) (EntrySaid delay slack Q begun to source.node) (entry_so source.node) entries said
+
+    pub waits_so : (bytes : List ℕ) → Waits delay slack P begun to bytes → Waits delay slack Q begun to bytes
+    waits_so bytes waits = record { tells = λ m e. told_so m (waits.tells m e); onward = waits.onward }

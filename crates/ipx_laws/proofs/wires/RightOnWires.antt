@@ -37,7 +37,7 @@ use Rattle.ipx_laws.proofs.wires.SpokenOnWires.{AnyHistory, AnyEntry, Flies, Spe
 use Rattle.ipx_laws.proofs.wires.WordsOnWires.{Lasting, HasIt, Fit, Extra, as_in_ticks, extras, advertises, a_hop, routes_in}
 
 -- a list in two parts, the first of that length
-parted : {X : Type 0} (k : ℕ) (xs : List X) → k ≤ length xs → (front : List X) × (back : List X) × (xs ≡ front ++ back) × (length front ≡ k)
+pub parted : {X : Type 0} (k : ℕ) (xs : List X) → k ≤ length xs → (front : List X) × (back : List X) × (xs ≡ front ++ back) × (length front ≡ k)
 parted zero xs some = ([], xs, refl, refl)
 parted (suc k) [] some = absurd (omega (arith, some))
 parted (suc k) (x ∷ xs) some =

@@ -32,7 +32,7 @@ use Rattle.ipx_laws.proofs.ticks.RealOrSoonEnded.{Endures}
 use Rattle.ipx_laws.proofs.wires.SpokenOnWires.{Extras}
 
 -- what is so of each if something is, is so if that is
-all_if : {X : Type 0} (A : Type 0) (P : X → Type 0) (xs : List X) → (A → AllByRecursion P xs) → AllByRecursion (λ x. A → P x) xs
+pub all_if : {X : Type 0} (A : Type 0) (P : X → Type 0) (xs : List X) → (A → AllByRecursion P xs) → AllByRecursion (λ x. A → P x) xs
 all_if A P [] all = tt
 all_if A P (x ∷ xs) all = ((λ a. (all a).0), all_if A P xs (λ a. (all a).1))
 

@@ -1,4 +1,5 @@
 use Rattle.std.proofs.Common.{◌∷◌, length}
+use Rattle.ipx_internet.specs.Queue.{history_of}
 use Rattle.ipx_internet.specs.Ticks.{ticked}
 use Rattle.ipx_internet.proofs.packets.SentOnOrReply.{Layouts}
 use Rattle.ipx_laws.specs.Ups.{ups}
@@ -30,18 +31,18 @@ layouts c = record {
 
 pub returns-clause-real : goal.returns-clause-real
 returns-clause-real c net most_routes most_services server run first ticks router is are of_hosts say long within =
-    all_real net (layouts c) is most_routes most_services (ups net run.histories) server AnyName (length ticks)
-    (ticked net most_routes most_services run (first ∷ ticks))
-    (from_any net (layouts c) is most_routes most_services server AnyName run first ticks are of_hosts say (names_any net server ticks)) long router within
+    let last = ticked net most_routes most_services run (first ∷ ticks) in
+    all_real 0 0 net (ups net run.histories) server AnyName most_services router (length ticks) (history_of last.histories router)
+    ((from_any net (layouts c) is most_routes most_services server AnyName run first ticks are of_hosts say (names_any net server ticks)).routers router within) long
 
 pub returns-clause-away : goal.returns-clause-away
 returns-clause-away c net most_routes most_services server run first ticks router is are of_hosts say long within =
-    all_away net (layouts c) is most_routes most_services (ups net run.histories) server AnyName (length ticks)
-    (ticked net most_routes most_services run (first ∷ ticks))
-    (from_any net (layouts c) is most_routes most_services server AnyName run first ticks are of_hosts say (names_any net server ticks)) long router within
+    let last = ticked net most_routes most_services run (first ∷ ticks) in
+    all_away 0 0 net (ups net run.histories) server AnyName most_services router (length ticks) (history_of last.histories router)
+    ((from_any net (layouts c) is most_routes most_services server AnyName run first ticks are of_hosts say (names_any net server ticks)).routers router within) long
 
 pub returns-clause-none : goal.returns-clause-none
 returns-clause-none c net most_routes most_services server run first ticks router is are of_hosts say long within no_way =
-    none_known net (layouts c) is most_routes most_services (ups net run.histories) server AnyName (length ticks)
-    (ticked net most_routes most_services run (first ∷ ticks))
-    (from_any net (layouts c) is most_routes most_services server AnyName run first ticks are of_hosts say (names_any net server ticks)) long router within no_way
+    let last = ticked net most_routes most_services run (first ∷ ticks) in
+    none_known 0 0 net (ups net run.histories) server AnyName most_services router (length ticks) (history_of last.histories router)
+    ((from_any net (layouts c) is most_routes most_services server AnyName run first ticks are of_hosts say (names_any net server ticks)).routers router within) long no_way
