@@ -157,6 +157,17 @@ static void make_room(gateway *it, network *on)
         gone += it->arrivals.count;
 }
 
+/* Whether a second counts of those for which a link stays shut: one of two does, by chance. (so of two gateways that shut links in one moment, each
+ * because of the other's, one opens its link again before the other, and then it alone stays open) */
+static bool is_counted(const gateway *it, const network *on)
+{
+    uint8_t of[AT_SEAL + sizeof on->set->network];
+    of[AT_LINK] = on->link;
+    put_second(of, it->seconds);
+    put32(of + AT_SEAL, on->set->network);
+    return (siphash(it->key, of, sizeof of) & 1) != 0;
+}
+
 void loops_second(gateway *it)
 {
     for (size_t k = 0; k < it->count; k++)
@@ -166,7 +177,7 @@ void loops_second(gateway *it)
         network *on = &it->networks[k];
         if (on->is_up)
             loop_ask(it, on);
-        if (ipxr_loop_second(&on->loop.shut))
+        if (is_counted(it, on) && ipxr_loop_second(&on->loop.shut))
             links_look(it, on->cable);
     }
 }
