@@ -1,7 +1,7 @@
 -- The two routers of `Waiting`, started 59 seconds ago, on wires, and the host of `Hosts` on 10h, which the first router has heard. In the
 -- beat that follows the host announces its file server again, each router broadcasts, and the first router's services land: so in a window of
 -- one beat the host and the first router are heard, and then the second router has the server, two hops away. Lost, it hasn't.
-use Rattle.std.proofs.Common.{◌≡◌, ◌≢◌, refl, sym, ap, ◌∙◌, subst, ℕ, zero, suc, ◌<◌, ◌≤◌, List, [], ◌∷◌, ◌++◌, length, map, replicate, Some, None, Option, slice_get, inl, inr, arith}
+use Rattle.std.proofs.Common.{◌≡◌, ◌≢◌, refl, sym, ap, ◌∙◌, subst, ℕ, zero, suc, ◌<◌, ◌≤◌, List, [], ◌∷◌, ◌++◌, length, map, replicate, Some, None, Option, inl, inr, arith}
 use Rattle.ipx_wire.specs.Address.{address_bytes, address_at}
 use Rattle.ipx_wire.specs.Crossed.{network_bytes, network_at}
 use Rattle.ipx_wire.specs.Header.{header_bytes, header_at}
@@ -19,12 +19,11 @@ use Rattle.ipx_router.proofs.port_values.PortOfEachNumber.{one_up}
 use Rattle.ipx_internet.specs.Internet.{Place, ports_of, port_of, network_of}
 use Rattle.ipx_internet.specs.Ticks.{seconds_of}
 use Rattle.ipx_internet.proofs.examples.Waiting.{segment}
-use Rattle.ipx_internet.proofs.examples.Words.{network, at}
+use Rattle.ipx_internet.proofs.examples.Words.{at}
 use Rattle.ipx_internet.proofs.lists.FoundInAList.{nothing}
 use Rattle.ipx_laws.specs.InTime.{IsSlow, IsQuick}
-use Rattle.ipx_laws.specs.Meanwhile.{LeavesPorts, SaysOnly}
-use Rattle.ipx_laws.specs.Regular.{IsListedName}
-use Rattle.ipx_laws.specs.Servers.{Announcer, NamesOnly, SaysNoFalse, at_hops, known_of}
+use Rattle.ipx_laws.specs.Meanwhile.{LeavesPorts}
+use Rattle.ipx_laws.specs.Servers.{Announcer, at_hops, known_of}
 use Rattle.ipx_laws.specs.Tables.{services_of}
 use Rattle.ipx_laws.specs.Ups.{ups}
 use Rattle.ipx_laws.specs.WireRegular.{InBeats, IsHostHeard, IsRouterHeard, AdvertisesService, AreHostsInTime, AreRoutersInTime, AreRegularBeats}

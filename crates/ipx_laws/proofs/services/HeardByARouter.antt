@@ -1,8 +1,8 @@
 -- What a router has of a service while hosts and neighbours that say it with the fewest hops have still to be heard: it is young, or one of
 -- these has; and a second or a packet leaves it so.
-use Rattle.std.proofs.Common.{◌≡◌, ◌≢◌, refl, sym, ap, ◌∙◌, subst, ◌⊎◌, ℕ, zero, suc, ◌+◌, ◌-◌, ◌*◌, ◌<◌, ◌≤◌, true, List, [], ◌∷◌, ◌++◌, length, Option, None, Some, option_map, inl, inr, arith, append-nil, is_eq, slice_get, get_or-set_same, get_or-set_other, rules}
+use Rattle.std.proofs.Common.{◌≡◌, ◌≢◌, refl, sym, ap, ◌∙◌, subst, ◌⊎◌, ℕ, zero, suc, ◌+◌, ◌<◌, ◌≤◌, true, List, [], ◌∷◌, ◌++◌, length, Option, None, Some, option_map, inl, inr, arith, append-nil, is_eq, slice_get, rules}
 use Rattle.std.specs.List.{AllByRecursion}
-use Rattle.std.proofs.lemmas.Bool.{cases_Bool, cases_eq}
+use Rattle.std.proofs.lemmas.Bool.{cases_Bool}
 use Rattle.ipx_table.specs.Facts.{Fact, Offered}
 use Rattle.ipx_table.specs.declared.held.Held.{Held}
 use Rattle.ipx_wire.specs.WriteServices.{entry_of}
@@ -13,43 +13,30 @@ use Rattle.ipx_wire.specs.declared.service.Service.{Service}
 use Rattle.ipx_table.specs.Alive.{lifetime}
 use Rattle.ipx_router.specs.Facts.{services_offered, services_heard, heard_after, service_facts, service_facts_of, services_held, offers}
 use Rattle.ipx_router.specs.Heard.{Heard, HeardRip, HeardSap}
-use Rattle.ipx_router.specs.History.{Event, History, Start, Stop, Second, Packet, PortDown, PortUp, running, ports_up}
-use Rattle.ipx_router.specs.Numbers.{unreachable, period}
+use Rattle.ipx_router.specs.History.{History, Second, Packet, running, ports_up}
 use Rattle.ipx_router.specs.Port.{Port, is_up}
 use Rattle.ipx_router.specs.Services.{service_reading, service_order}
 use Rattle.ipx_router.specs.declared.service_offer.ServiceOffer.{ServiceOffer}
 use Rattle.ipx_router.proofs.bounds.PacketsOfEachEvent.{service_total}
 use Rattle.ipx_router.proofs.tables.HeldWasOffered.{heard_up}
 use Rattle.ipx_router.proofs.tables.OffersOfAMessage.{facts_from-more}
-use Rattle.ipx_internet.specs.Internet.{Internet, Place, IsInternet, NodesDiffer, ports_of}
-use Rattle.ipx_internet.specs.Queue.{history_of, with_event}
-use Rattle.ipx_internet.specs.Log.{Reception}
-use Rattle.ipx_internet.specs.Run.{Step, Happens, Settles, IsStep, Run, Waiting, forgotten, stepped, run_of}
-use Rattle.ipx_internet.specs.Ticks.{seconds_of, ticked}
-use Rattle.ipx_internet.specs.BusyTick.{IsBusyTick}
+use Rattle.ipx_internet.specs.Internet.{Place, ports_of}
 use Rattle.ipx_internet.proofs.lists.EachElement.{all-append}
 use Rattle.ipx_internet.proofs.lists.FoundInAList.{nothing, it_is}
-use Rattle.ipx_internet.proofs.packets.SentOnOrReply.{Layouts}
 use Rattle.ipx_internet.proofs.records.HeardChangesItsKeys.{service_offer}
 use Rattle.ipx_internet.proofs.records.KeptOrOffered.{OffersOf, among_alive}
 use Rattle.ipx_laws.specs.Regular.{HasRoomFor, Announces}
-use Rattle.ipx_laws.specs.Servers.{Announcer, Server, at_hops, known_of, SaysNoFalse, NamesOnly, IsFewest}
-use Rattle.ipx_laws.specs.Gone.{most_ticks_gone}
+use Rattle.ipx_laws.specs.Servers.{Announcer, at_hops, known_of}
 use Rattle.ipx_laws.specs.Meanwhile.{message_of}
 use Rattle.ipx_laws.specs.Wires.{most_beats_gone}
 use Rattle.ipx_laws.proofs.lists.SomeElement.{AnyIs, any_in_front, any_behind}
 use Rattle.ipx_laws.proofs.packets.SentOnSaysTheSame.{heard_message}
 use Rattle.ipx_laws.proofs.records.BestIsKept.{State, Comes, known, offers_keep, offers_come, second_keeps}
 use Rattle.ipx_laws.proofs.records.RecordsGrowOld.{IsWithin}
-use Rattle.ipx_laws.proofs.services.ExactWords.{one_name, Words, NearerRight, exact}
-use Rattle.ipx_laws.proofs.services.HeardAtAStep.{Hears, FirstHears, IsHeardAt, HeardWithin, HeardWithinTicks, AtEach, at_first}
-use Rattle.ipx_laws.proofs.services.HostTickAfterTick.{Going, Rests, begins, step_goes, tick_rests, ticks_rest, outside_waits}
-use Rattle.ipx_laws.proofs.services.HostsApart.{HostsApart}
+use Rattle.ipx_laws.proofs.services.ExactWords.{one_name, Words}
 use Rattle.ipx_laws.proofs.services.NearestHost.{Sought, here, Listed, key, shares, Real, host_of, SaidBy, Good, GoodOf, best, steady, Such, real_known, goes_on, place}
-use Rattle.ipx_laws.proofs.services.ServedOrSoonEnded.{Endures, ServiceOld, AreExact}
-use Rattle.ipx_laws.proofs.services.SpokenOfAServer.{EntrySaid, Told, Waits}
-use Rattle.ipx_laws.proofs.ticks.EventOfOneRouter.{own_seconds}
-use Rattle.ipx_laws.proofs.ticks.TickAfterTick.{second_there}
+use Rattle.ipx_laws.proofs.services.ServedOrSoonEnded.{Endures, ServiceOld}
+use Rattle.ipx_laws.proofs.services.SpokenOfAServer.{EntrySaid, Told}
 
 module _ (sought : Sought) where
   open sought use {net, up, server, names, most_services, r, hops, reached}

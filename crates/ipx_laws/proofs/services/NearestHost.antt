@@ -1,6 +1,6 @@
 -- What is best of all that a router may know of a service: what the nearest hosts beside it say, and neighbours that are one hop nearer. There is
 -- room for it.
-use Rattle.std.proofs.Common.{◌≡◌, refl, sym, ap, ap₂, ◌∙◌, subst, ◌⊎◌, ℕ, suc, ◌+◌, ◌-◌, ◌*◌, ◌<◌, ◌≤◌, nat_le, true, false, List, [], ◌∷◌, ◌++◌, find, length, map, None, Some, inl, inr, arith, is_eq, slice_get, rules}
+use Rattle.std.proofs.Common.{◌≡◌, refl, sym, ap, ap₂, ◌∙◌, subst, ◌⊎◌, ℕ, suc, ◌+◌, ◌-◌, ◌<◌, ◌≤◌, nat_le, true, false, List, [], ◌∷◌, ◌++◌, find, length, map, None, Some, inl, inr, arith, is_eq, slice_get, rules}
 use Rattle.std.specs.List.{AllByRecursion}
 use Rattle.std.specs.Ordering.{is_gt}
 use Rattle.std.proofs.Math.Nat.{mul-le-mul_left}

@@ -1,11 +1,10 @@
 -- What a router has and says of a service that hosts announce: what it may know of it, or what is so old that it soon ends.
-use Rattle.std.proofs.Common.{◌≡◌, refl, sym, subst, ◌⊎◌, ℕ, ◌+◌, ◌*◌, ◌<◌, ◌≤◌, true, false, List, [], ◌∷◌, ◌++◌, length, map, Option, Some, None, inl, inr, arith, true≢false, rules}
+use Rattle.std.proofs.Common.{◌≡◌, refl, sym, subst, ◌⊎◌, ℕ, ◌+◌, ◌<◌, ◌≤◌, true, false, List, [], ◌∷◌, ◌++◌, length, map, Option, Some, None, inl, inr, arith, true≢false, rules}
 use Rattle.std.specs.List.{AllByRecursion}
 use Rattle.ipx_table.specs.Facts.{Fact, Offered}
 use Rattle.ipx_wire.specs.declared.node.Node.{Node}
 use Rattle.ipx_wire.specs.declared.sap_entries.SapEntry.{SapEntry}
 use Rattle.ipx_wire.specs.declared.service.Service.{Service}
-use Rattle.ipx_table.specs.Alive.{lifetime}
 use Rattle.ipx_router.specs.Facts.{services_offered, services_heard, heard_after, service_facts, services_held, offers}
 use Rattle.ipx_router.specs.Heard.{Heard}
 use Rattle.ipx_router.specs.History.{Event, History, Packet, running, ports_up}

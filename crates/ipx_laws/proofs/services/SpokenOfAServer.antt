@@ -1,6 +1,6 @@
 -- What waits for a port, of a service that hosts announce: what the router or the host that sends it may say there. A router sends nothing
 -- else, neither at a second nor for such a packet.
-use Rattle.std.proofs.Common.{◌≡◌, ◌≢◌, refl, sym, ap, ◌∙◌, ◌⊎◌, ℕ, ◌+◌, ◌<◌, ◌≤◌, Bool, true, false, not, List, map, Some, None, Result, Ok, Err, inl, inr, arith, true≢false, rules}
+use Rattle.std.proofs.Common.{◌≡◌, ◌≢◌, refl, sym, ap, ◌∙◌, ◌⊎◌, ℕ, ◌+◌, ◌<◌, Bool, true, false, not, List, map, Some, None, Result, Ok, Err, inl, inr, arith, true≢false, rules}
 use Rattle.std.specs.List.{AllByRecursion}
 use Rattle.std.proofs.lemmas.Bool.{cases_Bool, and_parts, eqb-true}
 use Rattle.ipx_wire.specs.Packet.{Parts}

@@ -1,57 +1,19 @@
 -- Over wires: what is so of one of the steps of some beats; and hosts that are heard in them, on every port of their network that is up, have
 -- the node of none of these.
-use Rattle.std.proofs.Common.{◌≡◌, ◌≢◌, refl, sym, ap, ◌∙◌, subst, ◌⊎◌, ℕ, zero, suc, ◌+◌, ◌-◌, ◌*◌, ◌<◌, ◌≤◌, ◌==◌, Bool, true, false, List, [], ◌∷◌, ◌++◌, length, map, take, drop, Some, slice_get, inl, inr, arith, append_assoc, length-append, rules}
-use Rattle.std.specs.List.{AllByRecursion}
-use Rattle.std.proofs.Math.Nat.{mul-le-mul_right}
-use Rattle.std.proofs.lemmas.Bool.{cases_lt}
-use Rattle.std.proofs.lemmas.List.{take-append-drop, length-drop}
-use Rattle.ipx_table.specs.Alive.{lifetime}
+use Rattle.std.proofs.Common.{◌≡◌, refl, ℕ, suc, ◌≤◌, List, [], ◌∷◌, ◌++◌, length, Some, slice_get, inl, inr}
 use Rattle.ipx_wire.specs.WriteServices.{entry_of}
-use Rattle.ipx_wire.specs.declared.node.Node.{Node}
 use Rattle.ipx_wire.specs.declared.sap.Sap.TheVariants.{Query, Response as SapResponse}
-use Rattle.ipx_wire.specs.declared.service.Service.{Service}
-use Rattle.ipx_router.specs.Facts.{heard_after, service_facts, services_held, offers}
 use Rattle.ipx_router.specs.Heard.{Heard, HeardRip, HeardSap}
-use Rattle.ipx_router.specs.History.{Event, History, Start, Stop, Second, Packet, PortDown, PortUp}
-use Rattle.ipx_router.specs.News.{news_services}
-use Rattle.ipx_router.specs.Numbers.{unreachable}
-use Rattle.ipx_router.specs.Port.{is_up}
-use Rattle.ipx_router.specs.Services.{service_reading, service_order}
-use Rattle.ipx_router.specs.Told.{farther, is_service_told, told_services}
-use Rattle.ipx_router.specs.declared.service_offer.ServiceOffer.{ServiceOffer}
-use Rattle.ipx_router.proofs.bounds.PacketsOfEachEvent.{service_total}
-use Rattle.ipx_router.proofs.lists.EachElement.{all_before, all_behind, all_both}
-use Rattle.ipx_internet.specs.Internet.{Internet, Place, IsInternet, NodesDiffer, ports_of, port_of, network_of}
-use Rattle.ipx_internet.specs.Queue.{Delivery, history_of}
-use Rattle.ipx_internet.specs.Rounds.{IsDelivery}
-use Rattle.ipx_internet.specs.Run.{AreHistories}
-use Rattle.ipx_internet.proofs.lists.EachElement.{all_of, all_then, all_mapped, holds_of}
-use Rattle.ipx_internet.proofs.packets.SentOnOrReply.{Layouts}
-use Rattle.ipx_internet.proofs.trees.RunIsALog.{router_there}
-use Rattle.ipx_laws.specs.InTime.{IsSlow, IsQuick}
-use Rattle.ipx_laws.specs.Meanwhile.{LeavesPorts, SaysOnly}
-use Rattle.ipx_laws.specs.Regular.{Announces, HaveOneVoice, HasRoomFor, IsListedName, NoneNearer}
-use Rattle.ipx_laws.specs.Servers.{Announcer, Server, IsOf, at_hops, known_of, SaysNoFalse, NamesOnly, IsAway, IsFewest}
-use Rattle.ipx_laws.specs.Ups.{ups}
-use Rattle.ipx_laws.specs.WireRegular.{NamesService, InSteps, InBeats, IsHostHeard, IsRouterHeard, AdvertisesService, AreHostsInTime, AreRoutersInTime, most_beats_known}
-use Rattle.ipx_laws.specs.Wires.{Flight, Wires, WireStep, Occurs, Lands, as_step, flying, beaten, wired, wires_of, beats_of, Along, EachBeat, IsBeat, AreBeats, EachWireStep, most_beats_gone, most_beats_flying}
-use Rattle.ipx_laws.proofs.lists.SomeElement.{AnyIs, any_then}
-use Rattle.ipx_laws.proofs.records.RecordsGrowOld.{at_last}
-use Rattle.ipx_laws.proofs.services.ExactWords.{IsNearer, Words, all_given, told_so, news_so, only_so, few}
-use Rattle.ipx_laws.proofs.services.FewestHops.{Link, neighbour, no_nearer, held_elsewhere}
+use Rattle.ipx_router.specs.History.{Start, Stop, Second, Packet, PortDown, PortUp}
+use Rattle.ipx_internet.specs.Internet.{Internet, Place, port_of}
+use Rattle.ipx_internet.specs.Queue.{history_of}
+use Rattle.ipx_laws.specs.Regular.{Announces, HaveOneVoice}
+use Rattle.ipx_laws.specs.Servers.{Announcer, Server, at_hops}
+use Rattle.ipx_laws.specs.WireRegular.{NamesService, InSteps, InBeats, IsHostHeard, AreHostsInTime}
+use Rattle.ipx_laws.specs.Wires.{Wires, WireStep, Occurs, Lands, beaten, wired}
+use Rattle.ipx_laws.proofs.lists.SomeElement.{AnyIs}
 use Rattle.ipx_laws.proofs.services.HostsApart.{HostsApart, not_said}
-use Rattle.ipx_laws.proofs.services.KnownByFewestHops.{IsSaid, is_said}
-use Rattle.ipx_laws.proofs.services.NearestHost.{Sought, sought_of, SaidBy, OfNeighbour, Good}
-use Rattle.ipx_laws.proofs.services.ServiceIsTold.{told_there}
-use Rattle.ipx_laws.proofs.services.SoundAtEachStep.{held_off}
-use Rattle.ipx_laws.proofs.services.SpokenOfAServer.{IsFine, waits_so}
-use Rattle.ipx_laws.proofs.wires.BeatAfterBeat.{along_all, along_then, beats_go, steps_each}
-use Rattle.ipx_laws.proofs.wires.PartsOfBeats.{Begins, beats_more, each_at, along_each, along_both, along_prefix, beats_begin}
 use Rattle.ipx_laws.proofs.wires.RightOnWires.{parted}
-use Rattle.ipx_laws.proofs.wires.ServedOnWires.{ends, nothing_more}
-use Rattle.ipx_laws.proofs.wires.ServiceHeardOnWires.{X, IsHeardAt, Sayer, GoesOn, SuchBeat, window_right, beat_right}
-use Rattle.ipx_laws.proofs.wires.ServicesOnWires.{AnyHistory, AnyWord, Flies, Speaks, Lasts, Arises, Good as GoodHistories, Extras, Goes, AllGood, Such, keeps, such_beats, steps_arise}
-use Rattle.ipx_laws.proofs.wires.WordsOnWires.{all_if}
 
 -- where one is such, it is there at a number
 pub any_index : {A : Type 0} (P : A → Type 0) (xs : List A) → AnyIs P xs → (which : ℕ) × (x : A) × (slice_get xs which ≡ Some x) × P x

@@ -1,17 +1,13 @@
 -- Over wires each router comes to have a service with the fewest hops of all its ways there: by induction on these hops, what still flies and
 -- a window for each; and at each moment of the beats that follow.
-use Rattle.std.proofs.Common.{◌≡◌, ◌≢◌, refl, sym, ap, ◌∙◌, subst, ◌⊎◌, ℕ, zero, suc, ◌+◌, ◌-◌, ◌*◌, ◌<◌, ◌≤◌, ◌==◌, Bool, true, false, List, [], ◌∷◌, ◌++◌, length, map, take, drop, Some, slice_get, inl, inr, arith, append_assoc, length-append, rules}
+use Rattle.std.proofs.Common.{◌≡◌, refl, sym, ap, ◌∙◌, subst, ◌⊎◌, ℕ, zero, suc, ◌+◌, ◌-◌, ◌*◌, ◌<◌, ◌≤◌, ◌==◌, true, false, List, [], ◌∷◌, ◌++◌, length, map, Some, slice_get, inl, inr, arith, append_assoc, length-append}
 use Rattle.std.specs.List.{AllByRecursion}
 use Rattle.std.proofs.Math.Nat.{mul-le-mul_right}
 use Rattle.std.proofs.lemmas.Bool.{cases_lt}
-use Rattle.std.proofs.lemmas.List.{take-append-drop, length-drop}
 use Rattle.ipx_table.specs.Alive.{lifetime}
-use Rattle.ipx_wire.specs.WriteServices.{entry_of}
 use Rattle.ipx_wire.specs.declared.node.Node.{Node}
-use Rattle.ipx_wire.specs.declared.sap.Sap.TheVariants.{Query, Response as SapResponse}
 use Rattle.ipx_wire.specs.declared.service.Service.{Service}
-use Rattle.ipx_router.specs.Facts.{heard_after, service_facts, services_held, offers}
-use Rattle.ipx_router.specs.Heard.{Heard, HeardRip, HeardSap}
+use Rattle.ipx_router.specs.Facts.{service_facts, services_held, offers}
 use Rattle.ipx_router.specs.History.{Event, History, Start, Stop, Second, Packet, PortDown, PortUp}
 use Rattle.ipx_router.specs.News.{news_services}
 use Rattle.ipx_router.specs.Numbers.{unreachable}
@@ -30,16 +26,16 @@ use Rattle.ipx_internet.proofs.packets.SentOnOrReply.{Layouts}
 use Rattle.ipx_internet.proofs.trees.RunIsALog.{router_there}
 use Rattle.ipx_laws.specs.InTime.{IsSlow, IsQuick}
 use Rattle.ipx_laws.specs.Meanwhile.{LeavesPorts, SaysOnly}
-use Rattle.ipx_laws.specs.Regular.{Announces, HaveOneVoice, HasRoomFor, IsListedName, NoneNearer}
+use Rattle.ipx_laws.specs.Regular.{HasRoomFor, IsListedName, NoneNearer}
 use Rattle.ipx_laws.specs.Servers.{Announcer, Server, IsOf, at_hops, known_of, SaysNoFalse, NamesOnly, IsAway, IsFewest}
 use Rattle.ipx_laws.specs.Ups.{ups}
-use Rattle.ipx_laws.specs.WireRegular.{NamesService, InSteps, InBeats, IsHostHeard, IsRouterHeard, AdvertisesService, AreHostsInTime, AreRoutersInTime, most_beats_known}
-use Rattle.ipx_laws.specs.Wires.{Flight, Wires, WireStep, Occurs, Lands, as_step, flying, beaten, wired, wires_of, beats_of, Along, EachBeat, IsBeat, AreBeats, EachWireStep, most_beats_gone, most_beats_flying}
-use Rattle.ipx_laws.proofs.lists.SomeElement.{AnyIs, any_then}
+use Rattle.ipx_laws.specs.WireRegular.{NamesService, InBeats, IsHostHeard, IsRouterHeard, AdvertisesService, AreHostsInTime, AreRoutersInTime, most_beats_known}
+use Rattle.ipx_laws.specs.Wires.{Flight, Wires, WireStep, Occurs, Lands, as_step, flying, beats_of, Along, EachBeat, IsBeat, AreBeats, EachWireStep, most_beats_gone, most_beats_flying}
+use Rattle.ipx_laws.proofs.lists.SomeElement.{any_then}
 use Rattle.ipx_laws.proofs.records.RecordsGrowOld.{at_last}
 use Rattle.ipx_laws.proofs.services.ExactWords.{IsNearer, Words, all_given, told_so, news_so, only_so, few}
 use Rattle.ipx_laws.proofs.services.FewestHops.{Link, neighbour, no_nearer, held_elsewhere}
-use Rattle.ipx_laws.proofs.services.HostsApart.{HostsApart, not_said}
+use Rattle.ipx_laws.proofs.services.HostsApart.{HostsApart}
 use Rattle.ipx_laws.proofs.services.KnownByFewestHops.{IsSaid, is_said}
 use Rattle.ipx_laws.proofs.services.NearestHost.{Sought, sought_of, SaidBy, OfNeighbour, Good}
 use Rattle.ipx_laws.proofs.services.ServiceIsTold.{told_there}
@@ -47,10 +43,10 @@ use Rattle.ipx_laws.proofs.services.SoundAtEachStep.{held_off}
 use Rattle.ipx_laws.proofs.services.SpokenOfAServer.{IsFine, waits_so}
 use Rattle.ipx_laws.proofs.wires.BeatAfterBeat.{along_all, along_then, beats_go, steps_each}
 use Rattle.ipx_laws.proofs.wires.HeardInBeats.{any_index, in_beats_so, announces_names}
-use Rattle.ipx_laws.proofs.wires.PartsOfBeats.{Begins, beats_more, each_at, along_each, along_both, along_prefix, beats_begin}
+use Rattle.ipx_laws.proofs.wires.PartsOfBeats.{Begins, beats_more, each_at, along_each, along_both, beats_begin}
 use Rattle.ipx_laws.proofs.wires.RightOnWires.{parted}
 use Rattle.ipx_laws.proofs.wires.ServedOnWires.{ends, nothing_more}
-use Rattle.ipx_laws.proofs.wires.ServiceHeardOnWires.{X, IsHeardAt, Sayer, GoesOn, SuchBeat, window_right, beat_right}
+use Rattle.ipx_laws.proofs.wires.ServiceHeardOnWires.{IsHeardAt, window_right, beat_right}
 use Rattle.ipx_laws.proofs.wires.ServicesOnWires.{AnyHistory, AnyWord, Flies, Speaks, Lasts, Arises, Good as GoodHistories, Extras, Goes, AllGood, Such, keeps, such_beats, steps_arise}
 use Rattle.ipx_laws.proofs.wires.WordsOnWires.{all_if}
 

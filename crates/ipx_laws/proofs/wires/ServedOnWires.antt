@@ -1,12 +1,8 @@
 -- Over wires what a router has of a service that hosts announce becomes such as it may know it: at its address, on a way of as many hops.
-use Rattle.std.proofs.Common.{◌≡◌, refl, sym, subst, ◌⊎◌, ℕ, ◌+◌, ◌<◌, ◌≤◌, List, [], ◌∷◌, length, map, Option, Some, None, IfSome, inl, inr, arith}
+use Rattle.std.proofs.Common.{◌≡◌, sym, subst, ◌⊎◌, ℕ, ◌+◌, ◌<◌, ◌≤◌, List, [], length, inl, inr, arith}
 use Rattle.std.specs.List.{AllByRecursion}
-use Rattle.ipx_router.specs.Facts.{service_facts}
 use Rattle.ipx_router.specs.History.{History}
-use Rattle.ipx_router.specs.Services.{service_reading, service_order}
-use Rattle.ipx_router.specs.declared.service_offer.ServiceOffer.{ServiceOffer}
-use Rattle.ipx_router.proofs.bounds.PacketsOfEachEvent.{service_total}
-use Rattle.ipx_internet.specs.Internet.{Internet, IsInternet, ports_of}
+use Rattle.ipx_internet.specs.Internet.{Internet, IsInternet}
 use Rattle.ipx_internet.specs.Queue.{Delivery, history_of}
 use Rattle.ipx_internet.specs.Rounds.{IsDelivery}
 use Rattle.ipx_internet.specs.Run.{AreHistories}
@@ -15,7 +11,7 @@ use Rattle.ipx_internet.proofs.packets.SentOnOrReply.{Layouts}
 use Rattle.ipx_laws.specs.Meanwhile.{SaysOnly, LeavesPorts}
 use Rattle.ipx_laws.specs.Servers.{Server, SaysNoFalse, NamesOnly}
 use Rattle.ipx_laws.specs.Ups.{ups}
-use Rattle.ipx_laws.specs.Wires.{Flight, Wires, WireStep, as_step, flying, beats_of, AreBeats, EachWireStep, most_beats_gone, most_beats_flying}
+use Rattle.ipx_laws.specs.Wires.{Flight, Wires, WireStep, as_step, flying, beats_of, AreBeats, EachWireStep, most_beats_flying}
 use Rattle.ipx_laws.proofs.services.ServedOrSoonEnded.{Endures, at_begin}
 use Rattle.ipx_laws.proofs.services.ServicesBecomeReal.{AnyName, name_any}
 use Rattle.ipx_laws.proofs.wires.BeatAfterBeat.{beats_go, starts, each_all}

@@ -12,7 +12,7 @@ use Rattle.ipx_router.specs.Facts.{services_offered, services_heard, heard_after
 use Rattle.ipx_router.specs.Heard.{Heard, HeardRip, HeardSap}
 use Rattle.ipx_router.specs.History.{Event, History, Start, Stop, Second, Packet, PortDown, PortUp, IsOnPort, IsOfBytes}
 use Rattle.ipx_router.specs.News.{news_services}
-use Rattle.ipx_router.specs.Port.{Port, port_at, is_up}
+use Rattle.ipx_router.specs.Port.{Port, port_at}
 use Rattle.ipx_router.specs.Relays.{Sent}
 use Rattle.ipx_router.specs.Services.{service_reading, service_order}
 use Rattle.ipx_router.specs.Told.{told_services}

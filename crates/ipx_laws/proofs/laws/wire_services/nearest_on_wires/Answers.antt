@@ -1,5 +1,5 @@
 use Rattle.std.specs.List.{AllByRecursion}
-use Rattle.std.proofs.Common.{◌≡◌, refl, ℕ, ◌∷◌, ◌++◌, [], length-append, length, Some, inl, arith}
+use Rattle.std.proofs.Common.{◌≡◌, refl, ◌∷◌, ◌++◌, [], length-append, Some, inl, arith}
 use Rattle.ipx_router.proofs.port_values.PortOfEachNumber.{ports_up-within}
 use Rattle.ipx_internet.specs.Internet.{ports_of}
 use Rattle.ipx_internet.specs.Queue.{history_of}
