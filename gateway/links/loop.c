@@ -161,8 +161,7 @@ static void make_room(gateway *it, network *on)
  * because of the other's, one opens its link again before the other, and then it alone stays open) */
 static bool is_counted(const gateway *it, const network *on)
 {
-    uint8_t of[AT_SEAL + sizeof on->set->network];
-    of[AT_LINK] = on->link;
+    uint8_t of[DATA] = {[AT_LINK] = on->link};
     put_second(of, it->seconds);
     put32(of + AT_SEAL, on->set->network);
     return (siphash(it->key, of, sizeof of) & 1) != 0;
