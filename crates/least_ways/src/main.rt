@@ -3,14 +3,15 @@
 //! That is the contract of `become_right` (`src/right.rt`). Before it, `come_to_rest` (`src/rest.rt`) delivers what waits after the routers'
 //! starts, until nothing waits. Their proofs rest on the public calls of `Internet` and on laws alone, so they show how to cite them.
 //! What `become_right` asks for beyond that is seen by reading of this internet, and isn't proved here: it has two routers, each port costs
-//! one tick, and a table has room for 50 routes. `over_two_seconds` (`src/cited.rt`) cites the laws over real wires.
+//! one tick, and a table has room for 50 routes. `src/cited.rt` cites more laws: over real
+//! wires, beside other makers' routers, and behind edges.
 #![tactic(auto)]
 
 mod cited;
 mod rest;
 mod right;
 
-use crate::cited::over_two_seconds;
+use crate::cited::{behind_edges, beside_a_server, over_two_seconds, served_over_two_seconds};
 use crate::rest::come_to_rest;
 use crate::right::become_right;
 use anyhow::Result;
@@ -23,6 +24,9 @@ const LIMIT: usize = 100;
 
 fn main(rt: HostRuntime) -> Result<()> {
     over_two_seconds();
+    served_over_two_seconds();
+    beside_a_server();
+    behind_edges();
     let west = Router::<2, 50, 8>::new(&[port(0x10, 1)?, port(0x20, 2)?])?;
     let east = Router::<2, 50, 8>::new(&[port(0x20, 3)?, port(0x30, 4)?])?;
     let mut internet = Internet::new(rt.alloc());
