@@ -151,6 +151,17 @@ def drifting_clocks(case):
     return on_wires(case, 64)
 
 
+@study("service-lossy-wires", "as lossy-wires, and a server announces itself each minute: seconds until all know it, by the fewest hops", 2, 5,
+       Wires(delay=3, lost=10, repeated=10, fastest=100))
+def service_lossy_wires(case):
+    window, delay = 124, case.played.wires.delay
+    case.started()
+    forging.anything(case.chance, case.played)
+    case.announced()
+    gone = GONE + MOST_HOPS * delay + 1 + FLYING * delay
+    return case.until({"known": (case.known(), gone + window + (MOST_HOPS - 1) * (window + delay))})
+
+
 # ---- services: the bound of the law grows with the hops, and isn't waited for
 
 
