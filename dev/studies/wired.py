@@ -4,13 +4,14 @@ import collections
 import re
 import subprocess
 
-from .internets import LONGEST
+from .internets import LONGEST, Internet, Port
 from .packets import ALL_NODES
 from .played import AGES, PROGRAM, Broken
 from .ways import Ways
 
-# A packet that each router drops in the same way, and what it says of it: all that it says before is of earlier lines.
-MARK, MARKED = "in 0 00", b"drop Malformed:Short\n"
+# A packet that each router drops in the same way, and what it says of it, while it runs and while it doesn't: all that it says before is of
+# earlier lines.
+MARK, MARKED, STOPPED = "in 0 00", b"drop Malformed:Short\n", b"drop NotRunning\n"
 OUT = re.compile(rb"^out (\d+) (\w+) (\w+)$", re.M)
 # After a packet of one kind was lost on the way from a port to another, so many beats no other is: of two broadcasts in a row one arrives.
 APART = 62
@@ -25,30 +26,36 @@ class Router:
 
     def __init__(self, ports):
         self.run = subprocess.Popen([PROGRAM, "replay"], stdin=subprocess.PIPE, stdout=subprocess.PIPE)
-        self.says(*(f"port {it.network:08X} {it.node:012X} {it.cost} {LONGEST}" for it in ports), "start")
+        self.runs = False
+        self.says(*(f"port {it.network:08X} {it.node:012X} {it.cost} {LONGEST}" for it in ports))
 
     def says(self, *lines):
-        """What it says to lines."""
+        """What it says to lines; to a stopped router only its ports are told, and that it starts, or shows a table."""
+        self.runs = lines[-1] == "start" or self.runs and lines[-1] != "stop"
+        mark = MARKED if self.runs else STOPPED
         self.run.stdin.write("".join(it + "\n" for it in (*lines, MARK)).encode())
         self.run.stdin.flush()
         text = b""
-        while not text.endswith(MARKED):
+        while not text.endswith(mark):
             line = self.run.stdout.readline()
             if not line:
                 raise Broken("a router ends early")
             text += line
-        return text[: -len(MARKED)]
+        return text[: -len(mark)]
 
 
 class Wired:
-    """An internet under way, all of its routers started; which of its ports are up, and what flies: by beat the events that happen in it."""
+    """An internet under way, which of its ports are up, and what flies: by beat the events that happen in it. All of its routers are started, unless
+    it is said otherwise."""
 
-    def __init__(self, internet, chance, wires):
+    def __init__(self, internet, chance, wires, are_started=True):
         self.internet, self.chance, self.wires = internet, chance, wires
         self.script, self.up, self.beat = [], set(internet.places), 0
         self.routers = [Router(it) for it in internet.routers]
         self.flies, self.lost_at = collections.defaultdict(list), {}
         self.rates = [chance.between(100, wires.fastest) for _ in self.routers]
+        for router in range(len(self.routers)) if are_started else ():
+            self.routers[router].says("start")
 
     def end(self):
         for it in self.routers:
@@ -64,8 +71,10 @@ class Wired:
     # ---- what happens
 
     def happens(self, router, line):
-        """A line of a router's script, and what it sends then."""
+        """A line of a router's script, and what it sends then; what comes to a stopped router is as if it didn't."""
         self.script.append(f"{router} {line}")
+        if not self.routers[router].runs and line != "start":
+            return
         for port, node, text in OUT.findall(self.routers[router].says(line)):
             self.send(router, int(port), int(node, 16), text.decode())
 
@@ -139,3 +148,36 @@ class Wired:
 
     def ways(self):
         return Ways(self.internet, frozenset(self.up))
+
+
+# ---- scripts
+
+# Lines of a script of an internet that happen to one router, or show a table of it.
+HAPPEN, SHOWN = ("start", "stop", "down", "up", "in"), ("routes", "services")
+
+
+def internet_of(lines):
+    """The internet that a script begins with, and the lines behind."""
+    routers, left = [], [it.split() for it in lines if it.split() and not it.startswith("#")]
+    while left and left[0][0] in ("router", "port"):
+        word, *words = left.pop(0)
+        if word == "router":
+            routers.append([])
+        else:
+            routers[-1].append(Port(int(words[0], 16), int(words[1], 16), int(words[2])))
+    return Internet(routers), left
+
+
+def play(lines, chance, wires):
+    """What a script of an internet says over wires, piece by piece: of `second N` each second is a beat; `settle` and `trace` say nothing."""
+    internet, left = internet_of(lines)
+    played = Wired(internet, chance, wires, are_started=False)
+    for word, *words in left:
+        if word == "second":
+            for _ in range(int(words[0])):
+                played.pass_beat()
+        elif word in HAPPEN:
+            played.happens(int(words[0]), " ".join([word, *words[1:]]))
+        elif word in SHOWN:
+            yield played.routers[int(words[0])].says(word).decode()
+    played.end()
