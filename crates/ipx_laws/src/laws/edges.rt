@@ -17,7 +17,7 @@ ghost use Rattle.ipx_laws.specs.Edges.{edge_stepped, edge_run, words_of, HoldThe
 /// says of every log: a packet for one network is forwarded at most 16 times; a path of a propagated packet has at most eight forwards, and
 /// visits no network twice.
 ///
-/// And nobody receives, or sends on, a packet that doesn't name the network of its source (`numbered`).
+/// And nobody receives, or sends on, a packet with 0 for the network of its source (`numbered`).
 pub fn runs()
     ensures listed { (net : Internet) (most_routes most_services : ℕ) (histories : List History) (steps : List Step)
         → IsInternet net → AreHistories net histories → AllByRecursion (IsStep net) steps
