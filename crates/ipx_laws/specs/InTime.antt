@@ -60,13 +60,16 @@ module _ (net : Internet) (most_routes most_services delay : ℕ) where
       (beats_of net most_routes most_services delay w before) within
       → HeardInBeats to (port_of net from).node network (beats_of net most_routes most_services delay w before) within
 
--- the fastest clock has at most that many seconds in a beat
-abbrev pub IsSlow : Internet → ℕ → List WireStep → Type 0
-IsSlow net fastest steps = (router : ℕ) → router < length net → seconds_of router (map as_step steps) ≤ fastest
+-- the seconds that a router has in beats
+abbrev pub seconds_in : ℕ → List (List WireStep) → ℕ
+seconds_in router [] = 0
+seconds_in router (steps ∷ beats) = seconds_of router (map as_step steps) + seconds_in router beats
 
--- by the fastest clock too, a beat more than a window is shorter than an offer lives
-abbrev pub IsQuick : (window fastest : ℕ) → Type 0
-IsQuick window fastest = suc window * fastest < lifetime
+-- by every clock, a window and a beat more, and fewer beats in a row, are shorter than an offer lives
+abbrev pub AreQuick : Internet → (window : ℕ) → List (List WireStep) → Type 0
+AreQuick net window beats =
+    (router : ℕ) (before within after : List (List WireStep)) → router < length net → beats ≡ before ++ within ++ after → length within ≤ suc window
+    → seconds_in router within < lifetime
 
 -- the beats after which a router is right about a network: those after which every route is of a real way, and for each hop of the least way what
 -- still flies and a window in which its neighbours are heard

@@ -1,7 +1,7 @@
 //! Laws of `ipx_laws`, cited with numbers in the place of what they leave open.
 //!
 //! On these wires a packet takes at most two seconds by the slowest clock, or is lost. Of any two broadcasts in a row one arrives, so that
-//! routers are heard in any 123 seconds: twice a minute, one second, and the two that a packet takes. By no clock is that a second more.
+//! routers are heard in any 123 seconds: twice a minute, one second, and the two that a packet takes. One second more is less than 180 by every clock.
 ghost use Rattle.std.specs.Prelude.{◌≡◌, ◌≢◌, ℕ, ◌+◌, ◌-◌, ◌*◌, ◌<◌, ◌≤◌, false, Some, List, [], ◌∷◌, length};
 ghost use Rattle.std.specs.List.{AllByRecursion};
 ghost use Rattle.ipx_wire.specs.declared.network.Network.{Network};
@@ -18,7 +18,7 @@ ghost use Rattle.ipx_internet.specs.Ticks.{ticked};
 ghost use Rattle.ipx_laws.specs.Announces.{AsksApart};
 ghost use Rattle.ipx_laws.specs.Apart.{TellsOnlyOf, IsRealApart, IsSettingBeside, AreTicksBesideAfter};
 ghost use Rattle.ipx_laws.specs.Edges.{edge_run};
-ghost use Rattle.ipx_laws.specs.InTime.{AreHeardInTime, IsSlow};
+ghost use Rattle.ipx_laws.specs.InTime.{AreHeardInTime, AreQuick};
 ghost use Rattle.ipx_laws.specs.Least.{Way, least_route};
 ghost use Rattle.ipx_laws.specs.Meanwhile.{IsWithoutRoute, TellsNoRoute, LeavesPorts, SaysOnly};
 ghost use Rattle.ipx_laws.specs.Regular.{IsServiceSetting, NoneNearer};
@@ -48,7 +48,7 @@ pub fn over_two_seconds()
         (routes_of net most_routes (beats_of net most_routes most_services 2 (still histories) beats).histories router) }
     ensures right { (net : Internet) (most_routes most_services : ℕ) (histories : List History) (beats : List (List WireStep)) (router : ℕ) (network : Network) (way : Way)
         → IsSetting net most_routes histories network → AreBeats net beats → EachWireStep LeavesPorts beats → EachWireStep (SaysOnly TellsNoRoute) beats
-        → AllByRecursion (IsSlow net 1) beats → AreHeardInTime net most_routes most_services 2 123 (ups net histories) (still histories) beats
+        → AreQuick net 123 beats → AreHeardInTime net most_routes most_services 2 123 (ups net histories) (still histories) beats
         → router < length net → least_route net (ups net histories) router network ≡ Some way → 2910 + way.hops * 125 ≤ length beats
         → IsRight net most_routes (beats_of net most_routes most_services 2 (still histories) beats).histories (ups net histories) router network }
 {
@@ -63,7 +63,7 @@ pub fn over_two_seconds()
 pub fn served_over_two_seconds()
     ensures { (net : Internet) (most_routes most_services : ℕ) (server : Server) (names : List (ℕ × List ℕ)) (histories : List History) (beats : List (List WireStep))
         (router hops : ℕ)
-        → IsServiceSetting net most_services histories names server → AreBeats net beats → EachWireStep LeavesPorts beats → AllByRecursion (IsSlow net 1) beats
+        → IsServiceSetting net most_services histories names server → AreBeats net beats → EachWireStep LeavesPorts beats → AreQuick net 123 beats
         → AreRegularBeats net most_routes most_services 2 server 123 names (ups net histories) (still histories) beats
         → NodesDiffer net → NoneNearer server 1 → AreRoutersInTime net most_routes most_services 2 server 123 (ups net histories) (still histories) beats
         → 3033 + (hops - 1) * 125 ≤ length beats → router < length net → hops < unreachable → IsFewest net (ups net histories) server router hops

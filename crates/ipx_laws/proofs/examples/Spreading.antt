@@ -1,7 +1,7 @@
 -- The two routers of `Waiting`, started 59 seconds ago, on wires, and the host of `Hosts` on 10h, which the first router has heard. In the
 -- beat that follows the host announces its file server again, each router broadcasts, and the first router's services land: so in a window of
 -- one beat the host and the first router are heard, and then the second router has the server, two hops away. Lost, it hasn't.
-use Rattle.std.proofs.Common.{◌≡◌, ◌≢◌, refl, sym, ap, ◌∙◌, subst, ℕ, zero, suc, ◌<◌, ◌≤◌, List, [], ◌∷◌, ◌++◌, length, map, replicate, Some, None, Option, inl, inr, arith}
+use Rattle.std.proofs.Common.{◌≡◌, ◌≢◌, refl, sym, ap, ◌∙◌, subst, ℕ, zero, suc, ◌<◌, ◌≤◌, List, [], ◌∷◌, ◌++◌, length, map, replicate, Some, None, Option, inl, inr, arith, length-append}
 use Rattle.ipx_wire.specs.Address.{address_bytes, address_at}
 use Rattle.ipx_wire.specs.Crossed.{network_bytes, network_at}
 use Rattle.ipx_wire.specs.Header.{header_bytes, header_at}
@@ -14,6 +14,7 @@ use Rattle.ipx_wire.specs.SapEntries.{sap_entry_at}
 use Rattle.ipx_wire.specs.WriteServices.{service_bytes}
 use Rattle.ipx_wire.specs.declared.network.Network.{Network}
 use Rattle.ipx_wire.specs.declared.service.Service.{Service}
+use Rattle.ipx_table.specs.Alive.{lifetime}
 use Rattle.ipx_router.specs.History.{History, Start, Second, Packet}
 use Rattle.ipx_router.proofs.port_values.PortOfEachNumber.{one_up}
 use Rattle.ipx_internet.specs.Internet.{Place, ports_of, port_of, network_of}
@@ -21,7 +22,7 @@ use Rattle.ipx_internet.specs.Ticks.{seconds_of}
 use Rattle.ipx_internet.proofs.examples.Waiting.{segment}
 use Rattle.ipx_internet.proofs.examples.Words.{at}
 use Rattle.ipx_internet.proofs.lists.FoundInAList.{nothing}
-use Rattle.ipx_laws.specs.InTime.{IsSlow, IsQuick}
+use Rattle.ipx_laws.specs.InTime.{seconds_in, AreQuick}
 use Rattle.ipx_laws.specs.Meanwhile.{LeavesPorts}
 use Rattle.ipx_laws.specs.Servers.{Announcer, at_hops, known_of}
 use Rattle.ipx_laws.specs.Tables.{services_of}
@@ -53,14 +54,22 @@ is_beat = record { happens = ((omega arith, omega arith, bytes), ((omega arith, 
 pub leaves : EachWireStep LeavesPorts (beat ∷ [])
 leaves = ((tt, (tt, (tt, (tt, tt)))), tt)
 
--- both clocks go alike
-pub slow : IsSlow segment 1 beat
-slow zero within = omega arith
-slow (suc zero) within = omega arith
-slow (suc (suc router)) within = absurd (omega (arith, within))
+-- both clocks have a second in it
+few_seconds : (router : ℕ) → router < length segment → seconds_in router (beat ∷ []) < lifetime
+few_seconds zero within = omega arith
+few_seconds (suc zero) within = omega arith
+few_seconds (suc (suc router)) within = absurd (omega (arith, within))
 
-pub quick : IsQuick 1 1
-quick = omega arith
+pub quick : AreQuick segment 1 (beat ∷ [])
+quick router before [] after there parts short = omega arith
+quick router before (w ∷ []) after there parts short =
+    let (none, whole) = one_window beat before (w ∷ []) after parts refl in
+    subst (λ (ws : List (List WireStep)). seconds_in router ws < lifetime) (sym whole) (few_seconds router there)
+quick router before (w ∷ v ∷ within) after there parts short =
+    let sum = ap length parts in
+    let one = length-append (before ++ w ∷ v ∷ within) after in
+    let two = length-append before (w ∷ v ∷ within) in
+    absurd (omega (arith, sum, one, two))
 
 -- ---- the host is heard
 

@@ -10,13 +10,14 @@ use Rattle.ipx_wire.specs.Packet.{packet_of}
 use Rattle.ipx_wire.specs.Rip.{entry_bytes, entry_at, rip_of}
 use Rattle.ipx_wire.specs.Sap.{sap_of}
 use Rattle.ipx_wire.specs.declared.network.Network.{Network}
+use Rattle.ipx_table.specs.Alive.{lifetime}
 use Rattle.ipx_router.specs.History.{History, Start, Second}
 use Rattle.ipx_router.proofs.port_values.PortOfEachNumber.{one_up}
 use Rattle.ipx_internet.specs.Internet.{Place, ports_of, port_of, network_of}
 use Rattle.ipx_internet.specs.Ticks.{seconds_of}
 use Rattle.ipx_internet.proofs.examples.Waiting.{segment}
 use Rattle.ipx_internet.proofs.examples.Words.{network, at}
-use Rattle.ipx_laws.specs.InTime.{Advertises, HeardInBeats, AreHeardInTime, IsSlow, IsQuick}
+use Rattle.ipx_laws.specs.InTime.{Advertises, HeardInBeats, AreHeardInTime, seconds_in, AreQuick}
 use Rattle.ipx_laws.specs.Meanwhile.{TellsNoRoute, LeavesPorts, SaysOnly}
 use Rattle.ipx_laws.specs.Least.{Way, least_route, way_of}
 use Rattle.ipx_laws.specs.Tables.{route_of}
@@ -50,15 +51,6 @@ leaves = ((tt, (tt, (tt, (tt, tt)))), tt)
 pub says : EachWireStep (SaysOnly TellsNoRoute) (beat ∷ [])
 says = ((tt, (tt, (tt, (tt, tt)))), tt)
 
--- both clocks go alike
-pub slow : IsSlow segment 1 beat
-slow zero within = omega arith
-slow (suc zero) within = omega arith
-slow (suc (suc router)) within = absurd (omega (arith, within))
-
-pub quick : IsQuick 1 1
-quick = omega arith
-
 -- ---- who is heard
 
 -- one beat has one window of one beat
@@ -72,6 +64,23 @@ one_window x (b ∷ before) within after parts wide =
     let one = length-append ((b ∷ before) ++ within) after in
     let two = length-append (b ∷ before) within in
     absurd (omega (arith, sum, one, two, wide))
+
+-- both clocks have a second in it
+few_seconds : (router : ℕ) → router < length segment → seconds_in router (beat ∷ []) < lifetime
+few_seconds zero within = omega arith
+few_seconds (suc zero) within = omega arith
+few_seconds (suc (suc router)) within = absurd (omega (arith, within))
+
+pub quick : AreQuick segment 1 (beat ∷ [])
+quick router before [] after there parts short = omega arith
+quick router before (w ∷ []) after there parts short =
+    let (none, whole) = one_window beat before (w ∷ []) after parts refl in
+    subst (λ (ws : List (List WireStep)). seconds_in router ws < lifetime) (sym whole) (few_seconds router there)
+quick router before (w ∷ v ∷ within) after there parts short =
+    let sum = ap length parts in
+    let one = length-append (before ++ w ∷ v ∷ within) after in
+    let two = length-append before (w ∷ v ∷ within) in
+    absurd (omega (arith, sum, one, two))
 
 abbrev Heard : Place → Place → Network → List (List WireStep) → List (List WireStep) → Type 0
 Heard from to n before within =

@@ -31,7 +31,7 @@ use Rattle.ipx_internet.proofs.lists.FoundInAList.{nothing, it_is}
 use Rattle.ipx_internet.proofs.places.OneReceiverOfANode.{same_number}
 use Rattle.ipx_laws.specs.Apart.{AreOf, TellsOnlyOf}
 use Rattle.ipx_laws.specs.Gone.{most_ticks_gone}
-use Rattle.ipx_laws.specs.InTime.{Names, IsHeardFrom, HeardInSteps, HeardInBeats, IsSlow}
+use Rattle.ipx_laws.specs.InTime.{Names, IsHeardFrom, HeardInSteps, HeardInBeats, seconds_in}
 use Rattle.ipx_laws.specs.Least.{Way}
 use Rattle.ipx_laws.specs.Wires.{Flight, Wires, WireStep, Occurs, Lands, as_step, beaten, occurs, lands, wired, wires_of, beats_of, Along, EachBeat, IsBeat, most_beats_gone}
 use Rattle.ipx_laws.proofs.lists.SomeElement.{AnyIs, any_and_all, any_then, any_passes, any_mapped, the_one}
@@ -537,62 +537,55 @@ module _ (delay slack : ℕ) (given : Given) (hops : ℕ) (few : hops ≤ 15) (s
 
   -- ---- beats
 
-  module _ (fastest : ℕ) where
-    abbrev WaitsBeats : Wires → List (List WireStep) → Place → Type 0
-    WaitsBeats now beats f =
-        (port : ℕ) × Source port f × HeardInBeats net most_routes most_services delay (here port) (port_of net f).node network now beats
+  abbrev WaitsBeats : Wires → List (List WireStep) → Place → Type 0
+  WaitsBeats now beats f =
+      (port : ℕ) × Source port f × HeardInBeats net most_routes most_services delay (here port) (port_of net f).node network now beats
 
-    beats_track : (so_far : ℕ) (enough : start + delay ≤ so_far) (beats : List (List WireStep)) (now : Wires) (top : ℕ) → AllByRecursion (IsBeat net) beats
-        → AllByRecursion (IsSlow net fastest) beats → EachBeat net most_routes most_services delay SuchBeat now beats → GoesOn so_far (λ router. 0) now
-        → length beats * fastest + top < lifetime → At top (WaitsBeats now beats) now
-        → At (length beats * fastest + top) (λ f. ⊥) (beats_of net most_routes most_services delay now beats)
-    beats_track so_far enough [] now top are slow such going young state =
-        passes_by top (0 * fastest + top) (WaitsBeats now []) (λ f. ⊥) (facts_of (history_of now.histories x)) (omega arith) (λ f waits. waits.2) state
-    beats_track so_far enough (steps ∷ beats) now top are slow such going young state =
-        let next = beaten (wires_of net most_routes most_services delay now steps) in
-        let most = slow.0 x inside in
-        let total : suc (length beats) * fastest ≡ fastest + length beats * fastest = omega arith in
-        let after = steps_track so_far enough steps now (λ router. 0) top are.0.happens such.0 going (omega (arith, young, most, total))
-        (λ f port next. HeardInBeats net most_routes most_services delay (here port) (port_of net f).node network (beaten next) beats) state in
-        let older = passes_by (seconds_of x (map as_step steps) + top) (fastest + top) (WaitsBeats next beats) (WaitsBeats next beats)
-        (facts_of (history_of next.histories x)) (omega (arith, most)) (λ f waits. waits) after in
-        let going_on = beat_goes net laws is most_routes most_services delay (Lasts delay slack net laws is most_routes most_services up foreign F X)
-        (Flies delay slack net laws is most_routes most_services up foreign F X) (Arises delay slack net laws is most_routes most_services up foreign F X)
-        (Good delay slack net laws is most_routes most_services up foreign F X)
-        (keeps delay slack net laws is most_routes most_services up foreign F X (extras delay slack given hops few start long)) so_far steps now are.0 such.0 going in
-        let sum : length beats * fastest + (fastest + top) ≡ length (steps ∷ beats) * fastest + top = omega (arith, total) in
-        subst (λ (n : ℕ). At n (λ f. ⊥) (beats_of net most_routes most_services delay next beats)) sum
-        (beats_track (suc so_far) (omega (arith, enough)) beats next (fastest + top) are.1 slow.1 such.1 going_on (omega (arith, young, total)) older)
+  beats_track : (so_far : ℕ) (enough : start + delay ≤ so_far) (beats : List (List WireStep)) (now : Wires) (top : ℕ) → AllByRecursion (IsBeat net) beats
+      → EachBeat net most_routes most_services delay SuchBeat now beats → GoesOn so_far (λ router. 0) now
+      → seconds_in x beats + top < lifetime → At top (WaitsBeats now beats) now
+      → At (seconds_in x beats + top) (λ f. ⊥) (beats_of net most_routes most_services delay now beats)
+  beats_track so_far enough [] now top are such going young state =
+      passes_by top (0 + top) (WaitsBeats now []) (λ f. ⊥) (facts_of (history_of now.histories x)) (omega arith) (λ f waits. waits.2) state
+  beats_track so_far enough (steps ∷ beats) now top are such going young state =
+      let next = beaten (wires_of net most_routes most_services delay now steps) in
+      let total : seconds_in x (steps ∷ beats) ≡ seconds_of x (map as_step steps) + seconds_in x beats = refl in
+      let after = steps_track so_far enough steps now (λ router. 0) top are.0.happens such.0 going (omega (arith, young, total))
+      (λ f port next. HeardInBeats net most_routes most_services delay (here port) (port_of net f).node network (beaten next) beats) state in
+      let going_on = beat_goes net laws is most_routes most_services delay (Lasts delay slack net laws is most_routes most_services up foreign F X)
+      (Flies delay slack net laws is most_routes most_services up foreign F X) (Arises delay slack net laws is most_routes most_services up foreign F X)
+      (Good delay slack net laws is most_routes most_services up foreign F X)
+      (keeps delay slack net laws is most_routes most_services up foreign F X (extras delay slack given hops few start long)) so_far steps now are.0 such.0 going in
+      let sum : seconds_in x beats + (seconds_of x (map as_step steps) + top) ≡ seconds_in x (steps ∷ beats) + top = omega (arith, total) in
+      subst (λ (n : ℕ). At n (λ f. ⊥) (beats_of net most_routes most_services delay next beats)) sum
+      (beats_track (suc so_far) (omega (arith, enough)) beats next (seconds_of x (map as_step steps) + top) are.1 such.1 going_on (omega (arith, young, total)) after)
 
-    -- a window in which each of them is heard
-    module _ (so_far : ℕ) (enough : start + delay ≤ so_far) (window : List (List WireStep)) (now : Wires) (are : AllByRecursion (IsBeat net) window)
-        (slow : AllByRecursion (IsSlow net fastest) window) (such : EachBeat net most_routes most_services delay SuchBeat now window)
-        (going : GoesOn so_far (λ router. 0) now) (quick : suc (length window) * fastest < lifetime)
-        (in_time : (port : ℕ) (f : Place) → Source port f → HeardInBeats net most_routes most_services delay (here port) (port_of net f).node network now window)
-        (first : (port : ℕ) × (f : Place) × Source port f) where
-      abbrev last : Wires
-      last = beats_of net most_routes most_services delay now window
+  -- a window in which each of them is heard
+  module _ (so_far : ℕ) (enough : start + delay ≤ so_far) (window : List (List WireStep)) (now : Wires) (are : AllByRecursion (IsBeat net) window)
+      (such : EachBeat net most_routes most_services delay SuchBeat now window)
+      (going : GoesOn so_far (λ router. 0) now) (quick : seconds_in x window < lifetime)
+      (in_time : (port : ℕ) (f : Place) → Source port f → HeardInBeats net most_routes most_services delay (here port) (port_of net f).node network now window)
+      (first : (port : ℕ) × (f : Place) × Source port f) where
+    abbrev last : Wires
+    last = beats_of net most_routes most_services delay now window
 
-      young : length window * fastest + 0 < lifetime
-      young =
-          let total : suc (length window) * fastest ≡ fastest + length window * fastest = omega arith in
-          omega (arith, quick, total)
+    young : seconds_in x window + 0 < lifetime
+    young = omega (arith, quick)
 
-      heard : At (length window * fastest + 0) (λ f. ⊥) last
-      heard =
-          beats_track so_far enough window now 0 are slow such going young (record {
-            aged = λ h f e right. inr (h.offer.port, right.source, in_time h.offer.port f right.source);
-            holds = inr (first.1, (first.0, first.2, in_time first.0 first.1 first.2));
-          })
+    heard : At (seconds_in x window + 0) (λ f. ⊥) last
+    heard =
+        beats_track so_far enough window now 0 are such going young (record {
+          aged = λ h f e right. inr (h.offer.port, right.source, in_time h.offer.port f right.source);
+          holds = inr (first.1, (first.0, first.2, in_time first.0 first.1 first.2));
+        })
 
-      pub window_right : HasIt delay slack given x w (history_of last.histories x)
-      window_right = has_it (length window * fastest + 0) last heard
+    pub window_right : HasIt delay slack given x w (history_of last.histories x)
+    window_right = has_it (seconds_in x window + 0) last heard
 
-      -- and at each moment of a beat more
-      pub beat_right : (steps : List WireStep) → IsBeat net steps → IsSlow net fastest steps → SuchBeat last steps → GoesOn (length window + so_far) (λ router. 0) last
-          → Along net most_routes most_services delay (λ n. HasIt delay slack given x w (history_of n.histories x)) last steps
-      beat_right steps beat few_seconds such_then going_then =
-          let most = few_seconds x inside in
-          let total : suc (length window) * fastest ≡ fastest + length window * fastest = omega arith in
-          steps_stay (length window + so_far) (omega (arith, enough)) steps last (λ router. 0) (length window * fastest + 0) beat.happens such_then going_then
-          (omega (arith, most, quick, total)) heard
+    -- and at each moment of a beat more
+    pub beat_right : (steps : List WireStep) → IsBeat net steps → SuchBeat last steps → GoesOn (length window + so_far) (λ router. 0) last
+        → seconds_of x (map as_step steps) + seconds_in x window < lifetime
+        → Along net most_routes most_services delay (λ n. HasIt delay slack given x w (history_of n.histories x)) last steps
+    beat_right steps beat such_then going_then shorter =
+        steps_stay (length window + so_far) (omega (arith, enough)) steps last (λ router. 0) (seconds_in x window + 0) beat.happens such_then going_then
+        (omega (arith, shorter)) heard

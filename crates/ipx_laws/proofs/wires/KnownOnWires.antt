@@ -24,7 +24,7 @@ use Rattle.ipx_internet.specs.Run.{AreHistories}
 use Rattle.ipx_internet.proofs.lists.EachElement.{all_of, all_then, all_mapped, holds_of}
 use Rattle.ipx_internet.proofs.packets.SentOnOrReply.{Layouts}
 use Rattle.ipx_internet.proofs.trees.RunIsALog.{router_there}
-use Rattle.ipx_laws.specs.InTime.{IsSlow, IsQuick}
+use Rattle.ipx_laws.specs.InTime.{seconds_in, AreQuick}
 use Rattle.ipx_laws.specs.Meanwhile.{LeavesPorts, SaysOnly}
 use Rattle.ipx_laws.specs.Regular.{HasRoomFor, IsListedName, NoneNearer}
 use Rattle.ipx_laws.specs.Servers.{Announcer, Server, IsOf, at_hops, known_of, SaysNoFalse, NamesOnly, IsAway, IsFewest}
@@ -43,7 +43,7 @@ use Rattle.ipx_laws.proofs.services.SoundAtEachStep.{held_off}
 use Rattle.ipx_laws.proofs.services.SpokenOfAServer.{IsFine, waits_so}
 use Rattle.ipx_laws.proofs.wires.BeatAfterBeat.{along_all, along_then, beats_go, steps_each}
 use Rattle.ipx_laws.proofs.wires.HeardInBeats.{any_index, in_beats_so, announces_names}
-use Rattle.ipx_laws.proofs.wires.PartsOfBeats.{Begins, beats_more, each_at, along_each, along_both, beats_begin}
+use Rattle.ipx_laws.proofs.wires.PartsOfBeats.{window_quick, beat_quick, Begins, beats_more, each_at, along_each, along_both, beats_begin}
 use Rattle.ipx_laws.proofs.wires.RightOnWires.{parted}
 use Rattle.ipx_laws.proofs.wires.ServedOnWires.{ends, nothing_more}
 use Rattle.ipx_laws.proofs.wires.ServiceHeardOnWires.{IsHeardAt, window_right, beat_right}
@@ -53,11 +53,11 @@ use Rattle.ipx_laws.proofs.wires.WordsOnWires.{all_if}
 module _ (delay slack : ℕ) (net : Internet) (laws : Layouts) (is : IsInternet net) (most_routes most_services : ℕ) (up : ℕ → List ℕ) (server : Server)
     (names : List (ℕ × List ℕ)) (apart : HostsApart net up server) (in_ports : (router : ℕ) → AllByRecursion (λ j. j < length (ports_of net router)) (up router))
     (room : HasRoomFor net most_services names) (listed : IsListedName names (server.kind, server.name)) (nearest : ℕ) (least : NoneNearer server nearest)
-    (window fastest : ℕ) (quick : IsQuick window fastest) (histories : List History) (are : AreHistories net histories)
+    (window : ℕ) (histories : List History) (are : AreHistories net histories)
     (stay : (router : ℕ) → ups net histories router ≡ up router) (deliveries : List Delivery) (fly : AllByRecursion (IsDelivery net) deliveries)
     (over : (deliveries ≡ []) ⊎ (most_beats_flying delay ≤ slack)) (beats : List (List WireStep)) (all : AreBeats net beats)
     (leave : EachWireStep LeavesPorts beats) (say : EachWireStep (SaysNoFalse net server) beats) (named : EachWireStep (SaysOnly (NamesOnly (IsListedName names))) beats)
-    (slow : AllByRecursion (IsSlow net fastest) beats)
+    (quick : AreQuick net window beats)
     (hosts : AreHostsInTime net most_routes most_services delay server window up (flying histories deliveries) beats) where
   abbrev at : List (List WireStep) → Wires
   at front = beats_of net most_routes most_services delay (flying histories deliveries) front
@@ -412,14 +412,14 @@ module _ (delay slack : ℕ) (net : Internet) (laws : Layouts) (is : IsInternet 
           long : slack + most_beats_gone delay ≤ length cut.before + start
           long = let flushed = cut.flushed in omega (arith, flushed)
 
-          fast : suc (length cut.inside) * fastest < lifetime
-          fast = subst (λ (k : ℕ). suc k * fastest < lifetime) (sym cut.wide) quick
+          fast : seconds_in r cut.inside < lifetime
+          fast = window_quick net window beats quick r within behind cut.inside cut.wide rest (parts ∙ ap (λ (f : List (List WireStep)). f ++ rest) cut.same)
 
           bound : Has r far (at front)
           bound =
               subst (Has r far) (sym is_then)
-              (window_right delay slack sought laws is most_routes room within listed start F extras fastest (length cut.before + start) enough long cut.inside (at behind)
-              (of_part behind cut.inside rest whole (IsBeat net) all) (of_part behind cut.inside rest whole (IsSlow net fastest) slow)
+              (window_right delay slack sought laws is most_routes room within listed start F extras (length cut.before + start) enough long cut.inside (at behind)
+              (of_part behind cut.inside rest whole (IsBeat net) all)
               (such_in behind cut.inside rest whole late_behind) going_in fast heard first.0 first.1)
 
           bound_on : (steps : List WireStep) (more : List (List WireStep)) → rest ≡ steps ∷ more → Along net most_routes most_services delay (Has r far) (at front) steps
@@ -431,11 +431,12 @@ module _ (delay slack : ℕ) (net : Internet) (laws : Layouts) (is : IsInternet 
               let last = parts ∙ ap (λ (r : List (List WireStep)). front ++ r) next in
               let such_now = (such_in front (steps ∷ []) more last (omega (arith, late))).0 in
               subst (λ (v : Wires). Along net most_routes most_services delay (Has r far) v steps) (sym is_then)
-              (beat_right delay slack sought laws is most_routes room within listed start F extras fastest (length cut.before + start) enough long cut.inside (at behind)
-              (of_part behind cut.inside rest whole (IsBeat net) all) (of_part behind cut.inside rest whole (IsSlow net fastest) slow)
+              (beat_right delay slack sought laws is most_routes room within listed start F extras (length cut.before + start) enough long cut.inside (at behind)
+              (of_part behind cut.inside rest whole (IsBeat net) all)
               (such_in behind cut.inside rest whole late_behind) going_in fast heard first.0 first.1 steps
-              (of_part front (steps ∷ []) more last (IsBeat net) all).0 (of_part front (steps ∷ []) more last (IsSlow net fastest) slow).0
-              (subst (λ (v : Wires). SuchOnes v steps) is_then such_now) goes_then)
+              (of_part front (steps ∷ []) more last (IsBeat net) all).0
+              (subst (λ (v : Wires). SuchOnes v steps) is_then such_now) goes_then
+              (beat_quick net window beats quick r within behind cut.inside cut.wide steps more (last ∙ ap (λ (f : List (List WireStep)). f ++ steps ∷ more) cut.same)))
 
   -- ---- beside the nearest host
 

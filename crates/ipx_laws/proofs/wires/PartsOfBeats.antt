@@ -1,11 +1,14 @@
 -- Beats in parts: what is so of each of them, of those before and of those behind; how many have ended, and how old what flies is.
-use Rattle.std.proofs.Common.{◌≡◌, refl, sym, ap, subst, ℕ, suc, ◌+◌, ◌<◌, ◌≤◌, nat_le, Bool, true, false, if◌then◌else◌, List, [], ◌∷◌, ◌++◌, length, flat_map, Option, None, Some, slice_get, arith, append_assoc, append-nil}
+use Rattle.std.proofs.Common.{◌≡◌, refl, sym, ap, subst, ℕ, suc, ◌+◌, ◌<◌, ◌≤◌, nat_le, Bool, true, false, if◌then◌else◌, List, [], ◌∷◌, ◌++◌, length, map, flat_map, Option, None, Some, slice_get, arith, append_assoc, append-nil, length-append, ◌∙◌}
 use Rattle.std.specs.List.{AllByRecursion}
+use Rattle.ipx_table.specs.Alive.{lifetime}
 use Rattle.ipx_router.specs.History.{Event, Packet}
 use Rattle.ipx_internet.specs.Internet.{Internet}
+use Rattle.ipx_internet.specs.Ticks.{seconds_of}
 use Rattle.ipx_internet.specs.Queue.{deliveries_of, sends_at}
 use Rattle.ipx_internet.proofs.lists.EachElement.{all_of, all_then, all-append, all_mapped}
-use Rattle.ipx_laws.specs.Wires.{Flight, Wires, WireStep, Occurs, Lands, beaten, occurs, lands, wired, wires_of, beats_of, Along, EachBeat}
+use Rattle.ipx_laws.specs.InTime.{seconds_in, AreQuick}
+use Rattle.ipx_laws.specs.Wires.{as_step, Flight, Wires, WireStep, Occurs, Lands, beaten, occurs, lands, wired, wires_of, beats_of, Along, EachBeat}
 
 module _ (net : Internet) (most_routes most_services delay : ℕ) where
   abbrev by : Wires → List (List WireStep) → Wires
@@ -132,3 +135,25 @@ module _ (net : Internet) (most_routes most_services delay : ℕ) where
         count = ap suc after.count;
         stamped = all_then (λ f. f.sent ≤ beats) (λ f. f.sent ≤ suc beats) (λ f less. omega (arith, less)) _ after.stamped;
       }))
+
+-- ---- how long they are by a clock
+
+seconds_more : (router : ℕ) (inside : List (List WireStep)) (steps : List WireStep)
+    → seconds_in router (inside ++ steps ∷ []) ≡ seconds_in router inside + seconds_of router (map as_step steps)
+seconds_more router [] steps = omega arith
+seconds_more router (first ∷ inside) steps = let more = seconds_more router inside steps in omega (arith, more)
+
+-- a window, and a beat that follows it
+module _ (net : Internet) (window : ℕ) (beats : List (List WireStep)) (quick : AreQuick net window beats) (router : ℕ) (there : router < length net)
+    (behind inside : List (List WireStep)) (wide : length inside ≡ window) where
+  pub window_quick : (rest : List (List WireStep)) → beats ≡ behind ++ inside ++ rest → seconds_in router inside < lifetime
+  window_quick rest parts = quick router behind inside rest there parts (omega (arith, wide))
+
+  pub beat_quick : (steps : List WireStep) (more : List (List WireStep)) → beats ≡ behind ++ inside ++ steps ∷ more
+      → seconds_of router (map as_step steps) + seconds_in router inside < lifetime
+  beat_quick steps more parts =
+      let regrouped = sym (append_assoc (behind ++ inside) (steps ∷ []) more) ∙ ap (λ (l : List (List WireStep)). l ++ more) (append_assoc behind inside (steps ∷ [])) in
+      let longer = length-append inside (steps ∷ []) in
+      let all = quick router behind (inside ++ steps ∷ []) more there (parts ∙ regrouped) (omega (arith, wide, longer)) in
+      let sum = seconds_more router inside steps in
+      omega (arith, all, sum)

@@ -18,7 +18,7 @@ use Rattle.ipx_internet.proofs.lists.EachElement.{all_of, all_then, all_mapped}
 use Rattle.ipx_internet.proofs.trees.RunIsALog.{router_there}
 use Rattle.ipx_laws.specs.Apart.{TellsOnlyOf}
 use Rattle.ipx_laws.specs.Gone.{most_ticks_gone}
-use Rattle.ipx_laws.specs.InTime.{Advertises, HeardInBeats, AreHeardInTime, IsSlow, IsQuick, beats_right}
+use Rattle.ipx_laws.specs.InTime.{Advertises, HeardInBeats, AreHeardInTime, beats_right, seconds_in, AreQuick}
 use Rattle.ipx_laws.specs.Least.{Way, least_route, way_of}
 use Rattle.ipx_laws.specs.Meanwhile.{LeavesPorts, SaysOnly}
 use Rattle.ipx_laws.specs.Ups.{ups}
@@ -31,7 +31,7 @@ use Rattle.ipx_laws.proofs.tables.SaysWhatItKnows.{Wants, wants, SourceOf, found
 use Rattle.ipx_laws.proofs.tables.TablesAreRight.{none_on, none_without}
 use Rattle.ipx_laws.proofs.wires.BeatAfterBeat.{along_all, along_then, beats_go, steps_each}
 use Rattle.ipx_laws.proofs.wires.HeardOnWires.{window_right, beat_right}
-use Rattle.ipx_laws.proofs.wires.PartsOfBeats.{Begins, beats_more, each_at, each_then, along_each, along_both, beats_begin}
+use Rattle.ipx_laws.proofs.wires.PartsOfBeats.{window_quick, beat_quick, Begins, beats_more, each_at, each_then, along_each, along_both, beats_begin}
 use Rattle.ipx_laws.proofs.wires.RealOnWires.{ends, nothing_more}
 use Rattle.ipx_laws.proofs.wires.SpokenOnWires.{AnyHistory, AnyEntry, Flies, Speaks, Lasts, Arises, Good, Goes, AllGood, Such, keeps, such_beats, steps_arise, comes_then, Told}
 use Rattle.ipx_laws.proofs.wires.WordsOnWires.{Lasting, HasIt, Fit, Extra, as_in_ticks, extras, advertises, a_hop, routes_in}
@@ -77,10 +77,10 @@ module _ (delay slack : ℕ) (given : Given) where
 
   -- ---- beats
 
-  module _ (window fastest : ℕ) (quick : IsQuick window fastest) (histories : List History) (are : AreHistories net histories)
+  module _ (window : ℕ) (histories : List History) (are : AreHistories net histories)
       (stay : (router : ℕ) → ups net histories router ≡ up router) (deliveries : List Delivery) (fly : AllByRecursion (IsDelivery net) deliveries)
       (over : (deliveries ≡ []) ⊎ (most_beats_flying delay ≤ slack)) (beats : List (List WireStep)) (all : AreBeats net beats)
-      (leave : EachWireStep LeavesPorts beats) (say : EachWireStep (SaysOnly (TellsOnlyOf foreign)) beats) (slow : AllByRecursion (IsSlow net fastest) beats)
+      (leave : EachWireStep LeavesPorts beats) (say : EachWireStep (SaysOnly (TellsOnlyOf foreign)) beats) (quick : AreQuick net window beats)
       (hear : AreHeardInTime net most_routes most_services delay window up (flying histories deliveries) beats) where
     abbrev at : List (List WireStep) → Wires
     at front = beats_of net most_routes most_services delay (flying histories deliveries) front
@@ -320,14 +320,14 @@ module _ (delay slack : ℕ) (given : Given) where
         enough : start + delay ≤ length cut.before + start
         enough = let flushed = cut.flushed in omega (arith, flushed)
 
-        fast : suc (length cut.inside) * fastest < lifetime
-        fast = subst (λ (k : ℕ). suc k * fastest < lifetime) (sym cut.wide) quick
+        fast : seconds_in x cut.inside < lifetime
+        fast = window_quick net window beats quick x there behind cut.inside cut.wide rest (parts ∙ ap (λ (f : List (List WireStep)). f ++ rest) cut.same)
 
         bound : HasIt delay slack given x w (history_of (at front).histories x)
         bound =
             subst (λ (v : Wires). HasIt delay slack given x w (history_of v.histories x)) (sym is_then)
-            (window_right delay slack given (suc n) most start long x w exact there fastest (length cut.before + start) enough cut.inside (at behind)
-            (of_part behind cut.inside rest whole (IsBeat net) all) (of_part behind cut.inside rest whole (IsSlow net fastest) slow)
+            (window_right delay slack given (suc n) most start long x w exact there (length cut.before + start) enough cut.inside (at behind)
+            (of_part behind cut.inside rest whole (IsBeat net) all)
             (such_in behind cut.inside rest whole late_behind) going_in fast heard
             (a_source net is cheap up in_ports network suffice x w.v w.off w.least))
 
@@ -342,12 +342,13 @@ module _ (delay slack : ℕ) (given : Given) where
             let last = parts ∙ ap (λ (r : List (List WireStep)). front ++ r) next in
             let such_now = (such_in front (steps ∷ []) more last (omega (arith, late))).0 in
             subst (λ (v : Wires). Along net most_routes most_services delay (λ now. HasIt delay slack given x w (history_of now.histories x)) v steps) (sym is_then)
-            (beat_right delay slack given (suc n) most start long x w exact there fastest (length cut.before + start) enough cut.inside (at behind)
-            (of_part behind cut.inside rest whole (IsBeat net) all) (of_part behind cut.inside rest whole (IsSlow net fastest) slow)
+            (beat_right delay slack given (suc n) most start long x w exact there (length cut.before + start) enough cut.inside (at behind)
+            (of_part behind cut.inside rest whole (IsBeat net) all)
             (such_in behind cut.inside rest whole late_behind) going_in fast heard
             (a_source net is cheap up in_ports network suffice x w.v w.off w.least) steps
-            (of_part front (steps ∷ []) more last (IsBeat net) all).0 (of_part front (steps ∷ []) more last (IsSlow net fastest) slow).0
-            (subst (λ (v : Wires). SuchBeat v steps) is_then such_now) goes_then)
+            (of_part front (steps ∷ []) more last (IsBeat net) all).0
+            (subst (λ (v : Wires). SuchBeat v steps) is_then such_now) goes_then
+            (beat_quick net window beats quick x there behind cut.inside cut.wide steps more (last ∙ ap (λ (f : List (List WireStep)). f ++ steps ∷ more) cut.same)))
 
     -- ---- however many hops
 

@@ -21,7 +21,7 @@ use Rattle.ipx_internet.specs.Ticks.{seconds_of}
 use Rattle.ipx_internet.proofs.lists.FoundInAList.{nothing, it_is}
 use Rattle.ipx_internet.proofs.packets.SentOnOrReply.{Layouts}
 use Rattle.ipx_laws.specs.Announces.{service_of}
-use Rattle.ipx_laws.specs.InTime.{IsSlow}
+use Rattle.ipx_laws.specs.InTime.{seconds_in}
 use Rattle.ipx_laws.specs.Meanwhile.{message_of}
 use Rattle.ipx_laws.specs.Regular.{HasRoomFor, Announces}
 use Rattle.ipx_laws.specs.Servers.{at_hops}
@@ -402,68 +402,60 @@ module _ (delay slack : ℕ) (sought : Sought) (laws : Layouts) (is : IsInternet
 
     -- ---- beats
 
-    module _ (fastest : ℕ) where
-      abbrev WaitsBeats : Wires → List (List WireStep) → Source sought → Type 0
-      WaitsBeats now beats s = Sayer s × InBeats net most_routes most_services delay (IsHeardAt s) now beats
+    abbrev WaitsBeats : Wires → List (List WireStep) → Source sought → Type 0
+    WaitsBeats now beats s = Sayer s × InBeats net most_routes most_services delay (IsHeardAt s) now beats
 
-      beats_track : (so_far : ℕ) (enough : start + delay ≤ so_far) (long : slack + most_beats_gone delay ≤ so_far) (beats : List (List WireStep)) (now : Wires) (top : ℕ)
-          → AllByRecursion (IsBeat net) beats → AllByRecursion (IsSlow net fastest) beats → EachBeat net most_routes most_services delay SuchBeat now beats
-          → GoesOn so_far (λ router. 0) now → length beats * fastest + top < lifetime → At top (WaitsBeats now beats) now
-          → At (length beats * fastest + top) (λ s. ⊥) (beats_of net most_routes most_services delay now beats)
-      beats_track so_far enough long [] now top are slow such going young state =
-          by_passes top (0 * fastest + top) (WaitsBeats now []) (λ s. ⊥) (history_of now.histories r) (omega arith) (λ s waits. waits.1) state
-      beats_track so_far enough long (steps ∷ beats) now top are slow such going young state =
-          let next = beaten (wires_of net most_routes most_services delay now steps) in
-          let most = slow.0 r inside in
-          let total : suc (length beats) * fastest ≡ fastest + length beats * fastest = omega arith in
-          let after = steps_track so_far enough long steps now (λ router. 0) top are.0.happens such.0 going (omega (arith, young, most, total))
-          (λ s next. InBeats net most_routes most_services delay (IsHeardAt s) (beaten next) beats) state in
-          let older = by_passes (seconds_of r (map as_step steps) + top) (fastest + top) (WaitsBeats next beats) (WaitsBeats next beats)
-          (history_of next.histories r) (omega (arith, most)) (λ s waits. waits) after in
-          let going_on = beat_goes net laws is most_routes most_services delay
-          (Lasts delay slack net laws is most_routes most_services up server L F X) AllFly Rises GoodOnes
-          (keeps delay slack net laws is most_routes most_services up server L F X extras) so_far steps now are.0 such.0 going in
-          let sum : length beats * fastest + (fastest + top) ≡ length (steps ∷ beats) * fastest + top = omega (arith, total) in
-          subst (λ (n : ℕ). At n (λ s. ⊥) (beats_of net most_routes most_services delay next beats)) sum
-          (beats_track (suc so_far) (omega (arith, enough)) (omega (arith, long)) beats next (fastest + top) are.1 slow.1 such.1 going_on (omega
-          (arith, young, total)) older)
+    beats_track : (so_far : ℕ) (enough : start + delay ≤ so_far) (long : slack + most_beats_gone delay ≤ so_far) (beats : List (List WireStep)) (now : Wires) (top : ℕ)
+        → AllByRecursion (IsBeat net) beats → EachBeat net most_routes most_services delay SuchBeat now beats
+        → GoesOn so_far (λ router. 0) now → seconds_in r beats + top < lifetime → At top (WaitsBeats now beats) now
+        → At (seconds_in r beats + top) (λ s. ⊥) (beats_of net most_routes most_services delay now beats)
+    beats_track so_far enough long [] now top are such going young state =
+        by_passes top (0 + top) (WaitsBeats now []) (λ s. ⊥) (history_of now.histories r) (omega arith) (λ s waits. waits.1) state
+    beats_track so_far enough long (steps ∷ beats) now top are such going young state =
+        let next = beaten (wires_of net most_routes most_services delay now steps) in
+        let total : seconds_in r (steps ∷ beats) ≡ seconds_of r (map as_step steps) + seconds_in r beats = refl in
+        let after = steps_track so_far enough long steps now (λ router. 0) top are.0.happens such.0 going (omega (arith, young, total))
+        (λ s next. InBeats net most_routes most_services delay (IsHeardAt s) (beaten next) beats) state in
+        let going_on = beat_goes net laws is most_routes most_services delay
+        (Lasts delay slack net laws is most_routes most_services up server L F X) AllFly Rises GoodOnes
+        (keeps delay slack net laws is most_routes most_services up server L F X extras) so_far steps now are.0 such.0 going in
+        let sum : seconds_in r beats + (seconds_of r (map as_step steps) + top) ≡ seconds_in r (steps ∷ beats) + top = omega (arith, total) in
+        subst (λ (n : ℕ). At n (λ s. ⊥) (beats_of net most_routes most_services delay next beats)) sum
+        (beats_track (suc so_far) (omega (arith, enough)) (omega (arith, long)) beats next (seconds_of r (map as_step steps) + top) are.1 such.1 going_on (omega (arith, young, total)) after)
 
-      -- a window in which each of them is heard
-      module _ (so_far : ℕ) (enough : start + delay ≤ so_far) (long : slack + most_beats_gone delay ≤ so_far) (window : List (List WireStep)) (now : Wires)
-          (are : AllByRecursion (IsBeat net) window) (slow : AllByRecursion (IsSlow net fastest) window)
-          (such : EachBeat net most_routes most_services delay SuchBeat now window)
-          (going : GoesOn so_far (λ router. 0) now) (quick : suc (length window) * fastest < lifetime)
-          (in_time : (s : Source sought) → Sayer s → InBeats net most_routes most_services delay (IsHeardAt s) now window)
-          (first : ServiceOffer) (good : Good sought first) where
-        abbrev last : Wires
-        last = beats_of net most_routes most_services delay now window
+    -- a window in which each of them is heard
+    module _ (so_far : ℕ) (enough : start + delay ≤ so_far) (long : slack + most_beats_gone delay ≤ so_far) (window : List (List WireStep)) (now : Wires)
+        (are : AllByRecursion (IsBeat net) window)
+        (such : EachBeat net most_routes most_services delay SuchBeat now window)
+        (going : GoesOn so_far (λ router. 0) now) (quick : seconds_in r window < lifetime)
+        (in_time : (s : Source sought) → Sayer s → InBeats net most_routes most_services delay (IsHeardAt s) now window)
+        (first : ServiceOffer) (good : Good sought first) where
+      abbrev last : Wires
+      last = beats_of net most_routes most_services delay now window
 
-        young : length window * fastest + 0 < lifetime
-        young =
-            let total : suc (length window) * fastest ≡ fastest + length window * fastest = omega arith in
-            omega (arith, quick, total)
+      young : seconds_in r window + 0 < lifetime
+      young = omega (arith, quick)
 
-        sayer_of : (o : ServiceOffer) → Good sought o → Sayer (o.port, o.node)
-        sayer_of o is_good = (is_good.who, is_good.on)
+      sayer_of : (o : ServiceOffer) → Good sought o → Sayer (o.port, o.node)
+      sayer_of o is_good = (is_good.who, is_good.on)
 
-        waiting : (s : Source sought) → Sayer s → WaitsBeats now window s
-        waiting s sayer = (sayer, in_time s sayer)
+      waiting : (s : Source sought) → Sayer s → WaitsBeats now window s
+      waiting s sayer = (sayer, in_time s sayer)
 
-        heard : At (length window * fastest + 0) (λ s. ⊥) last
-        heard =
-            beats_track so_far enough long window now 0 are slow such going young (record {
-              aged = λ h s e is_good. inr (waiting s (subst Sayer is_good.1 (sayer_of h.offer is_good.0)));
-              holds = inr (first, good, waiting (first.port, first.node) (sayer_of first good));
-            })
+      heard : At (seconds_in r window + 0) (λ s. ⊥) last
+      heard =
+          beats_track so_far enough long window now 0 are such going young (record {
+            aged = λ h s e is_good. inr (waiting s (subst Sayer is_good.1 (sayer_of h.offer is_good.0)));
+            holds = inr (first, good, waiting (first.port, first.node) (sayer_of first good));
+          })
 
-        pub window_right : IsRightIn sought (history_of last.histories r)
-        window_right = has_it (length window * fastest + 0) last heard
+      pub window_right : IsRightIn sought (history_of last.histories r)
+      window_right = has_it (seconds_in r window + 0) last heard
 
-        -- and at each moment of a beat more
-        pub beat_right : (steps : List WireStep) → IsBeat net steps → IsSlow net fastest steps → SuchBeat last steps → GoesOn (length window + so_far) (λ router. 0) last
-            → Along net most_routes most_services delay (λ n. IsRightIn sought (history_of n.histories r)) last steps
-        beat_right steps beat few_seconds such_then going_then =
-            let most = few_seconds r inside in
-            let total : suc (length window) * fastest ≡ fastest + length window * fastest = omega arith in
-            steps_stay (length window + so_far) (omega (arith, enough)) (omega (arith, long)) steps last (λ router. 0) (length window * fastest + 0) beat.happens such_then
-            going_then (omega (arith, most, quick, total)) heard
+      -- and at each moment of a beat more
+      pub beat_right : (steps : List WireStep) → IsBeat net steps → SuchBeat last steps → GoesOn (length window + so_far) (λ router. 0) last
+          → seconds_of r (map as_step steps) + seconds_in r window < lifetime
+          → Along net most_routes most_services delay (λ n. IsRightIn sought (history_of n.histories r)) last steps
+      beat_right steps beat such_then going_then shorter =
+          steps_stay (length window + so_far) (omega (arith, enough)) (omega (arith, long)) steps last (λ router. 0) (seconds_in r window + 0) beat.happens such_then
+          going_then (omega (arith, shorter)) heard

@@ -9,7 +9,7 @@ ghost use Rattle.ipx_internet.specs.Internet.{Internet, Place, IsInternet, Nodes
 ghost use Rattle.ipx_internet.specs.Queue.{Delivery, sends_at};
 ghost use Rattle.ipx_internet.specs.Rounds.{IsDelivery};
 ghost use Rattle.ipx_internet.specs.Run.{AreHistories};
-ghost use Rattle.ipx_laws.specs.InTime.{IsSlow, IsQuick};
+ghost use Rattle.ipx_laws.specs.InTime.{AreQuick};
 ghost use Rattle.ipx_laws.specs.Meanwhile.{LeavesPorts};
 ghost use Rattle.ipx_laws.specs.Nearest.{LeadsElsewhere, IsAnswered, Asks};
 ghost use Rattle.ipx_laws.specs.Regular.{IsServiceSetting, NoneNearer};
@@ -82,18 +82,18 @@ pub fn served_on_wires()
 /// row, on every port of its network that is up (`AreHostsInTime`). One beat more than a window has fewer than 180 seconds by every clock, the
 /// lifetime of an offer. Nothing is asked of what is sent between routers: it may all be lost.
 pub fn beside_on_wires()
-    ensures has { (net : Internet) (most_routes most_services delay window fastest : ℕ) (server : Server) (names : List (ℕ × List ℕ)) (histories : List History)
+    ensures has { (net : Internet) (most_routes most_services delay window : ℕ) (server : Server) (names : List (ℕ × List ℕ)) (histories : List History)
         (beats : List (List WireStep)) (place : Place) (which : ℕ) (host : Announcer)
         → IsServiceSetting net most_services histories names server → AreBeats net beats → EachWireStep LeavesPorts beats
-        → AllByRecursion (IsSlow net fastest) beats → IsQuick window fastest
+        → AreQuick net window beats
         → AreRegularBeats net most_routes most_services delay server window names (ups net histories) (still histories) beats
         → most_beats_gone delay + window ≤ length beats → IsBeside net (ups net histories) server place which host
         → known_of server (services_of net most_services (beats_of net most_routes most_services delay (still histories) beats).histories place.router)
         ≡ Some (at_hops server host.hops) }
-    ensures whatever_flies { (net : Internet) (most_routes most_services delay window fastest : ℕ) (server : Server) (names : List (ℕ × List ℕ)) (histories : List History)
+    ensures whatever_flies { (net : Internet) (most_routes most_services delay window : ℕ) (server : Server) (names : List (ℕ × List ℕ)) (histories : List History)
         (deliveries : List Delivery) (beats : List (List WireStep)) (place : Place) (which : ℕ) (host : Announcer)
         → IsServiceSetting net most_services histories names server → AllByRecursion (IsDelivery net) deliveries → AreBeats net beats → EachWireStep LeavesPorts beats
-        → AllByRecursion (IsSlow net fastest) beats → IsQuick window fastest
+        → AreQuick net window beats
         → AreRegularBeats net most_routes most_services delay server window names (ups net histories) (flying histories deliveries) beats
         → most_beats_flying delay + (most_beats_gone delay + window) ≤ length beats → IsBeside net (ups net histories) server place which host
         → known_of server (services_of net most_services (beats_of net most_routes most_services delay (flying histories deliveries) beats).histories place.router)
@@ -117,10 +117,10 @@ pub fn beside_on_wires()
 /// broadcast each minute, of any two broadcasts in a row one must arrive. A router without such a way hasn't got the service
 /// (`served_on_wires`, `none`).
 pub fn everywhere_on_wires()
-    ensures has { (net : Internet) (most_routes most_services delay window fastest : ℕ) (server : Server) (names : List (ℕ × List ℕ)) (nearest : ℕ)
+    ensures has { (net : Internet) (most_routes most_services delay window : ℕ) (server : Server) (names : List (ℕ × List ℕ)) (nearest : ℕ)
         (histories : List History) (beats : List (List WireStep)) (router hops : ℕ)
         → IsServiceSetting net most_services histories names server → AreBeats net beats → EachWireStep LeavesPorts beats
-        → AllByRecursion (IsSlow net fastest) beats → IsQuick window fastest
+        → AreQuick net window beats
         → AreRegularBeats net most_routes most_services delay server window names (ups net histories) (still histories) beats
         → NodesDiffer net → NoneNearer server nearest
         → AreRoutersInTime net most_routes most_services delay server window (ups net histories) (still histories) beats
@@ -128,10 +128,10 @@ pub fn everywhere_on_wires()
         → IsFewest net (ups net histories) server router hops
         → known_of server (services_of net most_services (beats_of net most_routes most_services delay (still histories) beats).histories router)
         ≡ Some (at_hops server hops) }
-    ensures meanwhile { (net : Internet) (most_routes most_services delay window fastest : ℕ) (server : Server) (names : List (ℕ × List ℕ)) (nearest : ℕ)
+    ensures meanwhile { (net : Internet) (most_routes most_services delay window : ℕ) (server : Server) (names : List (ℕ × List ℕ)) (nearest : ℕ)
         (histories : List History) (beats : List (List WireStep)) (steps more : List WireStep) (router hops : ℕ)
         → IsServiceSetting net most_services histories names server → AreBeats net (beats ++ (steps ++ more) ∷ []) → EachWireStep LeavesPorts (beats ++ (steps ++ more) ∷ [])
-        → AllByRecursion (IsSlow net fastest) (beats ++ (steps ++ more) ∷ []) → IsQuick window fastest
+        → AreQuick net window (beats ++ (steps ++ more) ∷ [])
         → AreRegularBeats net most_routes most_services delay server window names (ups net histories) (still histories) (beats ++ (steps ++ more) ∷ [])
         → NodesDiffer net → NoneNearer server nearest
         → AreRoutersInTime net most_routes most_services delay server window (ups net histories) (still histories) (beats ++ (steps ++ more) ∷ [])
@@ -140,10 +140,10 @@ pub fn everywhere_on_wires()
         → known_of server (services_of net most_services
         (wires_of net most_routes most_services delay (beats_of net most_routes most_services delay (still histories) beats) steps).histories router)
         ≡ Some (at_hops server hops) }
-    ensures whatever_flies { (net : Internet) (most_routes most_services delay window fastest : ℕ) (server : Server) (names : List (ℕ × List ℕ)) (nearest : ℕ)
+    ensures whatever_flies { (net : Internet) (most_routes most_services delay window : ℕ) (server : Server) (names : List (ℕ × List ℕ)) (nearest : ℕ)
         (histories : List History) (deliveries : List Delivery) (beats : List (List WireStep)) (router hops : ℕ)
         → IsServiceSetting net most_services histories names server → AllByRecursion (IsDelivery net) deliveries → AreBeats net beats → EachWireStep LeavesPorts beats
-        → AllByRecursion (IsSlow net fastest) beats → IsQuick window fastest
+        → AreQuick net window beats
         → AreRegularBeats net most_routes most_services delay server window names (ups net histories) (flying histories deliveries) beats
         → NodesDiffer net → NoneNearer server nearest
         → AreRoutersInTime net most_routes most_services delay server window (ups net histories) (flying histories deliveries) beats
@@ -164,10 +164,10 @@ pub fn everywhere_on_wires()
 /// advertises it (`answered`). As in `nearest`, no way that is as short begins on that port's network (`LeadsElsewhere`), and FFFFh, which
 /// asks for every type, is left out. Whether the answer arrives is another matter.
 pub fn nearest_on_wires()
-    ensures answered { (net : Internet) (most_routes most_services delay window fastest : ℕ) (server : Server) (names : List (ℕ × List ℕ)) (nearest : ℕ)
+    ensures answered { (net : Internet) (most_routes most_services delay window : ℕ) (server : Server) (names : List (ℕ × List ℕ)) (nearest : ℕ)
         (histories : List History) (beats : List (List WireStep)) (steps more : List WireStep) (hops : ℕ) (place : Place) (source : Address) (bytes : List ℕ)
         → IsServiceSetting net most_services histories names server → AreBeats net (beats ++ (steps ++ more) ∷ []) → EachWireStep LeavesPorts (beats ++ (steps ++ more) ∷ [])
-        → AllByRecursion (IsSlow net fastest) (beats ++ (steps ++ more) ∷ []) → IsQuick window fastest
+        → AreQuick net window (beats ++ (steps ++ more) ∷ [])
         → AreRegularBeats net most_routes most_services delay server window names (ups net histories) (still histories) (beats ++ (steps ++ more) ∷ [])
         → NodesDiffer net → NoneNearer server nearest
         → AreRoutersInTime net most_routes most_services delay server window (ups net histories) (still histories) (beats ++ (steps ++ more) ∷ [])

@@ -15,7 +15,7 @@ ghost use Rattle.ipx_internet.specs.Rounds.{IsDelivery};
 ghost use Rattle.ipx_internet.specs.Run.{Step, AreHistories, begun};
 ghost use Rattle.ipx_laws.specs.Announces.{AsksApart};
 ghost use Rattle.ipx_laws.specs.Apart.{TellsOnlyOf, IsRealApart, IsSettingBeside};
-ghost use Rattle.ipx_laws.specs.InTime.{AreHeardInTime, IsSlow, IsQuick, beats_right, IsInLockStep};
+ghost use Rattle.ipx_laws.specs.InTime.{AreHeardInTime, AreQuick, beats_right, IsInLockStep};
 ghost use Rattle.ipx_laws.specs.Least.{least_route};
 ghost use Rattle.ipx_laws.specs.Meanwhile.{IsWithoutRoute, IsWithoutService, TellsNoRoute, LeavesPorts, SaysOnly, AreBusyTicks, AreTicksOfHosts};
 ghost use Rattle.ipx_laws.specs.Real.{IsReal};
@@ -132,32 +132,32 @@ pub fn real_on_wires()
 /// overtaken besides. One beat more than a window has fewer than 180 seconds by every clock, the lifetime of an offer. So where routers
 /// broadcast each minute, of any two broadcasts in a row one must arrive: of three isn't enough.
 pub fn right_on_wires()
-    ensures tables { (net : Internet) (most_routes most_services delay window fastest : ℕ) (histories : List History) (beats : List (List WireStep)) (router : ℕ) (network : Network)
+    ensures tables { (net : Internet) (most_routes most_services delay window : ℕ) (histories : List History) (beats : List (List WireStep)) (router : ℕ) (network : Network)
         → IsSetting net most_routes histories network → AreBeats net beats → EachWireStep LeavesPorts beats → EachWireStep (SaysOnly TellsNoRoute) beats
-        → AllByRecursion (IsSlow net fastest) beats → IsQuick window fastest
+        → AreQuick net window beats
         → AreHeardInTime net most_routes most_services delay window (ups net histories) (still histories) beats
         → router < length net → beats_right delay window (least_route net (ups net histories) router network) ≤ length beats
         → IsRight net most_routes (beats_of net most_routes most_services delay (still histories) beats).histories (ups net histories) router network }
-    ensures meanwhile { (net : Internet) (most_routes most_services delay window fastest : ℕ) (histories : List History) (beats : List (List WireStep)) (steps more : List WireStep)
+    ensures meanwhile { (net : Internet) (most_routes most_services delay window : ℕ) (histories : List History) (beats : List (List WireStep)) (steps more : List WireStep)
         (router : ℕ) (network : Network)
         → IsSetting net most_routes histories network → AreBeats net (beats ++ (steps ++ more) ∷ []) → EachWireStep LeavesPorts (beats ++ (steps ++ more) ∷ [])
         → EachWireStep (SaysOnly TellsNoRoute) (beats ++ (steps ++ more) ∷ [])
-        → AllByRecursion (IsSlow net fastest) (beats ++ (steps ++ more) ∷ []) → IsQuick window fastest
+        → AreQuick net window (beats ++ (steps ++ more) ∷ [])
         → AreHeardInTime net most_routes most_services delay window (ups net histories) (still histories) (beats ++ (steps ++ more) ∷ [])
         → router < length net → beats_right delay window (least_route net (ups net histories) router network) ≤ length beats
         → IsRight net most_routes (wires_of net most_routes most_services delay (beats_of net most_routes most_services delay (still histories) beats) steps).histories
         (ups net histories) router network }
-    ensures apart { (net : Internet) (most_routes most_services delay window fastest : ℕ) (foreign : List Network) (histories : List History) (beats : List (List WireStep))
+    ensures apart { (net : Internet) (most_routes most_services delay window : ℕ) (foreign : List Network) (histories : List History) (beats : List (List WireStep))
         (router : ℕ) (network : Network)
         → IsSettingBeside net most_routes foreign histories network → AreBeats net beats → EachWireStep LeavesPorts beats
-        → EachWireStep (SaysOnly (TellsOnlyOf foreign)) beats → AllByRecursion (IsSlow net fastest) beats → IsQuick window fastest
+        → EachWireStep (SaysOnly (TellsOnlyOf foreign)) beats → AreQuick net window beats
         → AreHeardInTime net most_routes most_services delay window (ups net histories) (still histories) beats
         → router < length net → beats_right delay window (least_route net (ups net histories) router network) ≤ length beats
         → IsRight net most_routes (beats_of net most_routes most_services delay (still histories) beats).histories (ups net histories) router network }
-    ensures whatever_flies { (net : Internet) (most_routes most_services delay window fastest : ℕ) (histories : List History) (deliveries : List Delivery)
+    ensures whatever_flies { (net : Internet) (most_routes most_services delay window : ℕ) (histories : List History) (deliveries : List Delivery)
         (beats : List (List WireStep)) (router : ℕ) (network : Network)
         → IsSetting net most_routes histories network → AllByRecursion (IsDelivery net) deliveries → AreBeats net beats → EachWireStep LeavesPorts beats
-        → EachWireStep (SaysOnly TellsNoRoute) beats → AllByRecursion (IsSlow net fastest) beats → IsQuick window fastest
+        → EachWireStep (SaysOnly TellsNoRoute) beats → AreQuick net window beats
         → AreHeardInTime net most_routes most_services delay window (ups net histories) (flying histories deliveries) beats → router < length net
         → most_beats_flying delay + beats_right delay window (least_route net (ups net histories) router network) ≤ length beats
         → IsRight net most_routes (beats_of net most_routes most_services delay (flying histories deliveries) beats).histories (ups net histories) router network }

@@ -17,6 +17,6 @@ enough : (way : Option Way) (w : Way) (n : ℕ) → way ≡ Some w → 2910 + w.
 enough way w n is long = subst (λ (o : Option Way). beats_right 2 123 o ≤ n) (sym is) long
 
 pub returns-clause-right : goal.returns-clause-right
-returns-clause-right c net most_routes most_services histories beats router network way is are leaves says slow heard within least long =
-    c.right_on_wires.ensures.tables net most_routes most_services 2 123 1 histories beats router network is are leaves says slow (omega arith) heard within
+returns-clause-right c net most_routes most_services histories beats router network way is are leaves says quick heard within least long =
+    c.right_on_wires.ensures.tables net most_routes most_services 2 123 histories beats router network is are leaves says quick heard within
     (enough _ way (length beats) least long)

@@ -43,21 +43,21 @@ none_more delay window hops count long =
     omega (arith, long, nothing)
 
 pub returns-clause-has : goal.returns-clause-has
-returns-clause-has c net most_routes most_services delay window fastest server names histories beats place which host (is, are, voice, room, listed) all leave slow quick (say, named, in_time) long (within, on, announces, network, reached, least) =
+returns-clause-has c net most_routes most_services delay window server names histories beats place which host (is, are, voice, room, listed) all leave quick (say, named, in_time) long (within, on, announces, network, reached, least) =
     let due = none_more delay window host.hops (length beats - 0) (omega (arith, long)) in
     beside_known delay 0 net (layouts c) is most_routes most_services (ups net histories) server names
     (hosts_apart net most_routes most_services delay server window (ups net histories) (still histories) beats voice in_time (omega (arith, long)))
-    (λ k. ports_up-within (ports_of net k) (history_of histories k)) room listed host.hops least window fastest quick histories are (λ other. refl) [] tt (inl refl) beats all leave say
-    named slow in_time
+    (λ k. ports_up-within (ports_of net k) (history_of histories k)) room listed host.hops least window histories are (λ other. refl) [] tt (inl refl) beats all leave say
+    named quick in_time
     place.router within reached (beside place.port which host on announces network, λ others way. no_nearer net (ups net histories) server host.hops least way) beats []
     (sym (append-nil beats)) (omega (arith, due, long))
 
 pub returns-clause-whatever_flies : goal.returns-clause-whatever_flies
-returns-clause-whatever_flies c net most_routes most_services delay window fastest server names histories deliveries beats place which host (is, are, voice, room, listed) fly all leave slow quick (say, named, in_time) long (within, on, announces, network, reached, least) =
+returns-clause-whatever_flies c net most_routes most_services delay window server names histories deliveries beats place which host (is, are, voice, room, listed) fly all leave quick (say, named, in_time) long (within, on, announces, network, reached, least) =
     let due = none_more delay window host.hops (length beats - (most_beats_flying delay)) (omega (arith, long)) in
     beside_known delay (most_beats_flying delay) net (layouts c) is most_routes most_services (ups net histories) server names
     (hosts_apart net most_routes most_services delay server window (ups net histories) (flying histories deliveries) beats voice in_time (omega (arith, long)))
-    (λ k. ports_up-within (ports_of net k) (history_of histories k)) room listed host.hops least window fastest quick histories are (λ other. refl) deliveries fly (inr (omega arith)) beats all leave say
-    named slow in_time
+    (λ k. ports_up-within (ports_of net k) (history_of histories k)) room listed host.hops least window histories are (λ other. refl) deliveries fly (inr (omega arith)) beats all leave say
+    named quick in_time
     place.router within reached (beside place.port which host on announces network, λ others way. no_nearer net (ups net histories) server host.hops least way) beats []
     (sym (append-nil beats)) (omega (arith, due, long))

@@ -42,23 +42,23 @@ layouts c = record {
 
 pub returns : goal.returns
 returns c = record {
-  answered = λ net most_routes most_services delay window fastest server names nearest histories beats steps more hops place source bytes (is, are, voice, room, listed) all leave slow quick (say, named, in_time) differ least routers long within near fewest kind elsewhere (are_bytes, heard).
+  answered = λ net most_routes most_services delay window server names nearest histories beats steps more hops place source bytes (is, are, voice, room, listed) all leave quick (say, named, in_time) differ least routers long within near fewest kind elsewhere (are_bytes, heard).
       let first : Wires = beats_of net most_routes most_services delay (still histories) beats in
       let now : Wires = wires_of net most_routes most_services delay first steps in
       let has = along_prefix net most_routes most_services delay
       (λ n. known_of server (services_of net most_services n.histories place.router) ≡ Some (at_hops server hops)) first steps more
       (known delay 0 net (layouts c) is most_routes most_services (ups net histories) server names
       (hosts_apart net most_routes most_services delay server window (ups net histories) (still histories) (beats ++ (steps ++ more) ∷ []) voice in_time (let count = length-append beats ((steps ++ more) ∷ []) in omega (arith, count, long)))
-      (λ k. ports_up-within (ports_of net k) (history_of histories k)) room listed nearest least window fastest quick histories are (λ other. refl) [] tt (inl refl) (beats ++ (steps ++ more) ∷ []) all leave say
-      named slow in_time
+      (λ k. ports_up-within (ports_of net k) (history_of histories k)) room listed nearest least window histories are (λ other. refl) [] tt (inl refl) (beats ++ (steps ++ more) ∷ []) all leave say
+      named quick in_time
       differ routers hops (omega (arith, near)) beats (steps ++ more) [] refl (omega (arith, long)) place.router within fewest) in
       let sound = along_prefix net most_routes most_services delay
       (λ n. AreHistories net n.histories
       × AllByRecursion (IsFine net (ups net histories) server (IsListedName names) place.router) (services_of net most_services n.histories place.router)) first steps more
       (sound_in delay 0 net (layouts c) is most_routes most_services (ups net histories) server names
       (hosts_apart net most_routes most_services delay server window (ups net histories) (still histories) (beats ++ (steps ++ more) ∷ []) voice in_time (let count = length-append beats ((steps ++ more) ∷ []) in omega (arith, count, long)))
-      (λ k. ports_up-within (ports_of net k) (history_of histories k)) room listed nearest least window fastest quick histories are (λ other. refl) [] tt (inl refl) (beats ++ (steps ++ more) ∷ []) all leave say
-      named slow in_time
+      (λ k. ports_up-within (ports_of net k) (history_of histories k)) room listed nearest least window histories are (λ other. refl) [] tt (inl refl) (beats ++ (steps ++ more) ∷ []) all leave say
+      named quick in_time
       place.router within beats (steps ++ more) [] refl (omega (arith, long))) in
       let run : Run = record { histories = now.histories; waiting = []; log = [] } in
       answered_now net (layouts c) is most_routes most_services (ups net histories) server (IsListedName names) place.router within hops place.port near kind elsewhere bytes

@@ -34,31 +34,31 @@ layouts c = record {
 }
 
 pub returns-clause-apart : goal.returns-clause-apart
-returns-clause-apart c net most_routes most_services delay window fastest foreign histories beats router network (is, differ, suffice, cheap, room, are, unlisted) all leave says slow quick hear
+returns-clause-apart c net most_routes most_services delay window foreign histories beats router network (is, differ, suffice, cheap, room, are, unlisted) all leave says quick hear
     inside enough =
     right_at delay 0 (given_of net (layouts c) is differ cheap (ups net histories) (ups_within net histories) most_routes most_services foreign room network suffice unlisted)
-    window fastest quick histories are (λ other. refl) [] tt (inl refl) beats all leave says slow hear router inside beats [] (sym (append-nil beats)) (omega (arith, enough))
+    window histories are (λ other. refl) [] tt (inl refl) beats all leave says quick hear router inside beats [] (sym (append-nil beats)) (omega (arith, enough))
 
 pub returns-clause-tables : goal.returns-clause-tables
-returns-clause-tables c net most_routes most_services delay window fastest histories beats router network setting all leave says slow quick hear inside enough =
-    returns-clause-apart c net most_routes most_services delay window fastest [] histories beats router network (setting_beside net most_routes histories network setting) all leave
-    (none_beside beats says) slow quick hear inside enough
+returns-clause-tables c net most_routes most_services delay window histories beats router network setting all leave says quick hear inside enough =
+    returns-clause-apart c net most_routes most_services delay window [] histories beats router network (setting_beside net most_routes histories network setting) all leave
+    (none_beside beats says) quick hear inside enough
 
 pub returns-clause-whatever_flies : goal.returns-clause-whatever_flies
-returns-clause-whatever_flies c net most_routes most_services delay window fastest histories deliveries beats router network setting fly all leave says slow quick hear inside enough =
+returns-clause-whatever_flies c net most_routes most_services delay window histories deliveries beats router network setting fly all leave says quick hear inside enough =
     let (is, differ, suffice, cheap, room, are, unlisted) = setting_beside net most_routes histories network setting in
     right_at delay (most_beats_flying delay)
     (given_of net (layouts c) is differ cheap (ups net histories) (ups_within net histories) most_routes most_services [] room network suffice unlisted)
-    window fastest quick histories are (λ other. refl) deliveries fly (inr (omega arith)) beats all leave (none_beside beats says) slow hear router inside beats []
+    window histories are (λ other. refl) deliveries fly (inr (omega arith)) beats all leave (none_beside beats says) quick hear router inside beats []
     (sym (append-nil beats)) enough
 
 pub returns-clause-meanwhile : goal.returns-clause-meanwhile
-returns-clause-meanwhile c net most_routes most_services delay window fastest histories beats steps more router network setting all leave says slow quick hear inside enough =
+returns-clause-meanwhile c net most_routes most_services delay window histories beats steps more router network setting all leave says quick hear inside enough =
     let (is, differ, suffice, cheap, room, are, unlisted) = setting_beside net most_routes histories network setting in
     let given = given_of net (layouts c) is differ cheap (ups net histories) (ups_within net histories) most_routes most_services [] room network suffice unlisted in
     let whole = beats ++ (steps ++ more) ∷ [] in
     along_prefix net most_routes most_services delay
-    (Right_now delay 0 given window fastest quick histories are (λ other. refl) [] tt (inl refl) whole all leave (none_beside whole says) slow hear router)
+    (Right_now delay 0 given window histories are (λ other. refl) [] tt (inl refl) whole all leave (none_beside whole says) quick hear router)
     (beats_of net most_routes most_services delay (still histories) beats) steps more
-    (right_in delay 0 given window fastest quick histories are (λ other. refl) [] tt (inl refl) whole all leave (none_beside whole says) slow hear router inside beats
+    (right_in delay 0 given window histories are (λ other. refl) [] tt (inl refl) whole all leave (none_beside whole says) quick hear router inside beats
     ((steps ++ more) ∷ []) refl (omega (arith, enough)) (steps ++ more) [] refl)
