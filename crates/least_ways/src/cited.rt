@@ -1,7 +1,7 @@
 //! Laws of `ipx_laws`, cited with numbers in the place of what they leave open.
 //!
 //! On these wires a packet takes at most two seconds by the slowest clock, or is lost. Of any two broadcasts in a row one arrives, so that
-//! routers are heard in any 123 seconds: twice a minute, one second, and the two that a packet takes. One second more is less than 180 by every clock.
+//! routers are heard in any 123 seconds: two minutes, one second, and the two that a packet takes. One second more is less than 180 by every clock.
 ghost use Rattle.std.specs.Prelude.{◌≡◌, ◌≢◌, ℕ, ◌+◌, ◌-◌, ◌*◌, ◌<◌, ◌≤◌, false, Some, List, [], ◌∷◌, length};
 ghost use Rattle.std.specs.List.{AllByRecursion};
 ghost use Rattle.ipx_wire.specs.declared.network.Network.{Network};
@@ -58,8 +58,8 @@ pub fn over_two_seconds()
     ipx_laws::laws::right_on_wires();
 }
 
-/// On the same wires, where hosts and routers are heard in time of a service of one host, one hop from it, every router has it by its fewest hops
-/// after 3,033 seconds and 125 for each hop more.
+/// On the same wires, where hosts and routers are heard in time of a service, and no host says fewer hops than one, every router has it by its
+/// fewest hops after 3,033 seconds and 125 for each hop more.
 pub fn served_over_two_seconds()
     ensures { (net : Internet) (most_routes most_services : ℕ) (server : Server) (names : List (ℕ × List ℕ)) (histories : List History) (beats : List (List WireStep))
         (router hops : ℕ)

@@ -124,8 +124,8 @@ pub fn real_on_wires()
 /// Every table becomes right and stays so, whatever was in it before, hop by hop: a router has the route of its least way to a network of h hops
 /// after 2,880 beats and 15 delays, in which every route becomes real, and for each hop a window of beats and one delay more (`tables`); where
 /// there is no way it has none, after the first of these. So it is at each moment from then on, whatever flies then (`meanwhile`). If hosts
-/// tell of routes to networks of a list, that is so of each network off the list (`apart`). If anything flies at first, forged packets too, it
-/// takes 18 delays and one beat more (`whatever_flies`).
+/// tell of routes to networks of a list, and nothing flies at first, that is so of each network off the list as beats end (`apart`). If anything
+/// flies at first, forged packets too, it takes 18 delays and one beat more (`whatever_flies`).
 ///
 /// It asks what `right` asks of an internet and of hosts. And routers are heard in time (`AreHeardInTime`): what a router advertises on a port all
 /// the time of a window of beats in a row, each router beside it hears in them, by ports that are up; packets may be lost, late, doubled and
