@@ -46,6 +46,24 @@ module _ (net : Internet) (most_routes most_services : ℕ) where
   edge_run run [] = run
   edge_run run (step ∷ steps) = edge_run (edge_stepped run step) steps
 
+  -- what comes next comes in as it is: an event that is no packet always does
+  abbrev pub ComesAsItIs : Run → Step → Type 0
+  ComesAsItIs run (Happens router Start) = Unit
+  ComesAsItIs run (Happens router Stop) = Unit
+  ComesAsItIs run (Happens router Second) = Unit
+  ComesAsItIs run (Happens router (Packet number bytes)) = entered (port_of net (record { router = router; port = number })) bytes ≡ Some bytes
+  ComesAsItIs run (Happens router (PortDown number)) = Unit
+  ComesAsItIs run (Happens router (PortUp number)) = Unit
+  ComesAsItIs run Settles = elim run.waiting [
+    | [] ↦ Unit
+    | ◌∷◌ w waiting ↦ entered (port_of net w.delivery.to) w.delivery.bytes ≡ Some w.delivery.bytes
+  ]
+
+  -- and so does all that comes in some steps
+  abbrev pub AllComeAsTheyAre : Run → List Step → Type 0
+  AllComeAsTheyAre run [] = Unit
+  AllComeAsTheyAre run (step ∷ steps) = ComesAsItIs run step × AllComeAsTheyAre (stepped net most_routes most_services run step) steps
+
   -- every router has the routes and services after one run that it had after another
   abbrev pub HoldTheSame : Run → Run → Type 0
   HoldTheSame old new =

@@ -6,18 +6,20 @@ ghost use Rattle.ipx_wire.specs.Packet.{Parts, packet_of};
 ghost use Rattle.ipx_router.specs.Facts.{routes_held, services_held};
 ghost use Rattle.ipx_router.specs.Heard.{Heard};
 ghost use Rattle.ipx_router.specs.History.{Event, History};
+ghost use Rattle.ipx_edge.specs.Entered.{entered};
 ghost use Rattle.ipx_router.specs.Shares.{WithinRouteShares, WithinServiceShares};
-ghost use Rattle.ipx_internet.specs.Internet.{Internet, IsInternet, ports_of};
+ghost use Rattle.ipx_internet.specs.Internet.{Internet, IsInternet, ports_of, port_of};
 ghost use Rattle.ipx_internet.specs.Log.{Sending, reception_at, IsLog};
 ghost use Rattle.ipx_internet.specs.Queue.{history_of};
-ghost use Rattle.ipx_internet.specs.Run.{Step, Happens, Settles, IsStep, AreHistories, Waiting, Run, begun};
-ghost use Rattle.ipx_laws.specs.Edges.{edge_stepped, edge_run, words_of, HoldTheSame};
+ghost use Rattle.ipx_internet.specs.Run.{Step, Happens, Settles, IsStep, AreHistories, Waiting, Run, begun, run_of};
+ghost use Rattle.ipx_laws.specs.Edges.{edge_stepped, edge_run, words_of, AllComeAsTheyAre, HoldTheSame};
 
 /// With edges, too, what is listed of a run is a log. So a packet goes no further than without them, by what `ipx_internet::laws::courses`
 /// says of every log: a packet for one network is forwarded at most 16 times; a path of a propagated packet has at most eight forwards, and
 /// visits no network twice.
 ///
-/// And nobody receives, or sends on, a packet with 0 for the network of its source (`numbered`).
+/// And nobody receives, or sends on, a packet with 0 for the network of its source (`numbered`). Where edges let in all that comes as it is,
+/// everything is as it would be without them (`same`); what an edge holds is gone (`held`).
 pub fn runs()
     ensures listed { (net : Internet) (most_routes most_services : ℕ) (histories : List History) (steps : List Step)
         → IsInternet net → AreHistories net histories → AllByRecursion (IsStep net) steps
@@ -26,6 +28,11 @@ pub fn runs()
         → IsInternet net → AreHistories net histories → AllByRecursion (IsStep net) steps
         → let log = (edge_run net most_routes most_services (begun histories) steps).log in
         place < length log → packet_of (reception_at log place).bytes ≡ Ok p → p.header.source.network.0 ≢ local_network }
+    ensures same { (net : Internet) (most_routes most_services : ℕ) (run : Run) (steps : List Step) → AllComeAsTheyAre net most_routes most_services run steps
+        → edge_run net most_routes most_services run steps ≡ run_of net most_routes most_services run steps }
+    ensures held { (net : Internet) (most_routes most_services : ℕ) (run : Run) (w : Waiting) (waiting : List Waiting)
+        → run.waiting ≡ w ∷ waiting → entered (port_of net w.delivery.to) w.delivery.bytes ≡ None
+        → edge_stepped net most_routes most_services run Settles ≡ record run { waiting = waiting } }
 {
     ipx_wire::laws::readings();
     ipx_wire::laws::service_readings();

@@ -3,6 +3,7 @@ use Rattle.ipx_internet.proofs.packets.ForwardsDiffer.{Routing}
 use Rattle.ipx_internet.proofs.packets.SentOnOrReply.{Layouts}
 use Rattle.ipx_internet.proofs.trees.RunIsALog.{is_log}
 use Rattle.ipx_laws.specs.Edges.{edge_run}
+use Rattle.ipx_laws.proofs.edges.AsWithoutEdges.{gone, same_run}
 use Rattle.ipx_laws.proofs.edges.EdgesKeepRuns.{Edge, runs_well}
 use Rattle.ipx_laws.proofs.laws.edges.runs.Goals as goal
 
@@ -55,3 +56,9 @@ returns-clause-listed c net most_routes most_services histories steps is are all
 pub returns-clause-numbered : goal.returns-clause-numbered
 returns-clause-numbered c net most_routes most_services histories steps place p is are all within read =
     ((runs_well net (layouts c) (routing c) (edge c) is most_routes most_services histories steps are all).named place within).named p read
+
+pub returns-clause-same : goal.returns-clause-same
+returns-clause-same c = same_run
+
+pub returns-clause-held : goal.returns-clause-held
+returns-clause-held c = gone
