@@ -16,6 +16,9 @@ OUT = re.compile(rb"^out (\d+) (\w+) (\w+)$", re.M)
 # After a packet of one kind was lost on the way from a port to another, so many beats no other is: of two broadcasts in a row one arrives.
 APART = 62
 
+# More than this flies in no internet of a study: where packets overtake each other, news may multiply.
+MOST_FLYING = 200_000
+
 # What wires do: the most beats that a packet takes, how many of a hundred are lost, and repeated; and how many hundredths of a second the
 # fastest clock has in a beat, where the slowest has a hundred.
 Wires = collections.namedtuple("Wires", "delay lost repeated fastest")
@@ -102,9 +105,13 @@ class Wired:
 
     def pass_beat(self):
         """Each router's seconds, and all that arrives, in any order."""
+        if sum(map(len, self.flies.values())) > MOST_FLYING:
+            raise Broken("too much is on the way")
         happens = self.flies[self.beat]
         happens += [(it, "second 1") for it in range(len(self.routers)) for _ in range(self.seconds(it))]
         while happens:
+            if len(happens) > MOST_FLYING:
+                raise Broken("too much is on the way")
             self.happens(*happens.pop(self.chance.below(len(happens))))
         del self.flies[self.beat]
         self.beat += 1
