@@ -102,6 +102,12 @@ pub fn real_on_wires()
         → most_beats_gone delay ≤ length beats → router < length net
         → AllByRecursion (IsRealApart net (ups net histories) foreign router)
         (routes_of net most_routes (beats_of net most_routes most_services delay (still histories) beats).histories router) }
+    ensures apart_whatever_flies { (net : Internet) (most_routes most_services delay : ℕ) (foreign : List Network) (histories : List History) (deliveries : List Delivery)
+        (beats : List (List WireStep)) (router : ℕ)
+        → IsInternet net → AreHistories net histories → AllByRecursion (IsDelivery net) deliveries → AreBeats net beats → EachWireStep LeavesPorts beats
+        → EachWireStep (SaysOnly (TellsOnlyOf foreign)) beats → most_beats_flying delay + most_beats_gone delay ≤ length beats → router < length net
+        → AllByRecursion (IsRealApart net (ups net histories) foreign router)
+        (routes_of net most_routes (beats_of net most_routes most_services delay (flying histories deliveries) beats).histories router) }
     ensures own_ports { (net : Internet) (most_routes most_services delay : ℕ) (histories : List History) (beats : List (List WireStep)) (router : ℕ)
         → IsInternet net → AreHistories net histories → AreBeats net beats → EachWireStep LeavesPorts beats → EachWireStep (SaysOnly TellsNoRoute) beats
         → router < length net
@@ -124,8 +130,8 @@ pub fn real_on_wires()
 /// Every table becomes right and stays so, whatever was in it before, hop by hop: a router has the route of its least way to a network of h hops
 /// after 2,880 beats and 15 delays, in which every route becomes real, and for each hop a window of beats and one delay more (`tables`); where
 /// there is no way it has none, after the first of these. So it is at each moment from then on, whatever flies then (`meanwhile`). If hosts
-/// tell of routes to networks of a list, and nothing flies at first, that is so of each network off the list as beats end (`apart`). If anything
-/// flies at first, forged packets too, it takes 18 delays and one beat more (`whatever_flies`).
+/// tell of routes to networks of a list, that is so of each network off the list as beats end (`apart`). If anything flies at first, forged
+/// packets too, it takes 18 delays and one beat more (`whatever_flies`, `apart_whatever_flies`).
 ///
 /// It asks what `right` asks of an internet and of hosts. And routers are heard in time (`AreHeardInTime`): what a router advertises on a port all
 /// the time of a window of beats in a row, each router beside it hears in them, by ports that are up; packets may be lost, late, doubled and
@@ -154,6 +160,13 @@ pub fn right_on_wires()
         → AreHeardInTime net most_routes most_services delay window (ups net histories) (still histories) beats
         → router < length net → beats_right delay window (least_route net (ups net histories) router network) ≤ length beats
         → IsRight net most_routes (beats_of net most_routes most_services delay (still histories) beats).histories (ups net histories) router network }
+    ensures apart_whatever_flies { (net : Internet) (most_routes most_services delay window : ℕ) (foreign : List Network) (histories : List History)
+        (deliveries : List Delivery) (beats : List (List WireStep)) (router : ℕ) (network : Network)
+        → IsSettingBeside net most_routes foreign histories network → AllByRecursion (IsDelivery net) deliveries → AreBeats net beats → EachWireStep LeavesPorts beats
+        → EachWireStep (SaysOnly (TellsOnlyOf foreign)) beats → AreQuick net window beats
+        → AreHeardInTime net most_routes most_services delay window (ups net histories) (flying histories deliveries) beats → router < length net
+        → most_beats_flying delay + beats_right delay window (least_route net (ups net histories) router network) ≤ length beats
+        → IsRight net most_routes (beats_of net most_routes most_services delay (flying histories deliveries) beats).histories (ups net histories) router network }
     ensures whatever_flies { (net : Internet) (most_routes most_services delay window : ℕ) (histories : List History) (deliveries : List Delivery)
         (beats : List (List WireStep)) (router : ℕ) (network : Network)
         → IsSetting net most_routes histories network → AllByRecursion (IsDelivery net) deliveries → AreBeats net beats → EachWireStep LeavesPorts beats

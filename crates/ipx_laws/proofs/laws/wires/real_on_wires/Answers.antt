@@ -47,3 +47,8 @@ pub returns-clause-whatever_flies : goal.returns-clause-whatever_flies
 returns-clause-whatever_flies c net most_routes most_services delay histories deliveries beats router is are fly all leave says long within =
     every_real delay (most_beats_flying delay) net (layouts c) is most_routes most_services (ups net histories) histories are (λ other. refl) deliveries fly
     (inr (omega arith)) beats all leave says router within long
+
+pub returns-clause-apart_whatever_flies : goal.returns-clause-apart_whatever_flies
+returns-clause-apart_whatever_flies c net most_routes most_services delay foreign histories deliveries beats router is are fly all leave says long within =
+    all_real delay (most_beats_flying delay) net (layouts c) is most_routes most_services (ups net histories) foreign histories are (λ other. refl) deliveries fly
+    (inr (omega arith)) beats all leave says router within long

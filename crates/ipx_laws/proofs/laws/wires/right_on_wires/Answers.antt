@@ -44,13 +44,17 @@ returns-clause-tables c net most_routes most_services delay window histories bea
     returns-clause-apart c net most_routes most_services delay window [] histories beats router network (setting_beside net most_routes histories network setting) all leave
     (none_beside beats says) quick hear inside enough
 
+pub returns-clause-apart_whatever_flies : goal.returns-clause-apart_whatever_flies
+returns-clause-apart_whatever_flies c net most_routes most_services delay window foreign histories deliveries beats router network
+    (is, differ, suffice, cheap, room, are, unlisted) fly all leave says quick hear inside enough =
+    right_at delay (most_beats_flying delay)
+    (given_of net (layouts c) is differ cheap (ups net histories) (ups_within net histories) most_routes most_services foreign room network suffice unlisted)
+    window histories are (λ other. refl) deliveries fly (inr (omega arith)) beats all leave says quick hear router inside beats [] (sym (append-nil beats)) enough
+
 pub returns-clause-whatever_flies : goal.returns-clause-whatever_flies
 returns-clause-whatever_flies c net most_routes most_services delay window histories deliveries beats router network setting fly all leave says quick hear inside enough =
-    let (is, differ, suffice, cheap, room, are, unlisted) = setting_beside net most_routes histories network setting in
-    right_at delay (most_beats_flying delay)
-    (given_of net (layouts c) is differ cheap (ups net histories) (ups_within net histories) most_routes most_services [] room network suffice unlisted)
-    window histories are (λ other. refl) deliveries fly (inr (omega arith)) beats all leave (none_beside beats says) quick hear router inside beats []
-    (sym (append-nil beats)) enough
+    returns-clause-apart_whatever_flies c net most_routes most_services delay window [] histories deliveries beats router network
+    (setting_beside net most_routes histories network setting) fly all leave (none_beside beats says) quick hear inside enough
 
 pub returns-clause-meanwhile : goal.returns-clause-meanwhile
 returns-clause-meanwhile c net most_routes most_services delay window histories beats steps more router network setting all leave says quick hear inside enough =
