@@ -161,20 +161,45 @@ static void end_service(gateway *it, const ipxr_service_record *service)
     hear_services(it, first_of(it, &it->ports[service->port]), service->neighbour, &end, 1);
 }
 
+/* Whether a line of the network by which it came says a route, or a service: two networks may have lines that say the same. */
+static bool is_lines_route(gateway *it, const ipxr_route_record *route)
+{
+    return says_route(first_of(it, &it->ports[route->port])->set, route->network, route->node);
+}
+
+static bool is_lines_service(gateway *it, const ipxr_service_record *service)
+{
+    return statics_have(first_of(it, &it->ports[service->port])->set, service);
+}
+
+static bool names_route(const network_setting *set, uint32_t to)
+{
+    size_t k = 0;
+    while (k < set->static_route_count && set->static_routes[k].route.network != to)
+        k++;
+    return k < set->static_route_count;
+}
+
+static bool names_service(const network_setting *set, const ipxr_service_record *service)
+{
+    size_t k = 0;
+    while (k < set->static_service_count && !is_same_service(&set->static_services[k].service, service->type, service->name))
+        k++;
+    return k < set->static_service_count;
+}
+
 /* What others told of a line's network, before the line's network was up, ends where the line has room. */
 static void end_routes(gateway *it, const network *on)
 {
     ipxr_route_record route, ended[MOST_STATICS];
     size_t here = 0, found = 0;
     for (size_t k = 0; on->set->static_route_count > 0 && ipxr_route(&it->router, k, &route) == 0; k++) {
-        bool is_here = route.port == on->set->port;
-        here += is_here;
-        for (size_t line = 0; found < MOST_STATICS && line < on->set->static_route_count; line++)
-            if (on->set->static_routes[line].route.network == route.network && !(is_here && same_node(on->set->static_routes[line].via, route.node)))
-                ended[found++] = route;
+        here += route.port == on->set->port;
+        if (names_route(on->set, route.network) && !is_lines_route(it, &route))
+            ended[found++] = route;
     }
     for (size_t k = 0; k < found; k++)
-        if (ended[k].port == on->set->port || here < on->set->routes)
+        if (ended[k].port == on->set->port || here++ < on->set->routes)
             end_route(it, &ended[k]);
 }
 
@@ -183,15 +208,12 @@ static void end_services(gateway *it, const network *on)
     ipxr_service_record service, ended[MOST_STATICS];
     size_t here = 0, found = 0;
     for (size_t k = 0; on->set->static_service_count > 0 && ipxr_service(&it->router, k, &service) == 0; k++) {
-        bool is_here = service.port == on->set->port;
-        here += is_here;
-        for (size_t line = 0; found < MOST_STATICS && line < on->set->static_service_count; line++)
-            if (is_same_service(&on->set->static_services[line].service, service.type, service.name) &&
-                !(is_here && same_node(on->set->static_services[line].via, service.neighbour)))
-                ended[found++] = service;
+        here += service.port == on->set->port;
+        if (names_service(on->set, &service) && !is_lines_service(it, &service))
+            ended[found++] = service;
     }
     for (size_t k = 0; k < found; k++)
-        if (ended[k].port == on->set->port || here < on->set->services)
+        if (ended[k].port == on->set->port || here++ < on->set->services)
             end_service(it, &ended[k]);
 }
 

@@ -1,10 +1,11 @@
 """Routes and services by way of nodes that say nothing themselves, as lines of the configuration say them."""
 import socket
+import time
 
 from changed import Changed
 from edge import nearest_for, routes_told, services_of, unnumbered
 from frames import Udp, frame
-from lab import EVERYONE, GAME, Client, Clock, Gateway, address, free_ports, rip_response, sap_response, tunnels, until
+from lab import EVERYONE, GAME, Client, Clock, Gateway, address, free_ports, is_routers, rip_response, sap_response, tunnels, until
 from systems import SYSTEM
 from trying import begin, has_linux, tried
 
@@ -110,6 +111,20 @@ def they_come_before_others():
             until(lambda: f"network {CABLE:08X} down" in gate.report(), "the link's end")
 
 
+def lines_that_say_the_same():
+    """Where lines of two networks lead to the same, the nearer one holds, and the router says so once: nothing changes from second to second."""
+    wire, other = Udp(), 0x30
+    two = f"network {other:X} 1 1490 qemu-udp 0 9 raw\n" + ROUTE.replace("2 3", "4 5") + SERVICE.replace("451 3", "451 5")
+    with Gateway(with_lines(wire, ROUTE + SERVICE) + two) as gate:
+        far = Client(gate.ports[NETWORK])
+        until(lambda: "routes: 1\n" in gate.report() and "services: 1\n" in gate.report(), "both")
+        time.sleep(2)
+        while far.hear(is_routers, 0) is not None:
+            pass
+        assert far.hear(is_routers, 5) is None, "the router says something anew"
+        assert "\n  000000A1 hops 2 ticks 3 by 00001B0204AA on 00000020" in gate.report()
+
+
 def they_end():
     """A reload without a line ends what it said at once, and a line more is heard at once, also by a new router."""
     wire = Udp()
@@ -128,7 +143,7 @@ def they_end():
 
 
 def main():
-    counts = tried(are_learned, it_answers_nobody, they_come_again, nobody_takes_their_places, they_come_before_others)
+    counts = tried(are_learned, it_answers_nobody, they_come_again, nobody_takes_their_places, they_come_before_others, lines_that_say_the_same)
     if has_linux("lines that change, and that stay", "the status socket and the clock that a test sets are Linux' own"):
         counts.run(they_stay)
         counts.run(they_end)
