@@ -1,11 +1,14 @@
+pub mod crossings
 pub mod edges
 pub mod examples
 pub mod gains
 pub mod lists
 pub mod losses
+pub mod order
 pub mod packets
 pub mod records
 pub mod services
+pub mod outsiders
 pub mod tables
 pub mod ticks
 pub mod upkeep

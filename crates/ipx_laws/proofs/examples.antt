@@ -4,6 +4,7 @@ pub mod Arrivals
 pub mod Asking
 pub mod Changes
 pub mod Crowded
+pub mod Diamond
 pub mod Edges
 pub mod Horizons
 pub mod Hosts
@@ -13,11 +14,13 @@ pub mod Losing
 pub mod Meanwhile
 pub mod Needed
 pub mod Neighbours
+pub mod Orders
 pub mod Premises
 pub mod Rights
 pub mod Servers
 pub mod Spreading
 pub mod Staying
+pub mod Outsiders
 pub mod Telling
 pub mod Ticks
 pub mod Timely

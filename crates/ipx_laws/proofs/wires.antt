@@ -10,11 +10,15 @@ pub mod HeardInBeats
 pub mod HomeOrOnward
 pub mod KnownOnWires
 pub mod LockStep
+pub mod PartsInLockStep
 pub mod PartsOfBeats
 pub mod RealOnWires
+pub mod RegularInLockStep
 pub mod RightOnWires
 pub mod ServedOnWires
 pub mod ServiceHeardOnWires
+pub mod ServicesInLockStep
 pub mod ServicesOnWires
 pub mod SpokenOnWires
+pub mod StateOnWires
 pub mod WordsOnWires

@@ -1,5 +1,5 @@
 -- Routers that are heard in time over wires, and how soon tables are right then.
-use Rattle.std.specs.Prelude.{◌≡◌, ◌≢◌, ℕ, suc, ◌+◌, ◌*◌, ◌<◌, ◌≤◌, true, List, [], ◌∷◌, ◌++◌, length, map, Option, None, Some, slice_get, ◌⊎◌}
+use Rattle.std.specs.Prelude.{◌≡◌, ◌≢◌, ℕ, suc, ◌+◌, ◌*◌, ◌<◌, ◌≤◌, true, List, [], ◌∷◌, ◌++◌, length, map, Option, None, Some, slice_get}
 use Rattle.ipx_table.specs.Alive.{lifetime}
 use Rattle.ipx_wire.specs.Crossed.{is_among}
 use Rattle.ipx_wire.specs.declared.network.Network.{Network}
@@ -17,7 +17,7 @@ use Rattle.ipx_internet.specs.Ticks.{seconds_of, ticked}
 use Rattle.ipx_laws.specs.Least.{Way}
 use Rattle.ipx_laws.specs.Tables.{routes_of}
 use Rattle.ipx_laws.specs.Ups.{ups}
-use Rattle.ipx_laws.specs.Wires.{Flight, Wires, WireStep, Occurs, Lands, as_step, still, beaten, wired, beats_of, Along, EachBeat, most_beats_gone}
+use Rattle.ipx_laws.specs.Wires.{Flight, Wires, WireStep, Occurs, Lands, as_step, still, beats_of, Along, EachBeat, InBeats, most_beats_gone}
 
 -- a response of routing information from that node, an entry of which names that network
 abbrev pub Names : Node → Network → Heard → Type 0
@@ -33,17 +33,6 @@ module _ (net : Internet) (most_routes most_services delay : ℕ) where
       (f : Flight) × (slice_get w.flights which ≡ Some f) × (f.delivery.to ≡ to) × (w.beats ≤ f.sent + delay)
       × (m : Heard) × (heard_after (ports_of net to.router) (history_of w.histories to.router) to.port f.delivery.bytes ≡ Some m) × Names node network m
 
-  -- in one of some steps, or what comes after them is so
-  abbrev pub HeardInSteps : Place → Node → Network → (Wires → Type 0) → Wires → List WireStep → Type 0
-  HeardInSteps to node network Later w [] = Later w
-  HeardInSteps to node network Later w (step ∷ steps) =
-      IsHeardFrom to node network w step ⊎ HeardInSteps to node network Later (wired net most_routes most_services delay w step) steps
-
-  -- in one of some beats
-  abbrev pub HeardInBeats : Place → Node → Network → Wires → List (List WireStep) → Type 0
-  HeardInBeats to node network w [] = ⊥
-  HeardInBeats to node network w (steps ∷ beats) = HeardInSteps to node network (λ next. HeardInBeats to node network (beaten next) beats) w steps
-
   -- what a router advertises on a port names that network
   abbrev pub Advertises : Place → Network → Wires → Type 0
   Advertises from network w =
@@ -58,7 +47,7 @@ module _ (net : Internet) (most_routes most_services delay : ℕ) where
       → beats ≡ before ++ within ++ after → length within ≡ window
       → EachBeat net most_routes most_services delay (Along net most_routes most_services delay (Advertises from network))
       (beats_of net most_routes most_services delay w before) within
-      → HeardInBeats to (port_of net from).node network (beats_of net most_routes most_services delay w before) within
+      → InBeats net most_routes most_services delay (IsHeardFrom to (port_of net from).node network) (beats_of net most_routes most_services delay w before) within
 
 -- the seconds that a router has in beats
 abbrev pub seconds_in : ℕ → List (List WireStep) → ℕ

@@ -1,3 +1,7 @@
+-- AnyOrder
+pub mod AnyOrder
+-- Crossings
+pub mod Crossings
 -- Departure
 pub mod Departure
 -- Ups, Gone
@@ -37,3 +41,8 @@ pub mod WireAnnounces
 pub mod InTime
 -- WireRegular
 pub mod WireRegular
+-- Outsiders, OutsidersInTime
+pub mod Outsiders
+pub mod OutsidersInTime
+-- inside
+pub mod inside

@@ -1,5 +1,5 @@
 -- Over wires: hosts and routers that are heard again and again while hosts announce a service.
-use Rattle.std.specs.Prelude.{◌≡◌, ◌≢◌, ℕ, ◌+◌, ◌-◌, ◌*◌, ◌≤◌, true, List, [], ◌∷◌, ◌++◌, length, Some, slice_get, ◌⊎◌}
+use Rattle.std.specs.Prelude.{◌≡◌, ◌≢◌, ℕ, ◌+◌, ◌-◌, ◌*◌, ◌≤◌, true, List, ◌++◌, length, Some, slice_get}
 use Rattle.ipx_wire.specs.declared.node.Node.{Node}
 use Rattle.ipx_wire.specs.declared.sap.Sap.TheVariants.{Query, Response}
 use Rattle.ipx_wire.specs.declared.sap_entries.SapEntry.{SapEntry}
@@ -16,7 +16,7 @@ use Rattle.ipx_laws.specs.Meanwhile.{SaysOnly}
 use Rattle.ipx_laws.specs.Regular.{Announces, IsListedName}
 use Rattle.ipx_laws.specs.Servers.{Announcer, Server, IsOf, SaysNoFalse, NamesOnly}
 use Rattle.ipx_laws.specs.Tables.{services_of}
-use Rattle.ipx_laws.specs.Wires.{Flight, Wires, WireStep, Occurs, Lands, beaten, wired, beats_of, Along, EachBeat, EachWireStep, most_beats_gone}
+use Rattle.ipx_laws.specs.Wires.{Flight, Wires, WireStep, Occurs, Lands, beats_of, Along, EachBeat, InBeats, EachWireStep, most_beats_gone}
 
 -- a response from that node, an entry of which names the service
 abbrev pub NamesService : Server → Node → Heard → Type 0
@@ -26,16 +26,6 @@ NamesService server node (HeardSap source (Response nearest entries)) =
     (source.node ≡ node) × (which : ℕ) × (e : SapEntry) × (slice_get entries which ≡ Some e) × (name : List ℕ) × (e.name ≡ Some name) × IsOf server (service_of e name)
 
 module _ (net : Internet) (most_routes most_services delay : ℕ) where
-  -- something is so of one of some steps, or what comes after them is so
-  abbrev pub InSteps : (Wires → WireStep → Type 0) → (Wires → Type 0) → Wires → List WireStep → Type 0
-  InSteps Is Later w [] = Later w
-  InSteps Is Later w (step ∷ steps) = Is w step ⊎ InSteps Is Later (wired net most_routes most_services delay w step) steps
-
-  -- of one of the steps of some beats
-  abbrev pub InBeats : (Wires → WireStep → Type 0) → Wires → List (List WireStep) → Type 0
-  InBeats Is w [] = ⊥
-  InBeats Is w (steps ∷ beats) = InSteps Is (λ next. InBeats Is (beaten next) beats) w steps
-
   module _ (server : Server) where
     -- in a step a packet comes from outside to a port, and is heard there as that host's that announces the service
     abbrev pub IsHostHeard : Place → Announcer → Wires → WireStep → Type 0
@@ -62,7 +52,7 @@ module _ (net : Internet) (most_routes most_services delay : ℕ) where
     AreHostsInTime window up w beats =
         (which : ℕ) (host : Announcer) (to : Place) → slice_get server.announcers which ≡ Some host → is_up (up to.router) to.port ≡ true
         → network_of net to ≡ host.network → (before within after : List (List WireStep)) → beats ≡ before ++ within ++ after → length within ≡ window
-        → InBeats (IsHostHeard to host) (beats_of net most_routes most_services delay w before) within
+        → InBeats net most_routes most_services delay (IsHostHeard to host) (beats_of net most_routes most_services delay w before) within
 
     -- where a router advertises the service all the time, for that many beats in a row, each router beside it hears so in them, by ports that
     -- are up
@@ -73,7 +63,7 @@ module _ (net : Internet) (most_routes most_services delay : ℕ) where
         → beats ≡ before ++ within ++ after → length within ≡ window
         → EachBeat net most_routes most_services delay (Along net most_routes most_services delay (AdvertisesService from))
         (beats_of net most_routes most_services delay w before) within
-        → InBeats (IsRouterHeard to (port_of net from).node) (beats_of net most_routes most_services delay w before) within
+        → InBeats net most_routes most_services delay (IsRouterHeard to (port_of net from).node) (beats_of net most_routes most_services delay w before) within
 
     -- in those beats hosts say nothing false of the service, name listed ones alone, and are heard in time
     abbrev pub AreRegularBeats : ℕ → List (ℕ × List ℕ) → (ℕ → List ℕ) → Wires → List (List WireStep) → Type 0

@@ -1,5 +1,5 @@
 -- Wires of real networks: what is sent is lost, arrives late, twice, or in another order, and clocks drift.
-use Rattle.std.specs.Prelude.{ℕ, suc, ◌+◌, ◌-◌, ◌*◌, ◌<◌, ◌≤◌, nat_le, if◌then◌else◌, List, [], ◌∷◌, ◌++◌, length, map, Some, None, slice_get}
+use Rattle.std.specs.Prelude.{ℕ, suc, ◌+◌, ◌-◌, ◌*◌, ◌<◌, ◌≤◌, ◌⊎◌, nat_le, if◌then◌else◌, List, [], ◌∷◌, ◌++◌, length, map, Some, None, slice_get}
 use Rattle.std.specs.List.{AllByRecursion, flat_map}
 use Rattle.ipx_wire.specs.declared.network.Network.{Network}
 use Rattle.ipx_table.specs.Alive.{lifetime}
@@ -85,6 +85,16 @@ module _ (net : Internet) (most_routes most_services delay : ℕ) where
   abbrev pub EachBeat : (Wires → List WireStep → Type 0) → Wires → List (List WireStep) → Type 0
   EachBeat Is w [] = Unit
   EachBeat Is w (steps ∷ beats) = Is w steps × EachBeat Is (beaten (wires_of w steps)) beats
+
+  -- something is so of one of some steps, or what comes after them is so
+  abbrev pub InSteps : (Wires → WireStep → Type 0) → (Wires → Type 0) → Wires → List WireStep → Type 0
+  InSteps Is Later w [] = Later w
+  InSteps Is Later w (step ∷ steps) = Is w step ⊎ InSteps Is Later (wired w step) steps
+
+  -- of one of the steps of some beats
+  abbrev pub InBeats : (Wires → WireStep → Type 0) → Wires → List (List WireStep) → Type 0
+  InBeats Is w [] = ⊥
+  InBeats Is w (steps ∷ beats) = InSteps Is (λ next. InBeats Is (beaten next) beats) w steps
 
   -- in each of them no router has a port up on that network, before the first step and after each
   abbrev pub KeepGone : Network → Wires → List (List WireStep) → Type 0

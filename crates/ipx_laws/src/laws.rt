@@ -5,7 +5,11 @@
 mod apart;
 pub mod changes;
 mod costs;
+mod crossings;
 pub mod edges;
+mod given;
+mod order;
+mod outsiders;
 pub mod services;
 mod wire_services;
 mod wires;
@@ -38,6 +42,12 @@ ghost use Rattle.ipx_laws.specs.Ups.{ups};
 
 pub use crate::laws::apart::{arrives_apart, real_apart, right_apart};
 pub use crate::laws::costs::{tables_stay, upkeep};
+pub use crate::laws::crossings::each_path_once;
+pub use crate::laws::order::any_order_ends;
+pub use crate::laws::outsiders::{
+    real_with_outsiders, real_with_outsiders_on_wires, right_with_outsiders,
+    right_with_outsiders_on_wires,
+};
 pub use crate::laws::wire_services::{
     beside_on_wires, everywhere_on_wires, nearest_on_wires, served_on_wires,
 };
@@ -59,9 +69,7 @@ pub fn horizon()
         ++ map (λ w. w.delivery) (run_of net most_routes most_services (begun histories) steps).waiting
         ≡ flat_map (deliveries_from net) (departures net most_routes most_services (begun histories) steps) }
 {
-    ipx_router::laws::relays();
-    ipx_router::laws::tables();
-    ipx_router::laws::packets();
+    crate::laws::given::routing();
     ipx_router::laws::no_route_goes_back();
 }
 
@@ -107,10 +115,7 @@ pub fn gone_meanwhile()
         → AllByRecursion (λ s. (s.service.kind, s.service.name) ≢ key)
         (services_of net most_services (ticked net most_routes most_services run (first ∷ ticks)).histories router) }
 {
-    ipx_wire::laws::readings();
-    ipx_wire::laws::service_readings();
-    ipx_wire::laws::reread();
-    ipx_router::laws::packets();
+    crate::laws::given::layouts();
     crate::laws::wires::gone_on_wires();
 }
 
@@ -128,10 +133,7 @@ pub fn announced()
         → AllByRecursion (λ s. IsAnnounced net most_routes most_services (run_of net most_routes most_services run first) ticks s.service)
         (services_of net most_services (ticked net most_routes most_services run (first ∷ ticks)).histories router) }
 {
-    ipx_wire::laws::readings();
-    ipx_wire::laws::service_readings();
-    ipx_wire::laws::reread();
-    ipx_router::laws::packets();
+    crate::laws::given::layouts();
     crate::laws::wires::announced_on_wires();
 }
 

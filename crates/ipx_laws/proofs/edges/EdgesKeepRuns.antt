@@ -14,8 +14,7 @@ use Rattle.ipx_router.specs.Why.{is_near, is_for_rip, is_for_sap}
 use Rattle.ipx_router.proofs.bytes.ReadInOneWay.{one_read}
 use Rattle.ipx_router.proofs.port_values.PortOfEachNumber.{port-all}
 use Rattle.ipx_edge.specs.Entered.{is_for_neighbours, is_held, entered}
-use Rattle.ipx_edge.specs.Laws.{IsDirect}
-use Rattle.ipx_edge.specs.Numbered.{is_own_service, services_told, numbered}
+use Rattle.ipx_edge.specs.Numbered.{services_told, numbered}
 use Rattle.ipx_internet.specs.Different.{AreDifferent}
 use Rattle.ipx_internet.specs.Internet.{Internet, Place, IsInternet, IsPlace, ports_of, port_of}
 use Rattle.ipx_internet.specs.Log.{Sending, Reception, reception_at}
@@ -26,19 +25,9 @@ use Rattle.ipx_internet.proofs.places.OneReceiverOfANode.{ports_at}
 use Rattle.ipx_internet.proofs.trees.LogStays.{same_reception}
 use Rattle.ipx_internet.proofs.trees.NoTwoNameTheSame.{Name, named, names, names_waiting}
 use Rattle.ipx_internet.proofs.trees.RunIsALog.{IsWaiting, Good, step_well, begun_well}
+use Rattle.ipx_laws.specs.inside.EdgeLaws.{Edge}
 use Rattle.ipx_laws.specs.Edges.{edge_stepped, edge_run, words_of}
 use Rattle.ipx_laws.proofs.edges.NumberedAreBytes.{numbered_are}
-
--- the laws of edges
-pub record Edge : Type 0 where
-  pub names : (port : Port) (bytes : List ℕ) (q : Parts) → IsPort port → packet_of (numbered port bytes) ≡ Ok q → q.header.source.network.0 ≢ local_network
-  pub held : (port : Port) (bytes : List ℕ) (p : Parts) → packet_of bytes ≡ Ok p → is_for_neighbours port p.header ≡ true → p.header.control ≢ 0
-      → entered port bytes ≡ None
-  pub same : (port : Port) (bytes : List ℕ) (p : Parts) → packet_of bytes ≡ Ok p → (p.header.control ≡ 0) ⊎ (is_for_neighbours port p.header ≡ false)
-      → p.header.source.network.0 ≢ local_network → ((k : ℕ) → k < services_told port p → is_own_service k bytes ≡ false)
-      → entered port bytes ≡ Some bytes
-  pub direct : (ports : List Port) (up : List ℕ) (running : Bool) (number : ℕ) (bytes new : List ℕ) (message : Heard) → IsPort (port_at ports number)
-      → entered (port_at ports number) bytes ≡ Some new → heard ports up running number new ≡ Some message → IsDirect bytes
 
 -- ---- values that there are, or not
 

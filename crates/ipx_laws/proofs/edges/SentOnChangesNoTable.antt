@@ -16,9 +16,10 @@ use Rattle.ipx_internet.specs.Queue.{history_of, with_event}
 use Rattle.ipx_internet.specs.Run.{Settles, Waiting, Run, stepped}
 use Rattle.ipx_internet.proofs.packets.ForwardsDiffer.{Routing}
 use Rattle.ipx_internet.proofs.packets.SentOnOrReply.{Layouts}
+use Rattle.ipx_laws.specs.inside.EdgeLaws.{Edge}
 use Rattle.ipx_laws.specs.Edges.{edge_stepped, HoldTheSame}
 use Rattle.ipx_internet.proofs.trees.RunIsALog.{router_there}
-use Rattle.ipx_laws.proofs.edges.EdgesKeepRuns.{Edge, Well, carried_on, unheard_in}
+use Rattle.ipx_laws.proofs.edges.EdgesKeepRuns.{Well, carried_on, unheard_in}
 
 -- ---- one router
 

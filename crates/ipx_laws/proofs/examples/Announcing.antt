@@ -1,6 +1,6 @@
 -- The host of `Hosts` on 10h announces its file server in each of as many ticks as one likes: so what the laws of services ask for is met by
--- 3,000 ticks as by one, and after these the second router has the server, two hops away.
-use Rattle.std.proofs.Common.{◌≡◌, refl, sym, ap, ◌∙◌, subst, ℕ, zero, suc, ◌<◌, ◌≤◌, Bool, true, false, List, [], ◌∷◌, ◌++◌, length, replicate, Some, inl, inr, arith, append_assoc, true≢false}
+-- 3,000 ticks as by one, and by as many beats over wires, and after these the second router has the server, two hops away.
+use Rattle.std.proofs.Common.{◌≡◌, refl, sym, ap, ◌∙◌, subst, ℕ, zero, suc, ◌<◌, ◌≤◌, Bool, true, false, List, [], ◌∷◌, ◌++◌, length, map, replicate, Some, inl, inr, arith, append_assoc, append-nil, true≢false}
 use Rattle.std.specs.List.{AllByRecursion}
 use Rattle.std.proofs.lemmas.Bool.{cases_Bool}
 use Rattle.ipx_wire.specs.Address.{address_bytes, address_at}
@@ -16,7 +16,6 @@ use Rattle.ipx_wire.specs.WriteServices.{service_bytes, entry_of}
 use Rattle.ipx_wire.specs.declared.network.Network.{Network}
 use Rattle.ipx_wire.specs.declared.sap.Sap.TheVariants.{Response}
 use Rattle.ipx_router.specs.Numbers.{period}
-use Rattle.ipx_router.specs.Facts.{services_held, offers}
 use Rattle.ipx_router.specs.Heard.{Heard, HeardSap, heard}
 use Rattle.ipx_router.specs.History.{History, Second, Packet, running}
 use Rattle.ipx_router.specs.Port.{is_up, own_services}
@@ -32,18 +31,22 @@ use Rattle.ipx_internet.proofs.examples.Waiting.{segment}
 use Rattle.ipx_internet.proofs.examples.Words.{network, node, port_on, at}
 use Rattle.ipx_internet.proofs.packets.SentOnOrReply.{Layouts}
 use Rattle.ipx_internet.proofs.ticks.TickCanBeHad.{sound_run, can_be_busy}
+use Rattle.ipx_laws.specs.InTime.{AreQuick}
 use Rattle.ipx_laws.specs.Meanwhile.{LeavesPorts, SaysOnly, EachTick}
 use Rattle.ipx_laws.specs.Regular.{IsListedName, IsServiceSetting, most_ticks_known, IsHeard, HeardInTicks, AreInTime}
 use Rattle.ipx_laws.specs.Servers.{Announcer, NamesOnly, at_hops, known_of, SaysNoFalse}
+use Rattle.ipx_laws.specs.Tables.{services_of}
 use Rattle.ipx_laws.specs.Ups.{ups}
+use Rattle.ipx_laws.specs.WireRegular.{AreRegularBeats, AreRoutersInTime, most_beats_known}
+use Rattle.ipx_laws.specs.Wires.{WireStep, still, beats_of, AreBeats, EachWireStep}
 use Rattle.ipx_laws.proofs.examples.Hosts.{server, said, start, names, bytes, says, names_it, the_host, one_voice, room}
 use Rattle.ipx_laws.proofs.examples.Neighbours.{second_fewest}
 use Rattle.ipx_laws.proofs.examples.Premises.{are}
 use Rattle.ipx_laws.proofs.examples.Rights.{made, differ}
-use Rattle.ipx_laws.proofs.services.HostTickAfterTick.{rested}
-use Rattle.ipx_laws.proofs.services.HostsApart.{hosts_apart}
-use Rattle.ipx_laws.proofs.services.KnownByFewestHops.{known_last}
 use Rattle.ipx_laws.proofs.ticks.AfterRest.{Kept, steps_keep}
+use Rattle.ipx_laws.proofs.wires.HeardInBeats.{hosts_apart}
+use Rattle.ipx_laws.proofs.wires.KnownOnWires.{known_last}
+use Rattle.ipx_laws.proofs.wires.ServicesInLockStep.{AtEnd, at_end}
 
 -- ---- one tick
 
@@ -196,17 +199,54 @@ module _ (laws : Layouts) where
         in_time = heard_in_time ticks busy ones;
       }
 
-  -- so the second router has it then
-  pub second_has : (n : ℕ) → most_ticks_known 1 2 ≤ n → (it : Announced n)
-      → known_of (server 0x10) (offers (services_held (ports_of segment 1) 8 (history_of (ticked segment 8 8 start it.ticks).histories 1)))
-      ≡ Some (at_hops (server 0x10) 2)
-  second_has n long it =
-      let rests = rested segment laws made 8 8 up (server 0x10) (IsListedName names) start [] are (λ k within. refl) refl tt tt tt tt in
-      let count = it.as_many in
-      known_last segment laws made 8 8 up (server 0x10) names
-      (hosts_apart segment 8 8 (server 0x10) up start it.ticks one_voice it.in_time (omega (arith, count, long))) differ (λ k. ports_up-within (ports_of segment k) (history_of start.histories k)) room (0, refl) 1
-      (λ which other listed. let one = ap (λ (h : Announcer). h.hops) (the_host which other listed) in omega (arith, one)) start rests 2 (omega arith) it.ticks (omega (arith, count, long))
-      (record { busy = it.busy; leave = it.leave; say = it.say; named = it.name; in_time = it.in_time }) 1 (omega arith) second_fewest
+  -- ---- over wires
 
-  pub enough : most_ticks_known 1 2 ≡ 3000
+  -- beats in which the same happens are as the laws over wires ask
+  pub record AnnouncedInBeats (n : ℕ) : Type 0 where
+    pub beats : List (List WireStep)
+    pub as_many : length beats ≡ n
+    pub all : AreBeats segment beats
+    pub leave : EachWireStep LeavesPorts beats
+    pub quick : AreQuick segment period beats
+    pub regular : AreRegularBeats segment 8 8 0 (server 0x10) period names up (still start.histories) beats
+    pub routers : AreRoutersInTime segment 8 8 0 (server 0x10) period up (still start.histories) beats
+
+  ended : (n : ℕ) (it : Announced n) → AtEnd segment laws made 8 8 start [] are (tt, tt, refl) tt it.ticks
+  ended n it = at_end segment laws made 8 8 start [] are (tt, tt, refl) tt it.ticks (it.busy, it.leave)
+
+  pub in_beats : (n : ℕ) → Announced n → AnnouncedInBeats n
+  in_beats n it =
+      let on = ended n it in
+      let suits = on.suits in
+      record {
+        beats = on.beats;
+        as_many = on.as_long ∙ it.as_many;
+        all = suits.all;
+        leave = suits.leave;
+        quick = suits.quick;
+        regular = suits.regular (server 0x10) names (it.say, it.name, it.in_time);
+        routers = suits.routers (server 0x10) differ;
+      }
+
+  -- so the second router has it then
+  pub second_has : (n : ℕ) → most_beats_known 0 period 1 2 ≤ n → (it : AnnouncedInBeats n)
+      → known_of (server 0x10) (services_of segment 8 (beats_of segment 8 8 0 (still start.histories) it.beats).histories 1) ≡ Some (at_hops (server 0x10) 2)
+  second_has n long it =
+      let count = it.as_many in
+      known_last 0 0 segment laws made 8 8 up (server 0x10) names
+      (hosts_apart segment 8 8 0 (server 0x10) period up (still start.histories) it.beats one_voice it.regular.2 (omega (arith, count, long)))
+      (λ k. ports_up-within (ports_of segment k) (history_of start.histories k)) room (0, refl) 1
+      (λ which other listed. let one = ap (λ (h : Announcer). h.hops) (the_host which other listed) in omega (arith, one)) period start.histories are (λ other. refl)
+      [] tt (inl refl) it.beats it.all it.leave it.regular.0 it.regular.1 it.quick it.regular.2 differ it.routers 2 (omega arith) it.beats []
+      (sym (append-nil it.beats)) (omega (arith, count, long)) 1 (omega arith) second_fewest
+
+  -- and so after the ticks
+  pub second_has_after_ticks : (n : ℕ) → most_ticks_known 1 2 ≤ n → (it : Announced n)
+      → known_of (server 0x10) (services_of segment 8 (ticked segment 8 8 start it.ticks).histories 1) ≡ Some (at_hops (server 0x10) 2)
+  unfolding in_beats
+  second_has_after_ticks n long it =
+      subst (λ (hs : List History). known_of (server 0x10) (services_of segment 8 hs 1) ≡ Some (at_hops (server 0x10) 2)) (ended n it).same
+      (second_has n (omega (arith, long)) (in_beats n it))
+
+  pub enough : map (λ f. f 1 2) (most_ticks_known ∷ most_beats_known 0 period ∷ []) ≡ 3000 ∷ 3000 ∷ []
   enough = refl

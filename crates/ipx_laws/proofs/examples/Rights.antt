@@ -92,7 +92,7 @@ differ a b at_a at_b off nets = by a.router a.port b.router b.port at_a at_b off
     by r p (suc zero) (suc (suc q)) one two off nets = absurd (omega (arith, two))
     by r p (suc (suc s)) q one two off nets = absurd (omega (arith, two))
 
-is_port : (n k : ℕ) → 0 < n → n < 0xFFFFFFFE → k < 256 → IsPort (port_on n k)
+pub is_port : (n k : ℕ) → 0 < n → n < 0xFFFFFFFE → k < 256 → IsPort (port_on n k)
 is_port n k some ordinary byte = record {
   longest = omega arith;
   cost = omega arith;

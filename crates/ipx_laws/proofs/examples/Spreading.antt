@@ -27,8 +27,8 @@ use Rattle.ipx_laws.specs.Meanwhile.{LeavesPorts}
 use Rattle.ipx_laws.specs.Servers.{Announcer, at_hops, known_of}
 use Rattle.ipx_laws.specs.Tables.{services_of}
 use Rattle.ipx_laws.specs.Ups.{ups}
-use Rattle.ipx_laws.specs.WireRegular.{InBeats, IsHostHeard, IsRouterHeard, AdvertisesService, AreHostsInTime, AreRoutersInTime, AreRegularBeats}
-use Rattle.ipx_laws.specs.Wires.{WireStep, Occurs, Lands, as_step, still, beats_of, Along, EachBeat, IsBeat, EachWireStep}
+use Rattle.ipx_laws.specs.WireRegular.{IsHostHeard, IsRouterHeard, AdvertisesService, AreHostsInTime, AreRoutersInTime, AreRegularBeats}
+use Rattle.ipx_laws.specs.Wires.{WireStep, Occurs, Lands, as_step, still, beats_of, Along, EachBeat, IsBeat, EachWireStep, InBeats}
 use Rattle.ipx_laws.proofs.examples.Announcing.{host, the_port}
 use Rattle.ipx_laws.proofs.examples.Hosts.{server, said, names, bytes, says, names_it, the_host}
 use Rattle.ipx_laws.proofs.examples.Timely.{one_window}

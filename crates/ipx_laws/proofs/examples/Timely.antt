@@ -17,12 +17,12 @@ use Rattle.ipx_internet.specs.Internet.{Place, ports_of, port_of, network_of}
 use Rattle.ipx_internet.specs.Ticks.{seconds_of}
 use Rattle.ipx_internet.proofs.examples.Waiting.{segment}
 use Rattle.ipx_internet.proofs.examples.Words.{network, at}
-use Rattle.ipx_laws.specs.InTime.{Advertises, HeardInBeats, AreHeardInTime, seconds_in, AreQuick}
+use Rattle.ipx_laws.specs.InTime.{Advertises, IsHeardFrom, AreHeardInTime, seconds_in, AreQuick}
 use Rattle.ipx_laws.specs.Meanwhile.{TellsNoRoute, LeavesPorts, SaysOnly}
 use Rattle.ipx_laws.specs.Least.{Way, least_route, way_of}
 use Rattle.ipx_laws.specs.Tables.{route_of}
 use Rattle.ipx_laws.specs.Ups.{ups}
-use Rattle.ipx_laws.specs.Wires.{WireStep, Occurs, Lands, as_step, still, beats_of, Along, EachBeat, IsBeat, EachWireStep}
+use Rattle.ipx_laws.specs.Wires.{WireStep, Occurs, Lands, as_step, still, beats_of, Along, EachBeat, IsBeat, EachWireStep, InBeats}
 use Rattle.ipx_laws.proofs.tables.LeastWays.{ups_within}
 
 abbrev history : History
@@ -85,7 +85,7 @@ quick router before (w ∷ v ∷ within) after there parts short =
 abbrev Heard : Place → Place → Network → List (List WireStep) → List (List WireStep) → Type 0
 Heard from to n before within =
     EachBeat segment 8 8 0 (Along segment 8 8 0 (Advertises segment 8 8 0 from n)) (beats_of segment 8 8 0 (still histories) before) within
-    → HeardInBeats segment 8 8 0 to (port_of segment from).node n (beats_of segment 8 8 0 (still histories) before) within
+    → InBeats segment 8 8 0 (IsHeardFrom segment 8 8 0 to (port_of segment from).node n) (beats_of segment 8 8 0 (still histories) before) within
 
 by_ports : (r p s q : ℕ) (n : Network) → p < length (ports_of segment r) → q < length (ports_of segment s) → r ≢ s
     → network_of segment (at r p) ≡ network_of segment (at s q) → Heard (at r p) (at s q) n [] (beat ∷ [])

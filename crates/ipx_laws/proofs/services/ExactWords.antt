@@ -3,6 +3,9 @@ use Rattle.std.proofs.Common.{◌≡◌, refl, sym, ap, ap₂, ◌∙◌, subst,
 use Rattle.std.specs.List.{AllByRecursion}
 use Rattle.std.specs.Ordering.{nat_cmp, ordering_then}
 use Rattle.std.proofs.lemmas.Bool.{cases_Bool, both_ways, lt-ltb}
+use Rattle.ipx_wire.specs.Name.{name_order}
+use Rattle.ipx_wire.specs.declared.service.Service.{Service}
+use Rattle.ipx_wire.proofs.NameOrder.{equal_is}
 use Rattle.ipx_table.specs.Accepted.{marked}
 use Rattle.ipx_table.specs.Alive.{alive}
 use Rattle.ipx_table.specs.Facts.{Fact}
@@ -10,9 +13,6 @@ use Rattle.ipx_table.specs.declared.held.Held.{Held}
 use Rattle.ipx_table.proofs.Living.{kept}
 use Rattle.ipx_table.proofs.Order.{is_equal}
 use Rattle.ipx_table.proofs.Standing.{rules_total}
-use Rattle.ipx_wire.specs.Name.{name_order}
-use Rattle.ipx_wire.specs.declared.service.Service.{Service}
-use Rattle.ipx_wire.proofs.NameOrder.{equal_is}
 use Rattle.ipx_router.specs.Changes.{Change, change_at, changes, differs, put_keys}
 use Rattle.ipx_router.specs.Facts.{service_facts, services_held, offers}
 use Rattle.ipx_router.specs.History.{History}
@@ -25,8 +25,7 @@ use Rattle.ipx_router.specs.declared.service_offer.ServiceOffer.{ServiceOffer}
 use Rattle.ipx_router.proofs.bounds.PacketsOfEachEvent.{service_total}
 use Rattle.ipx_router.proofs.lists.EachElement.{all_sorted}
 use Rattle.ipx_router.proofs.tables.HeldWasOffered.{all_in_order, all_offers}
-use Rattle.ipx_internet.specs.Internet.{Internet, ports_of}
-use Rattle.ipx_internet.specs.Queue.{history_of}
+use Rattle.ipx_internet.specs.Internet.{Internet}
 use Rattle.ipx_internet.proofs.lists.EachElement.{all_of, all_then, all-filter, all-map, all-flat_map}
 use Rattle.ipx_internet.proofs.lists.FoundInAList.{nothing, it_is, found}
 use Rattle.ipx_internet.proofs.packets.AdvertisedIsHeld.{unless}
@@ -34,7 +33,6 @@ use Rattle.ipx_internet.proofs.records.KeptOrOffered.{among_alive}
 use Rattle.ipx_laws.specs.Servers.{Server, IsOf, at_hops, known_of, IsFewest}
 use Rattle.ipx_laws.proofs.lists.SomeElement.{only_found}
 use Rattle.ipx_laws.proofs.records.KeysHaveRoom.{itself}
-use Rattle.ipx_laws.proofs.services.ServedOrSoonEnded.{services_of, AreExact}
 use Rattle.ipx_laws.proofs.tables.RoomForEachNetwork.{same_where_equal}
 
 -- ---- keys
@@ -207,25 +205,5 @@ module _ (net : Internet) (up : ℕ → List ℕ) (server : Server) (most_servic
   abbrev pub Words : ℕ → Service → Type 0
   Words router s = (nearer : IsNearer router) → IsOf server s → s ≡ at_hops server (suc nearer.hops)
 
-  -- each such router has it with its fewest hops
-  abbrev pub NearerRight : List History → Type 0
-  NearerRight histories =
-      (router : ℕ) → router < length net → (nearer : IsNearer router) → known_of server (services_of net most_services histories router) ≡ Some (at_hops server nearer.hops)
-
   pub few : (router : ℕ) (nearer : IsNearer router) → suc nearer.hops < unreachable
   few router nearer = grind arith
-
-  pub exact : AreExact net most_services Words NearerRight
-  exact = record {
-    told = λ histories right router within j.
-        all_given (λ (n : IsNearer router) s. IsOf server s → s ≡ at_hops server (suc n.hops)) (told_services (services_of net most_services histories router) j)
-        (λ n. told_so server n.hops (few router n) (services_of net most_services histories router) (right router within n) (all_only histories router (right router within n)) j);
-    news = λ histories right router within before j.
-        all_given (λ (n : IsNearer router) s. IsOf server s → s ≡ at_hops server (suc n.hops)) (news_services before (services_of net most_services histories router) j)
-        (λ n. news_so server n.hops (few router n) (services_of net most_services histories router) (right router within n) (all_only histories router (right router within n)) before j);
-  }
-    where
-      all_only : (histories : List History) (router : ℕ) {hops : ℕ} → known_of server (services_of net most_services histories router) ≡ Some (at_hops server hops)
-          → AllByRecursion (λ s. IsOf server s.service → s.service ≡ at_hops server hops) (services_of net most_services histories router)
-      all_only histories router {hops} is =
-          only_so server (ports_of net router) most_services (history_of histories router) (at_hops server hops) is

@@ -1,14 +1,20 @@
 -- The fewest hops of all ways to a service: what a router may know with as many is announced beside it, or is passed on by a neighbour whose
 -- fewest are one less.
-use Rattle.std.proofs.Common.{◌≡◌, ◌≢◌, refl, sym, ap, ◌∙◌, subst, ◌⊎◌, ℕ, suc, ◌≤◌, true, List, Some, inl, inr, arith, slice_get}
-use Rattle.std.proofs.lemmas.Bool.{cases_eq}
+use Rattle.std.proofs.Common.{◌≡◌, ◌≢◌, refl, sym, ap, ◌∙◌, subst, ◌⊎◌, ℕ, suc, ◌≤◌, true, List, Some, inl, inr, arith, slice_get, ◌==◌, Bool, false, find, Option, None, option_map, is_eq}
+use Rattle.std.specs.List.{AllByRecursion}
+use Rattle.std.proofs.lemmas.Bool.{cases_eq, ne_eqb}
+use Rattle.ipx_wire.specs.declared.node.Node.{Node}
 use Rattle.ipx_wire.specs.declared.service.Service.{Service}
 use Rattle.ipx_router.specs.Port.{is_up}
+use Rattle.ipx_router.specs.Services.{service_order}
 use Rattle.ipx_router.specs.declared.service_offer.ServiceOffer.{ServiceOffer}
 use Rattle.ipx_internet.specs.Internet.{Internet, Place, port_of, network_of}
+use Rattle.ipx_internet.proofs.lists.FoundInAList.{nothing, it_is}
 use Rattle.ipx_laws.specs.Regular.{NoneNearer}
-use Rattle.ipx_laws.specs.Servers.{Announcer, Server, IsAnnouncedOn, IsServed, announced, passed_on, IsAway, beside, beyond, IsFewest}
+use Rattle.ipx_laws.specs.Servers.{Announcer, Server, IsAnnouncedOn, IsServed, announced, passed_on, IsAway, beside, beyond, IsFewest, at_hops, known_of, IsOf}
+use Rattle.ipx_laws.proofs.lists.SomeElement.{AnyIs, any_then, found_with, find_any}
 use Rattle.ipx_laws.proofs.services.ServicesBecomeReal.{has_way}
+use Rattle.ipx_laws.proofs.services.SpokenOfAServer.{IsFine}
 
 module _ (net : Internet) (up : ℕ → List ℕ) (server : Server) where
   -- a port of a router that hears what another router's port says
@@ -89,3 +95,51 @@ module _ (net : Internet) (up : ℕ → List ℕ) (server : Server) where
           ⊎ PassedOn from.router s → ⊥
       by (inl (on, is)) = beside_it is.which _ is.listed (omega (arith, same)) refl
       by (inr p) = passed p (cases_eq router p.from.router)
+
+  -- ---- who says it with the fewest hops
+
+  -- a host beside the router, or a neighbour of one hop less
+  pub record IsSaid (router hops : ℕ) : Type 0 where
+    pub port : ℕ
+    pub node : Node
+    pub on : is_up (up router) port ≡ true
+    pub who : ((which : ℕ) × (slice_get server.announcers which
+        ≡ Some (record { network = network_of net (record { router = router; port = port }); node = node; hops = hops })))
+        ⊎ ((from : Place) × (less : ℕ) × (hops ≡ suc less) × Link router port from × (node ≡ (port_of net from).node)
+        × IsAway net up server from.router less)
+
+  pub is_said : {router hops : ℕ} → IsAway net up server router hops → IsSaid router hops
+  is_said (beside port which host on listed network) = record {
+    port = port;
+    node = host.node;
+    on = on;
+    who = inl (which, listed ∙ ap (λ n. Some (record { network = n; node = host.node; hops = host.hops })) (sym network));
+  }
+  is_said (beyond {hops = less} port from off here there network way) = record {
+    port = port;
+    node = (port_of net from).node;
+    on = here;
+    who = inr (from, less, refl, record { other = off; here = here; there = there; network = network }, refl, way);
+  }
+
+-- where none of what a router may know so came by a port, what it has didn't
+module _ (net : Internet) (up : ℕ → List ℕ) (server : Server) (Listed : ℕ × List ℕ → Type 0) where
+  pub held_off : (router port hops : ℕ) → ((s : ServiceOffer) → IsServed net up server router s → s.service.hops ≡ hops → s.port ≢ port) → (known : List ServiceOffer)
+      → AllByRecursion (IsFine net up server Listed router) known → known_of server known ≡ Some (at_hops server hops)
+      → AnyIs (λ s. (s.service ≡ at_hops server hops) × ((s.port == port) ≡ false)) known
+  held_off router port hops apart known fine is_known = by (find test known) refl is_known
+    where
+      test : ServiceOffer → Bool
+      test s = is_eq (service_order (s.service.kind, s.service.name) (server.kind, server.name))
+
+      by : (o : Option ServiceOffer) → find test known ≡ o → option_map (λ s. s.service) o ≡ Some (at_hops server hops)
+          → AnyIs (λ s. (s.service ≡ at_hops server hops) × ((s.port == port) ≡ false)) known
+      by None e some = nothing some
+      by (Some s) e some =
+          let same : s.service ≡ at_hops server hops = it_is (λ (x : Service). s.service ≡ x) (at_hops server hops) s.service some refl in
+          let of : IsOf server s.service = (ap (λ (x : Service). x.kind) same, ap (λ (x : Service). x.name) same) in
+          let served = (found_with (IsFine net up server Listed router) test known s fine e).0.1 of in
+          let off = ne_eqb s.port port (apart s served (ap (λ (x : Service). x.hops) same)) in
+          any_then (λ y. y ≡ s) (λ y. (y.service ≡ at_hops server hops) × ((y.port == port) ≡ false))
+          (λ y is_it. (ap (λ (x : ServiceOffer). x.service) is_it ∙ same, ap (λ (x : ServiceOffer). x.port == port) is_it ∙ off)) known
+          (find_any test known s e)

@@ -1,5 +1,5 @@
 -- A query for the nearest server of a type, where a router has one: it answers with a server of that type that is no farther.
-use Rattle.std.proofs.Common.{◌≡◌, ◌≢◌, refl, sym, ap, ◌∙◌, subst, ℕ, suc, ◌<◌, ◌≤◌, ◌==◌, ◌||◌, true, false, List, [], ◌∷◌, ◌++◌, length, Some, inl, inr, arith, if◌then◌else◌}
+use Rattle.std.proofs.Common.{◌≡◌, ◌≢◌, refl, sym, ap, ◌∙◌, subst, ℕ, suc, ◌<◌, ◌≤◌, ◌==◌, ◌||◌, true, false, List, [], ◌∷◌, length, Some, inl, inr, arith, if◌then◌else◌}
 use Rattle.std.specs.List.{AllByRecursion}
 use Rattle.std.proofs.lemmas.Bool.{cases_Bool, eq-eqb, or_right}
 use Rattle.ipx_wire.specs.Piece.{IsBytes}
@@ -16,23 +16,19 @@ use Rattle.ipx_router.specs.Told.{farther, is_service_told, told_services}
 use Rattle.ipx_router.specs.declared.service_offer.ServiceOffer.{ServiceOffer}
 use Rattle.ipx_router.proofs.port_values.PortOfEachNumber.{ports_up-within}
 use Rattle.ipx_router.proofs.tables.HeldWasOffered.{heard_up}
-use Rattle.ipx_internet.specs.BusyTick.{IsBusyTick}
 use Rattle.ipx_internet.specs.Internet.{Internet, IsInternet, ports_of, network_of}
 use Rattle.ipx_internet.specs.Queue.{history_of, sends_at}
-use Rattle.ipx_internet.specs.Run.{Step, Run, run_of}
+use Rattle.ipx_internet.specs.Run.{Run, AreHistories}
 use Rattle.ipx_internet.proofs.lists.EachElement.{all_then, all_passed, holds_of}
 use Rattle.ipx_internet.proofs.packets.SentOnOrReply.{Layouts, said_so}
 use Rattle.ipx_internet.proofs.places.OneReceiverOfANode.{ports_at}
-use Rattle.ipx_laws.specs.Gone.{most_ticks_gone}
-use Rattle.ipx_laws.specs.Meanwhile.{LeavesPorts, SaysOnly}
 use Rattle.ipx_laws.specs.Nearest.{LeadsElsewhere, IsAnswered}
-use Rattle.ipx_laws.specs.Servers.{Server, at_hops, known_of, SaysNoFalse, NamesOnly, IsServed, announced, passed_on}
+use Rattle.ipx_laws.specs.Servers.{Server, at_hops, known_of, IsServed, announced, passed_on}
 use Rattle.ipx_laws.proofs.lists.SomeElement.{AnyIs, any_then, any_and_all, any-filter, the_one}
-use Rattle.ipx_laws.proofs.services.HeardAtAStep.{at_prefix}
-use Rattle.ipx_laws.proofs.services.HostTickAfterTick.{Rests}
 use Rattle.ipx_laws.proofs.services.ServiceIsTold.{told_there}
 use Rattle.ipx_laws.proofs.services.ServicesBecomeReal.{has_way}
-use Rattle.ipx_laws.proofs.services.SoundAtEachStep.{held_off, Sound, tick_sound}
+use Rattle.ipx_laws.proofs.services.FewestHops.{held_off}
+use Rattle.ipx_laws.proofs.services.SpokenOfAServer.{IsFine}
 
 -- ---- the nearest of some services
 
@@ -136,15 +132,17 @@ module _ (net : Internet) (up : ℕ → List ℕ) (server : Server) where
       let one = ap (λ (x : Service). x.hops) told in
       omega (arith, more, same, one)
 
--- ---- the answer to a query that comes at a moment of a tick
+-- ---- the answer to a query that comes at some moment
 
 module _ (net : Internet) (laws : Layouts) (is : IsInternet net) (most_routes most_services : ℕ) (up : ℕ → List ℕ) (server : Server) (Listed : ℕ × List ℕ → Type 0)
     (router : ℕ) (within : router < length net) where
   abbrev services : Run → List ServiceOffer
   services run = offers (services_held (ports_of net router) most_services (history_of run.histories router))
 
-  abbrev IsSound : Run → Type 0
-  IsSound = Sound net laws is most_routes most_services up server Listed router within
+  -- histories are such, and what the router has is as it may know it
+  pub record Sound (run : Run) : Type 0 where
+    pub are : AreHistories net run.histories
+    pub fine : AllByRecursion (IsFine net up server Listed router) (services run)
 
   module _ (hops number : ℕ) (near : suc hops < unreachable) (kind : server.kind ≢ every_service) (elsewhere : LeadsElsewhere net up server (record { router = router; port = number }) hops)
       (bytes : List ℕ) (are_bytes : IsBytes bytes) (source : Address) where
@@ -152,7 +150,7 @@ module _ (net : Internet) (laws : Layouts) (is : IsInternet net) (most_routes mo
     Answers run =
         IsAnswered (ports_of net router) number source server.kind (suc hops) (sends_at net most_routes most_services run.histories router (Packet number bytes))
 
-    pub answered_now : (run : Run) → IsSound run → known_of server (services run) ≡ Some (at_hops server hops)
+    pub answered_now : (run : Run) → Sound run → known_of server (services run) ≡ Some (at_hops server hops)
         → heard_after (ports_of net router) (history_of run.histories router) number bytes ≡ Some (HeardSap source (Query true server.kind)) → Answers run
     answered_now run now is_known heard =
         let ports = ports_of net router in
@@ -171,16 +169,3 @@ module _ (net : Internet) (laws : Layouts) (is : IsInternet net) (most_routes mo
               (HeardSap source (Query true server.kind)) heard
               ∙ ap (λ (ss : List Service). sap_sends ports number (reply_to (port_at ports number) source) true ss) it.1;
         }
-
-    pub answered : (so_far : ℕ) → most_ticks_gone ≤ so_far → (run : Run) (steps rest : List Step)
-        → Rests net laws is most_routes most_services up server Listed so_far run → IsBusyTick net most_routes most_services run (steps ++ rest)
-        → AllByRecursion LeavesPorts (steps ++ rest) → AllByRecursion (SaysNoFalse net server) (steps ++ rest)
-        → AllByRecursion (SaysOnly (NamesOnly Listed)) (steps ++ rest)
-        → known_of server (services (run_of net most_routes most_services run steps)) ≡ Some (at_hops server hops)
-        → heard_after (ports_of net router) (history_of (run_of net most_routes most_services run steps).histories router) number bytes
-        ≡ Some (HeardSap source (Query true server.kind))
-        → Answers (run_of net most_routes most_services run steps)
-    answered so_far long run steps rest rests tick leave say names =
-        answered_now (run_of net most_routes most_services run steps)
-        (at_prefix net most_routes most_services server IsSound run steps rest
-        (tick_sound net laws is most_routes most_services up server Listed router within so_far long run (steps ++ rest) rests tick leave say names))

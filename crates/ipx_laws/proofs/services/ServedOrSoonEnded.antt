@@ -1,10 +1,10 @@
 -- What a router has and says of a service that hosts announce: what it may know of it, or what is so old that it soon ends.
-use Rattle.std.proofs.Common.{◌≡◌, refl, sym, subst, ◌⊎◌, ℕ, ◌+◌, ◌<◌, ◌≤◌, true, false, List, [], ◌∷◌, ◌++◌, length, map, Option, Some, None, inl, inr, arith, true≢false, rules}
+use Rattle.std.proofs.Common.{◌≡◌, refl, sym, subst, ◌⊎◌, ℕ, ◌+◌, ◌≤◌, true, false, List, [], ◌∷◌, ◌++◌, map, Option, Some, None, inl, inr, arith, true≢false, rules}
 use Rattle.std.specs.List.{AllByRecursion}
-use Rattle.ipx_table.specs.Facts.{Fact, Offered}
 use Rattle.ipx_wire.specs.declared.node.Node.{Node}
 use Rattle.ipx_wire.specs.declared.sap_entries.SapEntry.{SapEntry}
 use Rattle.ipx_wire.specs.declared.service.Service.{Service}
+use Rattle.ipx_table.specs.Facts.{Fact, Offered}
 use Rattle.ipx_router.specs.Facts.{services_offered, services_heard, heard_after, service_facts, services_held, offers}
 use Rattle.ipx_router.specs.Heard.{Heard}
 use Rattle.ipx_router.specs.History.{Event, History, Packet, running, ports_up}
@@ -20,7 +20,6 @@ use Rattle.ipx_router.proofs.tables.OffersOfAMessage.{facts_from-more}
 use Rattle.ipx_router.proofs.tables.HeldWasOffered.{heard_up}
 use Rattle.ipx_router.proofs.tables.HeldCameByPortsUp.{held_services_up}
 use Rattle.ipx_internet.specs.Internet.{Internet, Place, ports_of, port_of}
-use Rattle.ipx_internet.specs.Queue.{history_of}
 use Rattle.ipx_internet.specs.Run.{Happens}
 use Rattle.ipx_internet.proofs.lists.EachElement.{all_then, all-append}
 use Rattle.ipx_internet.proofs.packets.AdvertisedIsHeld.{told_services_all, news_services_told}
@@ -154,16 +153,3 @@ module _ (delay slack : ℕ) (net : Internet) (up : ℕ → List ℕ) (server : 
         let Soon = IsSoon net up server Listed delay slack begun (record { router = router; port = j }) in
         all_both (Speaks router) Soon (news_services before (offers (services_held ports most_services history)) j) say
         (news_services_told Soon ServiceHeld (learned_said j) (ended_said j) before (offers (services_held ports most_services history)) services_are j)
-
--- ---- words that follow from what routers have
-
-module _ (net : Internet) (most_services : ℕ) where
-  abbrev pub services_of : List History → ℕ → List ServiceOffer
-  services_of histories router = offers (services_held (ports_of net router) most_services (history_of histories router))
-
-  -- as long as something is so of all histories, routers say such words alone, of what they have and of what changed
-  pub record AreExact (Speaks : ℕ → Service → Type 0) (Sure : List History → Type 0) : Type 0 where
-    pub told : (histories : List History) → Sure histories → (router : ℕ) → router < length net → (j : ℕ)
-        → AllByRecursion (Speaks router) (told_services (services_of histories router) j)
-    pub news : (histories : List History) → Sure histories → (router : ℕ) → router < length net → (before : List ServiceOffer) (j : ℕ)
-        → AllByRecursion (Speaks router) (news_services before (services_of histories router) j)

@@ -48,16 +48,13 @@ told_there services j s any =
 
 -- ---- a periodic broadcast has it
 
-module _ (ports : List Port) (s : Service) where
-  abbrev Is : Service → Type 0
-  Is t = t ≡ s
-
-  -- a packet that names the service leaves on a port, to all
+module _ (ports : List Port) (Is : Service → Type 0) where
+  -- a packet that names such a service leaves on a port, to all
   pub record TellsService (j : ℕ) (sent : Sent) : Type 0 where
     pub port : sent.port ≡ j
     pub link : sent.link ≡ broadcast
     pub page : IsSapPage AnyService (own_services (port_at ports j)) (every_server (port_at ports j)) false sent.bytes
-    pub has : AnyIs (λ t. t ≡ s) page.page
+    pub has : AnyIs Is page.page
 
   module _ (readings : Readings) (again : Rereadings) (j : ℕ) (is_port : IsPort (port_at ports j)) where
     sap_tells : (services : List Service) → AllByRecursion IsTellable services → AnyIs Is services → AnyIs (TellsService j) (sap_broadcast ports j services)
@@ -88,19 +85,19 @@ module _ (ports : List Port) (s : Service) where
 
 -- ---- in an internet
 
-module _ (net : Internet) (from here : Place) (s : Service) where
-  -- a delivery for a port names the service, from another port
+module _ (net : Internet) (from here : Place) (Is : Service → Type 0) where
+  -- a delivery for a port names such a service, from another port
   pub record NamesTo (d : Delivery) : Type 0 where
     pub to : d.to ≡ here
     pub page : IsSapPage AnyService (own_services (port_of net from)) (every_server (port_of net from)) false d.bytes
-    pub has : AnyIs (λ t. t ≡ s) page.page
+    pub has : AnyIs Is page.page
 
   module _ (other : here.router ≢ from.router) (there : IsPlace net here) (network : network_of net here ≡ network_of net from) where
     received : (link : Node) → link ≡ broadcast → receives net from link here ≡ true
     received link all = grind arith
 
     -- what is told there to all waits for that port
-    waits_of_one : (sent : Sent) → TellsService (ports_of net from.router) s from.port sent → AnyIs NamesTo (deliveries_of net from.router sent)
+    waits_of_one : (sent : Sent) → TellsService (ports_of net from.router) Is from.port sent → AnyIs NamesTo (deliveries_of net from.router sent)
     waits_of_one sent tells =
         let at_port : Place = record { router = from.router; port = sent.port } in
         let is_from : at_port ≡ from = ap (λ k. record { router = from.router; port = k }) tells.port in
@@ -111,12 +108,12 @@ module _ (net : Internet) (from here : Place) (s : Service) where
         (subst (λ (g : Place). receives net g sent.link here ≡ true) (sym is_from) (received sent.link tells.link)))
         (places net) (all_places net here there))
 
-    pub waits_for : (sents : List Sent) → AnyIs (TellsService (ports_of net from.router) s from.port) sents → AnyIs NamesTo (flat_map (deliveries_of net from.router) sents)
+    pub waits_for : (sents : List Sent) → AnyIs (TellsService (ports_of net from.router) Is from.port) sents → AnyIs NamesTo (flat_map (deliveries_of net from.router) sents)
     waits_for sents any = search (rules, any-flat_map, waits_of_one)
 
 -- what a router sends at a periodic second
 module _ (net : Internet) (laws : Layouts) (is : IsInternet net) (most_routes most_services : ℕ) (histories : List History) (are : AreHistories net histories)
-    (from : Place) (there : IsPlace net from) (s : Service) where
+    (from : Place) (there : IsPlace net from) (Is : Service → Type 0) where
   abbrev ports : List Port
   ports = ports_of net from.router
 
@@ -133,14 +130,14 @@ module _ (net : Internet) (laws : Layouts) (is : IsInternet net) (most_routes mo
   aft = holding ports most_routes most_services now
 
   pub second_says : running past ≡ true → is_periodic past ≡ true → AnyIs (λ k. k ≡ from.port) aft.up
-      → AnyIs (λ t. t ≡ s) (told_services (offers (services_held ports most_services now)) from.port)
-      → AnyIs (TellsService ports s from.port) (sends_at net most_routes most_services histories from.router Second)
+      → AnyIs Is (told_services (offers (services_held ports most_services now)) from.port)
+      → AnyIs (TellsService ports Is from.port) (sends_at net most_routes most_services histories from.router Second)
   second_says runs periodic on any =
       let still = all-append IsOfBytes past (Second ∷ []) (are.of_bytes from.router) (tt, tt) in
       let fit = held_services_fit laws.readings ports most_services now still in
       let same : sends_at net most_routes most_services histories from.router Second ≡ flat_map (second_on ports bef aft true) aft.up =
       ap₂ (λ (r p : Bool). if r then flat_map (second_on ports bef aft p) aft.up else []) runs periodic in
-      subst (λ (ss : List Sent). AnyIs (TellsService ports s from.port) ss) (sym same)
-      (second_tells ports s laws.readings laws.again from.port (port-all IsPort ports from.port (ports_at net is from.router) there) bef aft on
+      subst (λ (ss : List Sent). AnyIs (TellsService ports Is from.port) ss) (sym same)
+      (second_tells ports Is laws.readings laws.again from.port (port-all IsPort ports from.port (ports_at net is from.router) there) bef aft on
       (told_services_fit aft.services from.port fit)
       (news_services_fit bef.services aft.services from.port (held_services_fit laws.readings ports most_services past (are.of_bytes from.router)) fit) any)

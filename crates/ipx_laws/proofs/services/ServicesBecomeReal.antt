@@ -1,6 +1,6 @@
--- After the ticks by which what is gone is gone, what a router has of a service that hosts announce is as it may know it: at its address, on a
--- way of as many hops.
-use Rattle.std.proofs.Common.{◌≡◌, refl, sym, ap, ◌∙◌, subst, ℕ, suc, ◌+◌, ◌<◌, ◌≤◌, List, [], ◌∷◌, length, map, Option, Some, None, IfSome, arith}
+-- Once a router has had the seconds after which what is gone is gone, what it has of a service that hosts announce is as it may know it: at its
+-- address, on a way of as many hops.
+use Rattle.std.proofs.Common.{◌≡◌, refl, sym, ap, ◌∙◌, subst, ℕ, suc, ◌+◌, ◌<◌, ◌≤◌, List, map, Option, Some, None, IfSome, arith}
 use Rattle.std.specs.List.{AllByRecursion}
 use Rattle.ipx_wire.specs.declared.sap.Sap.TheVariants.{Query, Response as SapResponse}
 use Rattle.ipx_wire.specs.declared.service.Service.{Service}
@@ -14,20 +14,15 @@ use Rattle.ipx_router.specs.Told.{farther}
 use Rattle.ipx_router.specs.declared.service_offer.ServiceOffer.{ServiceOffer}
 use Rattle.ipx_router.proofs.bounds.PacketsOfEachEvent.{service_total}
 use Rattle.ipx_router.proofs.lists.EachElement.{all_both}
-use Rattle.ipx_internet.specs.Internet.{Internet, IsInternet, ports_of}
-use Rattle.ipx_internet.specs.Run.{Step, Happens, Settles, AreHistories, Run, run_of}
-use Rattle.ipx_internet.specs.Ticks.{ticked}
+use Rattle.ipx_internet.specs.Internet.{Internet, ports_of}
+use Rattle.ipx_internet.specs.Run.{Step, Happens, Settles}
 use Rattle.ipx_internet.proofs.lists.EachElement.{all_of, all_then}
-use Rattle.ipx_internet.proofs.packets.SentOnOrReply.{Layouts}
-use Rattle.ipx_laws.specs.Meanwhile.{message_of, SaysOnly, AreTicksOfHostsAfter}
-use Rattle.ipx_laws.specs.Servers.{Server, IsOf, at_hops, SaysNoFalse, NamesOnly, IsServed, IsAway, announced, passed_on, beside, beyond}
-use Rattle.ipx_laws.specs.Ups.{ups}
+use Rattle.ipx_laws.specs.Meanwhile.{message_of, SaysOnly}
+use Rattle.ipx_laws.specs.Servers.{Server, IsOf, at_hops, NamesOnly, IsServed, IsAway, announced, passed_on, beside, beyond}
 use Rattle.ipx_laws.specs.Wires.{most_beats_gone}
 use Rattle.ipx_laws.proofs.records.RecordsGrowOld.{at_last, old_held, IsOldHeld}
-use Rattle.ipx_laws.proofs.services.HostTickAfterTick.{Rests, rested}
 use Rattle.ipx_laws.proofs.services.ServedOrSoonEnded.{Endures}
 use Rattle.ipx_laws.proofs.services.SpokenOfAServer.{IsFine}
-use Rattle.ipx_laws.proofs.ticks.AfterRest.{begins_after}
 
 -- ---- what a router may know is on a way
 
@@ -46,7 +41,7 @@ module _ (net : Internet) (up : ℕ → List ℕ) (server : Server) where
         subst (λ (n : ℕ). IsAway net up server router n) (sym more) (beyond s.port from apart on there network way.1),
       )
 
--- ---- after that many ticks
+-- ---- after that many seconds
 
 module _ (delay slack : ℕ) (net : Internet) (up : ℕ → List ℕ) (server : Server) (Listed : ℕ × List ℕ → Type 0) (most_services router had : ℕ) (past : History)
     (endures : Endures delay slack net up server Listed most_services router had past) (long : slack + most_beats_gone delay ≤ had) where
@@ -84,20 +79,6 @@ module _ (delay slack : ℕ) (net : Internet) (up : ℕ → List ℕ) (server : 
   pub none_known : ((hops : ℕ) → IsAway net up server router hops → hops < unreachable → ⊥) → AllByRecursion (λ s. IsOf server s.service → ⊥) Known
   none_known no_way = grind (arith, all_then, all_away)
 
--- ---- where they begin
-
-module _ (net : Internet) (laws : Layouts) (is : IsInternet net) (most_routes most_services : ℕ) (server : Server) (Listed : ℕ × List ℕ → Type 0) where
-  -- whatever waits, and whatever is said before these steps are over
-  pub from_any : (run : Run) (first : List Step) (ticks : List (List Step)) → AreHistories net run.histories
-      → AreTicksOfHostsAfter net most_routes most_services run first ticks → AllByRecursion (AllByRecursion (SaysNoFalse net server)) ticks
-      → AllByRecursion (AllByRecursion (SaysOnly (NamesOnly Listed))) ticks
-      → Rests net laws is most_routes most_services (ups net run.histories) server Listed (length ticks) (ticked net most_routes most_services run (first ∷ ticks))
-  from_any run first ticks are (rest, leaves, (busy, leave)) say names =
-      let next = run_of net most_routes most_services run first in
-      let begins = begins_after net laws is most_routes most_services run first are rest [] leaves in
-      rested net laws is most_routes most_services (ups net run.histories) server Listed next ticks begins.are (λ router within. (begins.routers router within).ups) begins.quiet
-      busy leave say names
-
 -- any names
 abbrev pub AnyName : ℕ × List ℕ → Type 0
 AnyName name = Unit {0}
@@ -119,6 +100,3 @@ name_any (Happens router Stop) = tt
 name_any (Happens router (PortDown number)) = tt
 name_any (Happens router (PortUp number)) = tt
 name_any Settles = tt
-
-pub names_any : (net : Internet) (server : Server) (ticks : List (List Step)) → AllByRecursion (AllByRecursion (SaysOnly (NamesOnly AnyName))) ticks
-names_any net server ticks = all_of (AllByRecursion (SaysOnly (NamesOnly AnyName))) (λ steps. all_of (SaysOnly (NamesOnly AnyName)) name_any steps) ticks

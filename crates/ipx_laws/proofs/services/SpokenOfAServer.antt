@@ -44,7 +44,7 @@ asks_elsewhere : (source : Address) (operation : Operation) → operation ≡ Re
 asks_elsewhere source operation e = grind arith
 
 -- a packet that is for the port's own network, and of which anything may be heard, is sent on by nobody
-here_stays : (port : Port) (came sent : List ℕ) (m : Heard) → message_of came ≡ Some m → IsForHere port came → IsOnward port came sent → ⊥
+pub here_stays : (port : Port) (came sent : List ℕ) (m : Heard) → message_of came ≡ Some m → IsForHere port came → IsOnward port came sent → ⊥
 here_stays port came sent m e here on = by on.goes
   where
     said : message_in on.packet ≡ Some m

@@ -9,11 +9,11 @@ use Rattle.ipx_internet.specs.Internet.{Internet, Place, port_of}
 use Rattle.ipx_internet.specs.Queue.{history_of}
 use Rattle.ipx_laws.specs.Regular.{Announces, HaveOneVoice}
 use Rattle.ipx_laws.specs.Servers.{Announcer, Server, at_hops}
-use Rattle.ipx_laws.specs.WireRegular.{NamesService, InSteps, InBeats, IsHostHeard, AreHostsInTime}
-use Rattle.ipx_laws.specs.Wires.{Wires, WireStep, Occurs, Lands, beaten, wired}
+use Rattle.ipx_laws.specs.WireRegular.{NamesService, IsHostHeard, AreHostsInTime}
+use Rattle.ipx_laws.specs.Wires.{Wires, WireStep, Occurs, Lands, beaten, wired, InSteps, InBeats}
 use Rattle.ipx_laws.proofs.lists.SomeElement.{AnyIs}
 use Rattle.ipx_laws.proofs.services.HostsApart.{HostsApart, not_said}
-use Rattle.ipx_laws.proofs.wires.RightOnWires.{parted}
+use Rattle.ipx_laws.proofs.wires.PartsOfBeats.{parted}
 
 -- where one is such, it is there at a number
 pub any_index : {A : Type 0} (P : A → Type 0) (xs : List A) → AnyIs P xs → (which : ℕ) × (x : A) × (slice_get xs which ≡ Some x) × P x
@@ -67,7 +67,7 @@ module _ (net : Internet) (most_routes most_services delay : ℕ) (server : Serv
   not_heard : (host : Announcer) (to : Place) → (port_of net to).node ≡ host.node → (w : Wires) (step : WireStep)
       → IsHostHeard net most_routes most_services delay server to host w step → ⊥
   not_heard host to same w (Occurs router (Packet number bytes)) (there, on, m, heard, says) =
-      not_said net most_routes most_services server host to same (history_of w.histories to.router) bytes m heard says
+      not_said net server host to same (history_of w.histories to.router) bytes m heard says
   not_heard host to same w (Occurs router Second) none = none
   not_heard host to same w (Occurs router Start) none = none
   not_heard host to same w (Occurs router Stop) none = none

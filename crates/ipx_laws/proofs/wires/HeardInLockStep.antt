@@ -1,13 +1,14 @@
--- In lock step routers are heard in time: each hears in any minute what a router beside it advertises all the time of that minute.
-use Rattle.std.proofs.Common.{◌≡◌, ◌≢◌, refl, sym, ap, ap₂, ◌∙◌, subst, ℕ, ◌-◌, ◌≤◌, ◌==◌, Bool, true, if◌then◌else◌, List, [], ◌∷◌, ◌++◌, length, map, flat_map, Some, slice_get, inl, inr, arith, append_assoc}
+-- In lock step, what a router has all the time of a minute lands in that minute where it is heard. So routers are heard in time: each hears in any
+-- minute of the networks that a router beside it advertises all the time of that minute.
+use Rattle.std.proofs.Common.{◌≡◌, ◌≢◌, refl, sym, ap, ap₂, ◌∙◌, subst, ℕ, ◌+◌, ◌-◌, ◌≤◌, ◌==◌, Bool, true, if◌then◌else◌, List, [], ◌∷◌, ◌++◌, length, map, flat_map, Some, slice_get, inl, inr, arith}
 use Rattle.std.proofs.lemmas.Bool.{eq-eqb, eqb-true}
 use Rattle.ipx_wire.specs.Crossed.{is_among}
 use Rattle.ipx_wire.specs.Rip.{IsEntry}
 use Rattle.ipx_wire.specs.declared.network.Network.{Network}
 use Rattle.ipx_wire.specs.declared.rip.Operation.TheVariants.{Response}
 use Rattle.ipx_wire.specs.declared.rip.RipEntry.{RipEntry}
-use Rattle.ipx_router.specs.Facts.{heard_after, routes_held, offers}
-use Rattle.ipx_router.specs.Heard.{Heard, HeardRip, heard}
+use Rattle.ipx_router.specs.Facts.{routes_held, offers}
+use Rattle.ipx_router.specs.Heard.{HeardRip, heard}
 use Rattle.ipx_router.specs.History.{History, Second, IsOfBytes, running, ports_up}
 use Rattle.ipx_router.specs.News.{news}
 use Rattle.ipx_router.specs.Numbers.{period}
@@ -23,21 +24,123 @@ use Rattle.ipx_router.proofs.telling.ToldFitsFields.{told_fits}
 use Rattle.ipx_internet.specs.BusyTick.{IsBusyTick}
 use Rattle.ipx_internet.specs.Internet.{Internet, Place, IsInternet, NodesDiffer, ports_of, port_of, network_of}
 use Rattle.ipx_internet.specs.Queue.{Delivery, Queued, deliveries_of, history_of, sends_at}
-use Rattle.ipx_internet.specs.Run.{Step, Happens, Settles, AreHistories, Run, stepped, run_of}
+use Rattle.ipx_internet.specs.Run.{Step, Happens, Settles, AreHistories, Run, forgotten, stepped, run_of}
+use Rattle.ipx_internet.specs.Ticks.{ticked}
 use Rattle.ipx_internet.proofs.lists.EachElement.{all_of, all-append}
 use Rattle.ipx_internet.proofs.packets.SentOnOrReply.{Layouts}
 use Rattle.ipx_internet.proofs.places.OneReceiverOfANode.{ports_at, port_is}
-use Rattle.ipx_laws.specs.InTime.{Names, HeardInSteps, HeardInBeats, Advertises, AreHeardInTime}
-use Rattle.ipx_laws.specs.Meanwhile.{LeavesPorts, EachStep, EachTick}
-use Rattle.ipx_laws.specs.Wires.{Flight, Wires, WireStep, beaten, wired, wires_of, beats_of, Along, EachBeat}
-use Rattle.ipx_laws.proofs.lists.FirstAndRest.{first_of, rest_of, none_first}
+use Rattle.ipx_laws.specs.InTime.{IsHeardFrom, Advertises, AreHeardInTime}
+use Rattle.ipx_laws.specs.Meanwhile.{EachTick}
+use Rattle.ipx_laws.specs.Wires.{Flight, Wires, WireStep, Lands, beaten, wired, wires_of, beats_of, Along, EachBeat, InSteps, InBeats}
 use Rattle.ipx_laws.proofs.lists.SomeElement.{AnyIs, any_then, any_passes, passes_any, any-map, any_mapped, number_any}
 use Rattle.ipx_laws.proofs.losses.WordsThatWait.{no_way, IsWordFor, word_waits}
 use Rattle.ipx_laws.proofs.packets.PagesAreHeard.{heard_page}
 use Rattle.ipx_laws.proofs.tables.SaysItsLeastWay.{Tells, second_tells}
-use Rattle.ipx_laws.proofs.ticks.AfterRest.{steps_keep}
-use Rattle.ipx_laws.proofs.ticks.SaidInAMinute.{Stay, IsKept, is_place, runs_there, HasAlong, HandedIn, HandedInTicks, said_once}
+use Rattle.ipx_laws.proofs.ticks.SaidInAMinute.{Stay, is_place, runs_there, HasAlong, HandedIn, HandedInTicks, said_once}
 use Rattle.ipx_laws.proofs.wires.LockStep.{as_wire, as_beat, as_beats, as_many, Follows, first_waits, same_histories, step_follows, tick_follows}
+use Rattle.ipx_laws.proofs.wires.PartsInLockStep.{Goes, middle_of, middle_goes}
+
+-- what a router has, that its neighbours hear as it lands
+module _ (net : Internet) (laws : Layouts) (is : IsInternet net) (most_routes most_services : ℕ) (up : ℕ → List ℕ) (from : Place)
+    (on : is_up (up from.router) from.port ≡ true) (Has : History → Type 0) (Word : Delivery → Type 0)
+    (says : (histories : List History) → AreHistories net histories → Stay net laws is most_routes most_services up histories
+    → running (history_of histories from.router) ≡ true → is_periodic (history_of histories from.router) ≡ true → Has (history_of histories from.router ++ Second ∷ [])
+    → AnyIs Word (flat_map (deliveries_of net from.router) (sends_at net most_routes most_services histories from.router Second)))
+    (IsHeard : Wires → WireStep → Type 0)
+    (hears : (w : Wires) → Stay net laws is most_routes most_services up w.histories → (which : ℕ) (f : Flight) → slice_get w.flights which ≡ Some f
+    → w.beats ≤ f.sent + 0 → Word f.delivery → IsHeard w (Lands which)) where
+  abbrev Handed : (Run → Type 0) → Run → List Step → Type 0
+  Handed = HandedIn net laws is most_routes most_services up from on Has Word says
+
+  abbrev HandedAtAll : Run → List (List Step) → Type 0
+  HandedAtAll = HandedInTicks net laws is most_routes most_services up from on Has Word says
+
+  abbrev HasIt : Run → List Step → Type 0
+  HasIt = HasAlong net laws is most_routes most_services up from on Has Word says
+
+  abbrev Busy : Run → List (List Step) → Type 0
+  Busy = EachTick net most_routes most_services (IsBusyTick net most_routes most_services)
+
+  abbrev Advertised : Wires → Type 0
+  Advertised w = Has (history_of w.histories from.router)
+
+  -- ---- what is handed out lands
+
+  steps_heard : (Later : Run → Type 0) (After : Wires → Type 0) (run : Run) (w : Wires) (steps : List Step) → Follows net most_routes most_services run w
+      → (Later (run_of net most_routes most_services run steps) → After (wires_of net most_routes most_services 0 w (as_beat net most_routes most_services run w steps)))
+      → Handed Later run steps → InSteps net most_routes most_services 0 IsHeard After w (as_beat net most_routes most_services run w steps)
+  steps_heard Later After run w [] follows so later = so later
+  steps_heard Later After run w (Happens k event ∷ steps) follows so (inl none) = absurd none
+  steps_heard Later After run w (Settles ∷ steps) follows so (inl (d, rest, first, word, kept)) =
+      let queue : follows.queue ≡ d ∷ rest = sym (ap (λ (q : Queued). q.queue) follows.same) ∙ first in
+      let waits = first_waits net most_routes most_services w d rest follows.landed
+      (subst (λ (ds : List Delivery). w.flights ≡ follows.landed ++ map (λ q. record { delivery = q; sent = w.beats }) ds) queue follows.flights) in
+      let f : Flight = record { delivery = d; sent = w.beats } in
+      let stay = subst (Stay net laws is most_routes most_services up) (sym (same_histories net most_routes most_services run w follows)) kept.stay in
+      inl (hears w stay (length w.flights - length (forgotten run).queue) f
+      (subst (λ (ds : List Delivery). slice_get w.flights (length w.flights - length ds) ≡ Some f) (sym first) waits) (omega arith) word)
+  steps_heard Later After run w (Happens k event ∷ steps) follows so (inr later) =
+      let step = Happens k event in
+      let x = as_wire net most_routes most_services run w step in
+      inr (steps_heard Later After (stepped net most_routes most_services run step) (wired net most_routes most_services 0 w x) steps
+      (step_follows net most_routes most_services run w step follows) so later)
+  steps_heard Later After run w (Settles ∷ steps) follows so (inr later) =
+      let x = as_wire net most_routes most_services run w Settles in
+      inr (steps_heard Later After (stepped net most_routes most_services run Settles) (wired net most_routes most_services 0 w x) steps
+      (step_follows net most_routes most_services run w Settles follows) so later)
+
+  ticks_heard : (run : Run) (w : Wires) (ticks : List (List Step)) → Busy run ticks → Follows net most_routes most_services run w → HandedAtAll run ticks
+      → InBeats net most_routes most_services 0 IsHeard w (as_beats net most_routes most_services run w ticks)
+  ticks_heard run w [] busy follows handed = handed
+  ticks_heard run w (steps ∷ ticks) busy follows handed =
+      let next = run_of net most_routes most_services run steps in
+      let now = beaten (wires_of net most_routes most_services 0 w (as_beat net most_routes most_services run w steps)) in
+      steps_heard (λ last. HandedAtAll last ticks)
+      (λ last. InBeats net most_routes most_services 0 IsHeard (beaten last) (as_beats net most_routes most_services next now ticks))
+      run w steps follows (λ later. ticks_heard next now ticks busy.1 (tick_follows net most_routes most_services run w steps busy.0 follows) later) handed
+
+  -- ---- what is advertised is had
+
+  steps_has : (run : Run) (w : Wires) (steps : List Step) → Follows net most_routes most_services run w
+      → Along net most_routes most_services 0 Advertised w (as_beat net most_routes most_services run w steps) → HasIt run steps
+  steps_has run w [] follows along = subst (λ (hs : List History). Has (history_of hs from.router)) (same_histories net most_routes most_services run w follows) along
+  steps_has run w (step ∷ steps) follows along = (
+    subst (λ (hs : List History). Has (history_of hs from.router)) (same_histories net most_routes most_services run w follows) along.0,
+    steps_has (stepped net most_routes most_services run step) (wired net most_routes most_services 0 w (as_wire net most_routes most_services run w step)) steps
+        (step_follows net most_routes most_services run w step follows) along.1,
+  )
+
+  ticks_has : (run : Run) (w : Wires) (ticks : List (List Step)) → Busy run ticks → Follows net most_routes most_services run w
+      → EachBeat net most_routes most_services 0 (Along net most_routes most_services 0 Advertised) w (as_beats net most_routes most_services run w ticks)
+      → EachTick net most_routes most_services HasIt run ticks
+  ticks_has run w [] busy follows along = tt
+  ticks_has run w (steps ∷ ticks) busy follows along = (
+    steps_has run w steps follows along.0,
+    ticks_has (run_of net most_routes most_services run steps) (beaten (wires_of net most_routes most_services 0 w (as_beat net most_routes most_services run w steps))) ticks
+        busy.1 (tick_follows net most_routes most_services run w steps busy.0 follows) along.1,
+  )
+
+  -- ---- in any minute
+
+  pub heard_in_time : (run : Run) (w : Wires) (ticks : List (List Step)) → Goes net laws is most_routes most_services up run w ticks
+      → (before within later : List (List WireStep)) → as_beats net most_routes most_services run w ticks ≡ before ++ within ++ later → length within ≡ period
+      → EachBeat net most_routes most_services 0 (Along net most_routes most_services 0 Advertised) (beats_of net most_routes most_services 0 w before) within
+      → InBeats net most_routes most_services 0 IsHeard (beats_of net most_routes most_services 0 w before) within
+  heard_in_time run w ticks goes before within later parts wide along =
+      let now = beats_of net most_routes most_services 0 w before in
+      let middle = middle_of net most_routes most_services run w ticks before within later parts in
+      let next = ticked net most_routes most_services run middle.front in
+      let inside = middle_goes net laws is most_routes most_services up run w ticks before within middle goes in
+      let many = ap length middle.same ∙ wide in
+      let as_long = as_many net most_routes most_services next now middle.inside in
+      subst (λ (beats : List (List WireStep)). InBeats net most_routes most_services 0 IsHeard now beats) middle.same
+      (ticks_heard next now middle.inside inside.busy inside.follows
+      (said_once net laws is most_routes most_services up from on Has Word says next middle.inside inside.kept (omega (arith, many, as_long)) inside.busy inside.leave
+      (ticks_has next now middle.inside inside.busy inside.follows
+      (subst (λ (beats : List (List WireStep)). EachBeat net most_routes most_services 0 (Along net most_routes most_services 0 Advertised) now beats)
+      (sym middle.same) along))))
+
+-- ---- networks
 
 -- networks that are the same by number
 same_network : (a b : Network) → a.0 ≡ b.0 → a ≡ b
@@ -111,182 +214,37 @@ module _ (net : Internet) (laws : Layouts) (is : IsInternet net) (differ : Nodes
 
   -- ---- and it is heard
 
-  hears : (histories : List History) → Remain histories → (d : Delivery) → Word d
-      → (m : Heard) × (heard_after (ports_of net to.router) (history_of histories to.router) to.port d.bytes ≡ Some m) × Names (port_of net from).node network m
-  hears histories stay d word =
+  abbrev IsHeard : Wires → WireStep → Type 0
+  IsHeard = IsHeardFrom net most_routes most_services 0 to (port_of net from).node network
+
+  hears : (w : Wires) → Remain w.histories → (which : ℕ) (f : Flight) → slice_get w.flights which ≡ Some f → w.beats ≤ f.sent + 0 → Word f.delivery → IsHeard w (Lands which)
+  hears w stay which f flies soon word =
       let there = ports_of net to.router in
-      let history = history_of histories to.router in
-      let at_from = is_place net laws is most_routes most_services up histories stay from on_from in
-      let at_to = is_place net laws is most_routes most_services up histories stay to on_to in
+      let history = history_of w.histories to.router in
+      let at_from = is_place net laws is most_routes most_services up w.histories stay from on_from in
+      let at_to = is_place net laws is most_routes most_services up w.histories stay to on_to in
       let m = HeardRip (own_address (port_of net from)) (record { operation = Response; entries = word.page.page }) in
       let said = heard_page there (ports_up there history) to.port (subst (λ (us : List ℕ). is_up us to.port ≡ true) (sym (stay to.router)) on_to) (port_of net from)
-      one_network (differ from to at_from at_to other one_network) (port_is net is from at_from).node AnyEntry d.bytes word.page in (
+      one_network (differ from to at_from at_to other one_network) (port_is net is from at_from).node AnyEntry f.delivery.bytes word.page in (
+        f,
+        flies,
+        word.at,
+        soon,
         m,
-        subst (λ (b : Bool). heard there (ports_up there history) b to.port d.bytes ≡ Some m)
-            (sym (runs_there net laws is most_routes most_services up histories stay to on_to)) said,
+        subst (λ (b : Bool). heard there (ports_up there history) b to.port f.delivery.bytes ≡ Some m)
+            (sym (runs_there net laws is most_routes most_services up w.histories stay to on_to)) said,
         (refl, refl, is_some word.page.page word.has),
       )
 
-  abbrev Handed : (Run → Type 0) → Run → List Step → Type 0
-  Handed = HandedIn net laws is most_routes most_services up from on_from Has Word says
+  pub network_heard : (run : Run) (w : Wires) (ticks : List (List Step)) → Goes net laws is most_routes most_services up run w ticks
+      → (before within later : List (List WireStep)) → as_beats net most_routes most_services run w ticks ≡ before ++ within ++ later → length within ≡ period
+      → EachBeat net most_routes most_services 0 (Along net most_routes most_services 0 (Advertises net most_routes most_services 0 from network))
+      (beats_of net most_routes most_services 0 w before) within
+      → InBeats net most_routes most_services 0 IsHeard (beats_of net most_routes most_services 0 w before) within
+  network_heard = heard_in_time net laws is most_routes most_services up from on_from Has Word says IsHeard hears
 
-  abbrev HandedAtAll : Run → List (List Step) → Type 0
-  HandedAtAll = HandedInTicks net laws is most_routes most_services up from on_from Has Word says
-
-  abbrev HasIt : Run → List Step → Type 0
-  HasIt = HasAlong net laws is most_routes most_services up from on_from Has Word says
-
-  abbrev Heard_in : (Wires → Type 0) → Wires → List WireStep → Type 0
-  Heard_in = HeardInSteps net most_routes most_services 0 to (port_of net from).node network
-
-  steps_heard : (Later : Run → Type 0) (After : Wires → Type 0) (run : Run) (w : Wires) (steps : List Step) → Follows net most_routes most_services run w
-      → (Later (run_of net most_routes most_services run steps) → After (wires_of net most_routes most_services 0 w (as_beat net most_routes most_services run w steps)))
-      → Handed Later run steps → Heard_in After w (as_beat net most_routes most_services run w steps)
-  steps_heard Later After run w [] follows so later = so later
-  steps_heard Later After run w (Happens k event ∷ steps) follows so (inl none) = absurd none
-  steps_heard Later After run w (Settles ∷ steps) follows so (inl (d, rest, first, word, kept)) =
-      let queue : follows.queue ≡ d ∷ rest = sym (ap (λ (q : Queued). q.queue) follows.same) ∙ first in
-      let waits = first_waits net most_routes most_services w d rest follows.landed
-      (subst (λ (ds : List Delivery). w.flights ≡ follows.landed ++ map (λ q. record { delivery = q; sent = w.beats }) ds) queue follows.flights) in
-      let f : Flight = record { delivery = d; sent = w.beats } in
-      let heard_there = hears w.histories
-      (subst Remain (sym (same_histories net most_routes most_services run w follows)) kept.stay) d word in
-      inl (f, subst (λ (ds : List Delivery). slice_get w.flights (length w.flights - length ds) ≡ Some f) (sym first) waits, word.at, omega arith, heard_there.0, heard_there.1, heard_there.2)
-  steps_heard Later After run w (Happens k event ∷ steps) follows so (inr later) =
-      let step = Happens k event in
-      let x = as_wire net most_routes most_services run w step in
-      inr (steps_heard Later After (stepped net most_routes most_services run step) (wired net most_routes most_services 0 w x) steps
-      (step_follows net most_routes most_services run w step follows) so later)
-  steps_heard Later After run w (Settles ∷ steps) follows so (inr later) =
-      let x = as_wire net most_routes most_services run w Settles in
-      inr (steps_heard Later After (stepped net most_routes most_services run Settles) (wired net most_routes most_services 0 w x) steps
-      (step_follows net most_routes most_services run w Settles follows) so later)
-
-  abbrev Busy : Run → List (List Step) → Type 0
-  Busy = EachTick net most_routes most_services (IsBusyTick net most_routes most_services)
-
-  beats_heard : (run : Run) (w : Wires) (ticks : List (List Step)) → Busy run ticks → Follows net most_routes most_services run w → HandedAtAll run ticks
-      → HeardInBeats net most_routes most_services 0 to (port_of net from).node network w (as_beats net most_routes most_services run w ticks)
-  beats_heard run w [] busy follows handed = handed
-  beats_heard run w (steps ∷ ticks) busy follows handed =
-      let next = run_of net most_routes most_services run steps in
-      let now = beaten (wires_of net most_routes most_services 0 w (as_beat net most_routes most_services run w steps)) in
-      steps_heard (λ after. HandedAtAll after ticks)
-      (λ after. HeardInBeats net most_routes most_services 0 to (port_of net from).node network (beaten after) (as_beats net most_routes most_services next now ticks))
-      run w steps follows (λ later. beats_heard next now ticks busy.1 (tick_follows net most_routes most_services run w steps busy.0 follows) later) handed
-
-  steps_has : (run : Run) (w : Wires) (steps : List Step) → Follows net most_routes most_services run w
-      → Along net most_routes most_services 0 (Advertises net most_routes most_services 0 from network) w (as_beat net most_routes most_services run w steps)
-      → HasIt run steps
-  steps_has run w [] follows along = subst (λ (hs : List History). Has (history_of hs from.router)) (same_histories net most_routes most_services run w follows) along
-  steps_has run w (step ∷ steps) follows along = (
-    subst (λ (hs : List History). Has (history_of hs from.router)) (same_histories net most_routes most_services run w follows) along.0,
-    steps_has (stepped net most_routes most_services run step) (wired net most_routes most_services 0 w (as_wire net most_routes most_services run w step)) steps
-        (step_follows net most_routes most_services run w step follows) along.1,
-  )
-
-  ticks_has : (run : Run) (w : Wires) (ticks : List (List Step)) → Busy run ticks → Follows net most_routes most_services run w
-      → EachBeat net most_routes most_services 0 (Along net most_routes most_services 0 (Advertises net most_routes most_services 0 from network)) w
-      (as_beats net most_routes most_services run w ticks) → EachTick net most_routes most_services HasIt run ticks
-  ticks_has run w [] busy follows along = tt
-  ticks_has run w (steps ∷ ticks) busy follows along = (
-    steps_has run w steps follows along.0,
-    ticks_has (run_of net most_routes most_services run steps) (beaten (wires_of net most_routes most_services 0 w (as_beat net most_routes most_services run w steps))) ticks
-        busy.1 (tick_follows net most_routes most_services run w steps busy.0 follows) along.1,
-  )
-
-  -- in a minute
-  pub heard_in_a_minute : (run : Run) (w : Wires) (ticks : List (List Step)) → IsKept net laws is most_routes most_services up run → Busy run ticks
-      → EachStep LeavesPorts ticks → Follows net most_routes most_services run w → period ≤ length ticks
-      → EachBeat net most_routes most_services 0 (Along net most_routes most_services 0 (Advertises net most_routes most_services 0 from network)) w
-      (as_beats net most_routes most_services run w ticks)
-      → HeardInBeats net most_routes most_services 0 to (port_of net from).node network w (as_beats net most_routes most_services run w ticks)
-  heard_in_a_minute run w ticks kept busy leave follows long along =
-      beats_heard run w ticks busy follows
-      (said_once net laws is most_routes most_services up from on_from Has Word says run ticks kept (omega (arith, long)) busy leave
-      (ticks_has run w ticks busy follows along))
-
--- ---- at any time
-
-module _ (net : Internet) (laws : Layouts) (is : IsInternet net) (most_routes most_services : ℕ) (up : ℕ → List ℕ) where
-  abbrev beats_by : Run → Wires → List (List Step) → List (List WireStep)
-  beats_by = as_beats net most_routes most_services
-
-  abbrev after : Wires → List (List WireStep) → Wires
-  after = beats_of net most_routes most_services 0
-
-  -- ticks in which ports stay as they are, and the wires in which the same happens
-  pub record Goes (run : Run) (w : Wires) (ticks : List (List Step)) : Type 0 where
-    pub kept : IsKept net laws is most_routes most_services up run
-    pub follows : Follows net most_routes most_services run w
-    pub busy : EachTick net most_routes most_services (IsBusyTick net most_routes most_services) run ticks
-    pub leave : EachStep LeavesPorts ticks
-
-  tick_goes : (run : Run) (w : Wires) (steps : List Step) (ticks : List (List Step)) → Goes run w (steps ∷ ticks)
-      → Goes (run_of net most_routes most_services run steps)
-      (beaten (wires_of net most_routes most_services 0 w (as_beat net most_routes most_services run w steps))) ticks
-  tick_goes run w steps ticks goes = record {
-    kept = steps_keep net laws is most_routes most_services up run steps goes.busy.0.happens goes.leave.0 goes.kept;
-    follows = tick_follows net most_routes most_services run w steps goes.busy.0 goes.follows;
-    busy = goes.busy.1;
-    leave = goes.leave.1;
-  }
-
-  -- the ticks of the first of the beats
-  pub record Front (run : Run) (w : Wires) (front : List (List WireStep)) : Type 0 where
-    pub ticks : List (List Step)
-    pub same : beats_by run w ticks ≡ front
-    pub goes : Goes run w ticks
-
-  front_of : (run : Run) (w : Wires) (ticks : List (List Step)) (front rest : List (List WireStep)) → beats_by run w ticks ≡ front ++ rest → Goes run w ticks
-      → Front run w front
-  front_of run w ticks [] rest parts goes =
-      record { ticks = []; same = refl; goes = record { kept = goes.kept; follows = goes.follows; busy = tt; leave = tt } }
-  front_of run w [] (x ∷ front) rest parts goes = none_first x (front ++ rest) parts
-  front_of run w (steps ∷ ticks) (x ∷ front) rest parts goes =
-      let here = as_beat net most_routes most_services run w steps in
-      let next = run_of net most_routes most_services run steps in
-      let now = beaten (wires_of net most_routes most_services 0 w here) in
-      let behind = front_of next now ticks front rest (rest_of here x (beats_by next now ticks) (front ++ rest) parts) (tick_goes run w steps ticks goes) in
-      record {
-        ticks = steps ∷ behind.ticks;
-        same = ap₂ (λ (y : List WireStep) (ys : List (List WireStep)). y ∷ ys) (first_of here x (beats_by next now ticks) (front ++ rest) parts) behind.same;
-        goes = record {
-          kept = goes.kept;
-          follows = goes.follows;
-          busy = (goes.busy.0, behind.goes.busy);
-          leave = (goes.leave.0, behind.goes.leave);
-        };
-      }
-
-  -- and those of the rest
-  pub record Behind (w : Wires) (rest : List (List WireStep)) : Type 0 where
-    pub run : Run
-    pub ticks : List (List Step)
-    pub same : beats_by run w ticks ≡ rest
-    pub goes : Goes run w ticks
-
-  behind_of : (run : Run) (w : Wires) (ticks : List (List Step)) (front rest : List (List WireStep)) → beats_by run w ticks ≡ front ++ rest → Goes run w ticks
-      → Behind (after w front) rest
-  behind_of run w ticks [] rest parts goes = record { run = run; ticks = ticks; same = parts; goes = goes }
-  behind_of run w [] (x ∷ front) rest parts goes = none_first x (front ++ rest) parts
-  behind_of run w (steps ∷ ticks) (x ∷ front) rest parts goes =
-      let here = as_beat net most_routes most_services run w steps in
-      let next = run_of net most_routes most_services run steps in
-      let now = beaten (wires_of net most_routes most_services 0 w here) in
-      subst (λ (y : List WireStep). Behind (after (beaten (wires_of net most_routes most_services 0 w y)) front) rest)
-      (first_of here x (beats_by next now ticks) (front ++ rest) parts)
-      (behind_of next now ticks front rest (rest_of here x (beats_by next now ticks) (front ++ rest) parts) (tick_goes run w steps ticks goes))
-
-  pub in_time : NodesDiffer net → (run : Run) (w : Wires) (ticks : List (List Step)) → Goes run w ticks
-      → AreHeardInTime net most_routes most_services 0 period up w (beats_by run w ticks)
-  in_time differ run w ticks goes from to network before within later on_from on_to other one_network parts wide along =
-      let rest = behind_of run w ticks before (within ++ later) (parts ∙ append_assoc before within later) goes in
-      let part = front_of rest.run (after w before) rest.ticks within later rest.same rest.goes in
-      let many : length (beats_by rest.run (after w before) part.ticks) ≡ period = ap length part.same ∙ wide in
-      let as_long = as_many net most_routes most_services rest.run (after w before) part.ticks in
-      subst (λ (beats : List (List WireStep)). HeardInBeats net most_routes most_services 0 to (port_of net from).node network (after w before) beats) part.same
-      (heard_in_a_minute net laws is differ most_routes most_services up from to network on_from on_to other one_network rest.run (after w before) part.ticks
-      part.goes.kept part.goes.busy part.goes.leave part.goes.follows (omega (arith, many, as_long))
-      (subst (λ (beats : List (List WireStep)). EachBeat net most_routes most_services 0
-      (Along net most_routes most_services 0 (Advertises net most_routes most_services 0 from network)) (after w before) beats) (sym part.same) along))
+pub in_time : (net : Internet) (laws : Layouts) (is : IsInternet net) (most_routes most_services : ℕ) (up : ℕ → List ℕ) → NodesDiffer net → (run : Run) (w : Wires)
+    (ticks : List (List Step)) → Goes net laws is most_routes most_services up run w ticks
+    → AreHeardInTime net most_routes most_services 0 period up w (as_beats net most_routes most_services run w ticks)
+in_time net laws is most_routes most_services up differ run w ticks goes from to network before within later on_from on_to other one_network =
+    network_heard net laws is differ most_routes most_services up from to network on_from on_to other one_network run w ticks goes before within later

@@ -29,22 +29,19 @@ use Rattle.ipx_laws.specs.Meanwhile.{LeavesPorts, SaysOnly}
 use Rattle.ipx_laws.specs.Regular.{HasRoomFor, IsListedName, NoneNearer}
 use Rattle.ipx_laws.specs.Servers.{Announcer, Server, IsOf, at_hops, known_of, SaysNoFalse, NamesOnly, IsAway, IsFewest}
 use Rattle.ipx_laws.specs.Ups.{ups}
-use Rattle.ipx_laws.specs.WireRegular.{NamesService, InBeats, IsHostHeard, IsRouterHeard, AdvertisesService, AreHostsInTime, AreRoutersInTime, most_beats_known}
-use Rattle.ipx_laws.specs.Wires.{Flight, Wires, WireStep, Occurs, Lands, as_step, flying, beats_of, Along, EachBeat, IsBeat, AreBeats, EachWireStep, most_beats_gone, most_beats_flying}
+use Rattle.ipx_laws.specs.WireRegular.{NamesService, IsHostHeard, IsRouterHeard, AdvertisesService, AreHostsInTime, AreRoutersInTime, most_beats_known}
+use Rattle.ipx_laws.specs.Wires.{Flight, Wires, WireStep, Occurs, Lands, as_step, flying, beats_of, Along, EachBeat, IsBeat, AreBeats, EachWireStep, most_beats_gone, most_beats_flying, InBeats}
 use Rattle.ipx_laws.proofs.lists.SomeElement.{any_then}
 use Rattle.ipx_laws.proofs.records.RecordsGrowOld.{at_last}
 use Rattle.ipx_laws.proofs.services.ExactWords.{IsNearer, Words, all_given, told_so, news_so, only_so, few}
-use Rattle.ipx_laws.proofs.services.FewestHops.{Link, neighbour, no_nearer, held_elsewhere}
+use Rattle.ipx_laws.proofs.services.FewestHops.{Link, neighbour, no_nearer, held_elsewhere, IsSaid, is_said, held_off}
 use Rattle.ipx_laws.proofs.services.HostsApart.{HostsApart}
-use Rattle.ipx_laws.proofs.services.KnownByFewestHops.{IsSaid, is_said}
 use Rattle.ipx_laws.proofs.services.NearestHost.{Sought, sought_of, SaidBy, OfNeighbour, Good}
 use Rattle.ipx_laws.proofs.services.ServiceIsTold.{told_there}
-use Rattle.ipx_laws.proofs.services.SoundAtEachStep.{held_off}
 use Rattle.ipx_laws.proofs.services.SpokenOfAServer.{IsFine, waits_so}
 use Rattle.ipx_laws.proofs.wires.BeatAfterBeat.{along_all, along_then, beats_go, steps_each}
 use Rattle.ipx_laws.proofs.wires.HeardInBeats.{any_index, in_beats_so, announces_names}
-use Rattle.ipx_laws.proofs.wires.PartsOfBeats.{window_quick, beat_quick, Begins, beats_more, each_at, along_each, along_both, beats_begin}
-use Rattle.ipx_laws.proofs.wires.RightOnWires.{parted}
+use Rattle.ipx_laws.proofs.wires.PartsOfBeats.{parted, window_quick, beat_quick, Begins, beats_more, each_at, along_each, along_both, beats_begin}
 use Rattle.ipx_laws.proofs.wires.ServedOnWires.{ends, nothing_more}
 use Rattle.ipx_laws.proofs.wires.ServiceHeardOnWires.{IsHeardAt, window_right, beat_right}
 use Rattle.ipx_laws.proofs.wires.ServicesOnWires.{AnyHistory, AnyWord, Flies, Speaks, Lasts, Arises, Good as GoodHistories, Extras, Goes, AllGood, Such, keeps, such_beats, steps_arise}

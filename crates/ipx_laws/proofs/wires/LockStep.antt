@@ -1,5 +1,5 @@
 -- Lock step is an instance of wires: a busy tick is a beat with no delay, in which what is handed out lands.
-use Rattle.std.proofs.Common.{◌≡◌, refl, sym, ap, ◌∙◌, subst, ℕ, suc, ◌+◌, ◌-◌, ◌≤◌, nat_le, true, List, [], ◌∷◌, ◌++◌, length, map, flat_map, Some, None, slice_get, arith, append_assoc, append-nil}
+use Rattle.std.proofs.Common.{◌≡◌, refl, sym, ap, ap₂, ◌∙◌, subst, ℕ, suc, ◌+◌, ◌-◌, ◌≤◌, nat_le, true, List, [], ◌∷◌, ◌++◌, length, map, flat_map, Some, None, slice_get, arith, append_assoc, append-nil}
 use Rattle.std.specs.List.{AllByRecursion}
 use Rattle.std.proofs.lemmas.Bool.{le-leb}
 use Rattle.std.proofs.lemmas.List.{map-append, length-append, length-map}
@@ -18,6 +18,7 @@ use Rattle.ipx_laws.specs.Meanwhile.{EachStep, StaysGone, EachTick}
 use Rattle.ipx_laws.specs.WireAnnounces.{WasSaid, WasAnnounced}
 use Rattle.ipx_laws.specs.Wires.{Flight, Wires, WireStep, Occurs, Lands, as_step, still, beaten, occurs, lands, wired, wires_of, beats_of, Along, KeepGone, AreBeats, EachWireStep}
 use Rattle.ipx_laws.proofs.lists.FirstAndRest.{first_of, rest_of, none_first}
+use Rattle.ipx_laws.proofs.tables.TablesAreRight.{parts_of as ticks_parts}
 use Rattle.ipx_laws.proofs.ticks.AfterEachStep.{AfterEach}
 use Rattle.ipx_laws.proofs.wires.BeatAfterBeat.{along_first}
 
@@ -64,7 +65,7 @@ module _ (net : Internet) (most_routes most_services : ℕ) where
   as_it_was run w (Happens router event) = refl
   as_it_was run w Settles = refl
 
-  same_steps : (run : Run) (w : Wires) (steps : List Step) → map as_step (as_beat run w steps) ≡ steps
+  pub same_steps : (run : Run) (w : Wires) (steps : List Step) → map as_step (as_beat run w steps) ≡ steps
   same_steps run w [] = refl
   same_steps run w (Happens router event ∷ steps) = ap (λ rest. Happens router event ∷ rest) (same_steps (one run (Happens router event)) (wire w (Occurs router event)) steps)
   same_steps run w (Settles ∷ steps) = ap (λ rest. Settles ∷ rest) (same_steps (one run Settles) (wire w (as_wire run w Settles)) steps)
@@ -78,6 +79,51 @@ module _ (net : Internet) (most_routes most_services : ℕ) where
   pub as_many : (run : Run) (w : Wires) (ticks : List (List Step)) → length (as_beats run w ticks) ≡ length ticks
   as_many run w [] = refl
   as_many run w (steps ∷ ticks) = ap suc (as_many (by run steps) (beaten (wires w (as_beat run w steps))) ticks)
+
+  -- ---- one after the other
+
+  pub beat_more : (run : Run) (w : Wires) (steps more : List Step)
+      → as_beat run w (steps ++ more) ≡ as_beat run w steps ++ as_beat (by run steps) (wires w (as_beat run w steps)) more
+  beat_more run w [] more = refl
+  beat_more run w (step ∷ steps) more =
+      let here = as_wire run w step in
+      ap (λ (rest : List WireStep). here ∷ rest) (beat_more (one run step) (wire w here) steps more)
+
+  pub beats_more : (run : Run) (w : Wires) (ticks more : List (List Step))
+      → as_beats run w (ticks ++ more)
+      ≡ as_beats run w ticks ++ as_beats (ticked net most_routes most_services run ticks) (beats_of net most_routes most_services 0 w (as_beats run w ticks)) more
+  beats_more run w [] more = refl
+  beats_more run w (steps ∷ ticks) more =
+      let here = as_beat run w steps in
+      ap (λ (rest : List (List WireStep)). here ∷ rest) (beats_more (by run steps) (beaten (wires w here)) ticks more)
+
+  -- the ticks of the first of the beats, and those of the rest
+  pub record Parts (run : Run) (w : Wires) (ticks : List (List Step)) (front rest : List (List WireStep)) : Type 0 where
+    pub first : List (List Step)
+    pub later : List (List Step)
+    pub whole : ticks ≡ first ++ later
+    pub fore : as_beats run w first ≡ front
+    pub behind : as_beats (ticked net most_routes most_services run first) (beats_of net most_routes most_services 0 w front) later ≡ rest
+
+  pub parts_of : (run : Run) (w : Wires) (ticks : List (List Step)) (front rest : List (List WireStep)) → as_beats run w ticks ≡ front ++ rest
+      → Parts run w ticks front rest
+  parts_of run w ticks [] rest parts = record { first = []; later = ticks; whole = refl; fore = refl; behind = parts }
+  parts_of run w [] (x ∷ front) rest parts = none_first x (front ++ rest) parts
+  parts_of run w (steps ∷ ticks) (x ∷ front) rest parts =
+      let here = as_beat run w steps in
+      let next = by run steps in
+      let now = beaten (wires w here) in
+      let same = first_of here x (as_beats next now ticks) (front ++ rest) parts in
+      let inner = parts_of next now ticks front rest (rest_of here x (as_beats next now ticks) (front ++ rest) parts) in
+      record {
+        first = steps ∷ inner.first;
+        later = inner.later;
+        whole = ap (λ (ts : List (List Step)). steps ∷ ts) inner.whole;
+        fore = ap₂ (λ (y : List WireStep) (ys : List (List WireStep)). y ∷ ys) same inner.fore;
+        behind =
+            subst (λ (y : List WireStep).
+            as_beats (ticked net most_routes most_services next inner.first) (beats_of net most_routes most_services 0 (beaten (wires w y)) front) inner.later ≡ rest) same inner.behind;
+      }
 
   beat_says : (Says : Step → Type 0) (run : Run) (w : Wires) (steps : List Step) → AllByRecursion Says steps
       → AllByRecursion (λ step. Says (as_step step)) (as_beat run w steps)
@@ -163,7 +209,7 @@ module _ (net : Internet) (most_routes most_services : ℕ) where
       (settles_follows (one run Settles) w follows.queue follows.landed
       (deliveries net most_routes most_services run ∙ ap (settled_one net most_routes most_services) follows.same) follows.flights)
 
-  steps_follow : (run : Run) (w : Wires) (steps : List Step) → Follows run w → Follows (by run steps) (wires w (as_beat run w steps))
+  pub steps_follow : (run : Run) (w : Wires) (steps : List Step) → Follows run w → Follows (by run steps) (wires w (as_beat run w steps))
   steps_follow run w [] follows = follows
   steps_follow run w (step ∷ steps) follows = steps_follow (one run step) (wire w (as_wire run w step)) steps (step_follows run w step follows)
 
@@ -242,33 +288,6 @@ module _ (net : Internet) (most_routes most_services : ℕ) where
       subst (λ (y : WireStep). Follows (by (one run (as_step y)) (map as_step earlier)) (wires (wire w y) earlier)) (first_of here x behind (earlier ++ later) parts)
       (subst (λ (s : Step). Follows (by (one run s) (map as_step earlier)) (wires next earlier)) (sym (as_it_was run w step)) after)
 
-  within_beats : (run : Run) (w : Wires) (ticks : List (List Step)) (before : List (List WireStep)) (beat : List WireStep) (after : List (List WireStep))
-      (earlier later : List WireStep) → EachTick net most_routes most_services (IsBusyTick net most_routes most_services) run ticks → Follows run w
-      → as_beats run w ticks ≡ before ++ beat ∷ after → beat ≡ earlier ++ later
-      → Follows (by (ticked net most_routes most_services run (map (map as_step) before)) (map as_step earlier))
-      (wires (beats_of net most_routes most_services 0 w before) earlier)
-  within_beats run w [] [] beat after earlier later busy follows parts of_beat = none_first beat after parts
-  within_beats run w [] (x ∷ before) beat after earlier later busy follows parts of_beat = none_first x (before ++ beat ∷ after) parts
-  within_beats run w (steps ∷ ticks) [] beat after earlier later busy follows parts of_beat =
-      let here = as_beat run w steps in
-      within_a_beat run w steps earlier later
-      (first_of here beat (as_beats (by run steps) (beaten (wires w here)) ticks) after parts ∙ of_beat) follows
-  within_beats run w (steps ∷ ticks) (x ∷ before) beat after earlier later busy follows parts of_beat =
-      let here = as_beat run w steps in
-      let next = beaten (wires w here) in
-      let behind = as_beats (by run steps) next ticks in
-      let rest = before ++ beat ∷ after in
-      let there = within_beats (by run steps) next ticks before beat after earlier later busy.1 (tick_follows run w steps busy.0 follows)
-      (rest_of here x behind rest parts) of_beat in
-      subst (λ (y : List WireStep).
-      Follows (by (ticked net most_routes most_services (by run (map as_step y)) (map (map as_step) before)) (map as_step earlier))
-      (wires (beats_of net most_routes most_services 0 (beaten (wires w y)) before) earlier))
-      (first_of here x behind rest parts)
-      (subst (λ (s : List Step).
-      Follows (by (ticked net most_routes most_services (by run s) (map (map as_step) before)) (map as_step earlier))
-      (wires (beats_of net most_routes most_services 0 next before) earlier))
-      (sym (same_steps run w steps)) there)
-
   -- ---- from a run where nothing waits, through busy ticks
 
   module _ (run : Run) (quiet : run.waiting ≡ []) (ticks : List (List Step)) where
@@ -283,32 +302,46 @@ module _ (net : Internet) (most_routes most_services : ℕ) where
 
       -- what was said in these beats was said in these ticks
       said : (s : Service) → WasSaid net most_routes most_services 0 (still run.histories) beats_from s → IsSaid net most_routes most_services run ticks s
-      said s was =
-          let before = map (map as_step) was.before in
-          let earlier = map as_step was.earlier in
-          let step = Occurs was.router (Packet was.number was.bytes) in
-          let now = within_beats run (still run.histories) ticks was.before was.beat was.after was.earlier (step ∷ was.later) busy (follows_still run quiet)
-          was.of_beats was.of_beat in
-          let there = by (ticked net most_routes most_services run before) earlier in
-          record {
-            before = before;
-            tick = map as_step was.beat;
-            after = map (map as_step) was.after;
-            of_ticks = sym (same_ticks run (still run.histories) ticks) ∙ ap (map (map as_step)) was.of_beats
-                ∙ map-append (map as_step) was.before (was.beat ∷ was.after);
-            earlier = earlier;
-            router = was.router;
-            number = was.number;
-            bytes = was.bytes;
-            later = map as_step was.later;
-            of_tick = ap (map as_step) was.of_beat ∙ map-append as_step was.earlier (step ∷ was.later);
-            accepted = subst (λ (hs : List History). IsAccepted (ports_of net was.router) most_routes most_services (history_of hs was.router) was.number was.bytes)
-                (same_histories there (wires (beats_of net most_routes most_services 0 (still run.histories) was.before) was.earlier) now) was.accepted;
-            message = was.message;
-            heard = was.heard;
-            which_entry = was.which_entry;
-            says = was.says;
-          }
+      said s was = in_tick parts.later parts.whole parts.behind
+        where
+          parts : Parts run (still run.histories) ticks was.before (was.beat ∷ was.after)
+          parts = parts_of run (still run.histories) ticks was.before (was.beat ∷ was.after) was.of_beats
+
+          last : Run
+          last = ticked net most_routes most_services run parts.first
+
+          now : Wires
+          now = beats_of net most_routes most_services 0 (still run.histories) was.before
+
+          in_tick : (later : List (List Step)) → ticks ≡ parts.first ++ later → as_beats last now later ≡ was.beat ∷ was.after
+              → IsSaid net most_routes most_services run ticks s
+          in_tick [] whole same = none_first was.beat was.after same
+          in_tick (steps ∷ later) whole same =
+              let step = Occurs was.router (Packet was.number was.bytes) in
+              let beat = first_of (as_beat last now steps) was.beat _ was.after same ∙ was.of_beat in
+              let front = (ticks_parts net most_routes most_services (IsBusyTick net most_routes most_services) run parts.first (steps ∷ later)
+              (subst (λ (ts : List (List Step)). EachTick net most_routes most_services (IsBusyTick net most_routes most_services) run ts) whole busy)).0 in
+              let follows = subst (λ (bs : List (List WireStep)). Follows last (beats_of net most_routes most_services 0 (still run.histories) bs)) parts.fore
+              (ticks_follow run (still run.histories) parts.first front (follows_still run quiet)) in
+              record {
+                before = parts.first;
+                tick = steps;
+                after = later;
+                of_ticks = whole;
+                earlier = map as_step was.earlier;
+                router = was.router;
+                number = was.number;
+                bytes = was.bytes;
+                later = map as_step was.later;
+                of_tick = sym (same_steps last now steps) ∙ ap (map as_step) beat ∙ map-append as_step was.earlier (step ∷ was.later);
+                accepted = subst (λ (hs : List History). IsAccepted (ports_of net was.router) most_routes most_services (history_of hs was.router) was.number was.bytes)
+                    (same_histories (by last (map as_step was.earlier)) (wires now was.earlier)
+                    (within_a_beat last now steps was.earlier (step ∷ was.later) beat follows)) was.accepted;
+                message = was.message;
+                heard = was.heard;
+                which_entry = was.which_entry;
+                says = was.says;
+              }
 
       pub announced : (s : Service) → WasAnnounced net most_routes most_services 0 (still run.histories) beats_from s → IsAnnounced net most_routes most_services run ticks s
       announced s was = record { hops = was.hops; no_more = was.no_more; said = said (record s { hops = was.hops }) was.said }

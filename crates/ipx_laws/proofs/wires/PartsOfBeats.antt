@@ -1,5 +1,5 @@
 -- Beats in parts: what is so of each of them, of those before and of those behind; how many have ended, and how old what flies is.
-use Rattle.std.proofs.Common.{◌≡◌, refl, sym, ap, subst, ℕ, suc, ◌+◌, ◌<◌, ◌≤◌, nat_le, Bool, true, false, if◌then◌else◌, List, [], ◌∷◌, ◌++◌, length, map, flat_map, Option, None, Some, slice_get, arith, append_assoc, append-nil, length-append, ◌∙◌}
+use Rattle.std.proofs.Common.{◌≡◌, refl, sym, ap, subst, ℕ, zero, suc, ◌+◌, ◌<◌, ◌≤◌, nat_le, Bool, true, false, if◌then◌else◌, List, [], ◌∷◌, ◌++◌, length, map, flat_map, Option, None, Some, slice_get, arith, append_assoc, append-nil, length-append, ◌∙◌}
 use Rattle.std.specs.List.{AllByRecursion}
 use Rattle.ipx_table.specs.Alive.{lifetime}
 use Rattle.ipx_router.specs.History.{Event, Packet}
@@ -9,6 +9,13 @@ use Rattle.ipx_internet.specs.Queue.{deliveries_of, sends_at}
 use Rattle.ipx_internet.proofs.lists.EachElement.{all_of, all_then, all-append, all_mapped}
 use Rattle.ipx_laws.specs.InTime.{seconds_in, AreQuick}
 use Rattle.ipx_laws.specs.Wires.{as_step, Flight, Wires, WireStep, Occurs, Lands, beaten, occurs, lands, wired, wires_of, beats_of, Along, EachBeat}
+
+-- a list in two parts, the first of that length
+pub parted : {X : Type 0} (k : ℕ) (xs : List X) → k ≤ length xs → (front : List X) × (back : List X) × (xs ≡ front ++ back) × (length front ≡ k)
+parted zero xs some = ([], xs, refl, refl)
+parted (suc k) [] some = absurd (omega (arith, some))
+parted (suc k) (x ∷ xs) some =
+    let (front, back, same, count) = parted k xs (omega (arith, some)) in (x ∷ front, back, ap (λ (ys : List _). x ∷ ys) same, ap suc count)
 
 module _ (net : Internet) (most_routes most_services delay : ℕ) where
   abbrev by : Wires → List (List WireStep) → Wires

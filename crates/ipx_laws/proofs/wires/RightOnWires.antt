@@ -1,12 +1,13 @@
 -- Over wires all tables become right, hop by hop: where all routers are right whose least ways have fewer hops, those with one hop more are after what
 -- still flies and a window in which their neighbours are heard.
-use Rattle.std.proofs.Common.{◌≡◌, refl, sym, ap, ◌∙◌, subst, ◌⊎◌, ℕ, zero, suc, ◌+◌, ◌-◌, ◌*◌, ◌<◌, ◌≤◌, List, [], ◌∷◌, ◌++◌, length, find, Option, None, Some, option_map, inl, inr, arith, append_assoc, length-append, is_eq}
+use Rattle.std.proofs.Common.{◌≡◌, refl, sym, ap, ◌∙◌, subst, ◌⊎◌, ℕ, zero, suc, ◌+◌, ◌-◌, ◌*◌, ◌<◌, ◌≤◌, true, List, [], ◌∷◌, ◌++◌, length, find, Option, None, Some, option_map, inl, inr, arith, append_assoc, length-append, is_eq}
 use Rattle.std.specs.List.{AllByRecursion}
 use Rattle.std.proofs.lemmas.Bool.{cases_lt}
 use Rattle.ipx_table.specs.Alive.{lifetime}
 use Rattle.ipx_wire.specs.declared.rip.RipEntry.{RipEntry}
 use Rattle.ipx_router.specs.History.{History}
 use Rattle.ipx_router.specs.Outgoing.{route_to}
+use Rattle.ipx_router.specs.Port.{is_up}
 use Rattle.ipx_router.specs.Routes.{network_order}
 use Rattle.ipx_router.specs.declared.route_offer.RouteOffer.{RouteOffer}
 use Rattle.ipx_router.proofs.lists.EachElement.{all_before, all_behind, all_both}
@@ -16,32 +17,35 @@ use Rattle.ipx_internet.specs.Rounds.{IsDelivery}
 use Rattle.ipx_internet.specs.Run.{AreHistories}
 use Rattle.ipx_internet.proofs.lists.EachElement.{all_of, all_then, all_mapped}
 use Rattle.ipx_internet.proofs.trees.RunIsALog.{router_there}
-use Rattle.ipx_laws.specs.Apart.{TellsOnlyOf}
 use Rattle.ipx_laws.specs.Gone.{most_ticks_gone}
-use Rattle.ipx_laws.specs.InTime.{Advertises, HeardInBeats, AreHeardInTime, beats_right, seconds_in, AreQuick}
+use Rattle.ipx_laws.specs.InTime.{Advertises, IsHeardFrom, AreHeardInTime, beats_right, seconds_in, AreQuick}
 use Rattle.ipx_laws.specs.Least.{Way, least_route, way_of}
-use Rattle.ipx_laws.specs.Meanwhile.{LeavesPorts, SaysOnly}
+use Rattle.ipx_laws.specs.Meanwhile.{LeavesPorts}
+use Rattle.ipx_laws.specs.Outsiders.{AreStopped, SaysTruly, LeadsByOutsider}
+use Rattle.ipx_laws.specs.OutsidersInTime.{IsHeardOutside, AreOutsidersInTime}
 use Rattle.ipx_laws.specs.Ups.{ups}
-use Rattle.ipx_laws.specs.Wires.{Flight, Wires, WireStep, as_step, flying, beats_of, Along, EachBeat, IsBeat, AreBeats, EachWireStep, most_beats_gone, most_beats_flying}
+use Rattle.ipx_laws.specs.Wires.{Flight, Wires, WireStep, as_step, flying, beats_of, Along, EachBeat, IsBeat, AreBeats, EachWireStep, InBeats, most_beats_gone, most_beats_flying}
 use Rattle.ipx_laws.proofs.tables.Given.{Given}
 use Rattle.ipx_laws.proofs.tables.GoodRoutesStay.{right_way}
 use Rattle.ipx_laws.proofs.tables.LeastWays.{within, on_or_off, OnOrOff, few, is_there, same_some}
-use Rattle.ipx_laws.proofs.tables.NoRouteIsBetter.{a_source}
+use Rattle.ipx_laws.proofs.tables.NoRouteIsBetter.{there_where_up, a_source}
 use Rattle.ipx_laws.proofs.tables.SaysWhatItKnows.{Wants, wants, SourceOf, found_there}
 use Rattle.ipx_laws.proofs.tables.TablesAreRight.{none_on, none_without}
 use Rattle.ipx_laws.proofs.wires.BeatAfterBeat.{along_all, along_then, beats_go, steps_each}
-use Rattle.ipx_laws.proofs.wires.HeardOnWires.{window_right, beat_right}
-use Rattle.ipx_laws.proofs.wires.PartsOfBeats.{window_quick, beat_quick, Begins, beats_more, each_at, each_then, along_each, along_both, beats_begin}
+use Rattle.ipx_laws.proofs.wires.HeardOnWires.{IsHeardOf, window_right, beat_right}
+use Rattle.ipx_laws.proofs.wires.HeardInBeats.{in_beats_so}
+use Rattle.ipx_laws.proofs.wires.PartsOfBeats.{parted, window_quick, beat_quick, Begins, beats_more, each_at, each_then, along_each, along_both, beats_begin}
 use Rattle.ipx_laws.proofs.wires.RealOnWires.{ends, nothing_more}
 use Rattle.ipx_laws.proofs.wires.SpokenOnWires.{AnyHistory, AnyEntry, Flies, Speaks, Lasts, Arises, Good, Goes, AllGood, Such, keeps, such_beats, steps_arise, comes_then, Told}
-use Rattle.ipx_laws.proofs.wires.WordsOnWires.{Lasting, HasIt, Fit, Extra, as_in_ticks, extras, advertises, a_hop, routes_in}
+use Rattle.ipx_laws.proofs.wires.WordsOnWires.{StrangeOf, truth_of, Lasting, HasIt, Fit, Extra, as_in_ticks, extras, advertises, a_hop, routes_in}
 
--- a list in two parts, the first of that length
-pub parted : {X : Type 0} (k : ℕ) (xs : List X) → k ≤ length xs → (front : List X) × (back : List X) × (xs ≡ front ++ back) × (length front ≡ k)
-parted zero xs some = ([], xs, refl, refl)
-parted (suc k) [] some = absurd (omega (arith, some))
-parted (suc k) (x ∷ xs) some =
-    let (front, back, same, count) = parted k xs (omega (arith, some)) in (x ∷ front, back, ap (λ (ys : List _). x ∷ ys) same, ap suc count)
+-- where all routers are ours, no way leads by an outsider
+pub none_lead : (given : Given) (to from : Place) → LeadsByOutsider given.net given.up (length given.net) given.network to from → ⊥
+none_lead given to from leads =
+    let there = there_where_up given.net given.is given.cheap given.up given.in_ports given.network from.router from.port leads.there in
+    let inside = router_there given.net from.router from.port there in
+    let outside = leads.an_outsider in
+    omega (arith, inside, outside)
 
 module _ (delay slack : ℕ) (given : Given) where
   open given use {net, laws, is, cheap, up, in_ports, most_routes, most_services, foreign, network, suffice}
@@ -77,11 +81,12 @@ module _ (delay slack : ℕ) (given : Given) where
 
   -- ---- beats
 
-  module _ (window : ℕ) (histories : List History) (are : AreHistories net histories)
-      (stay : (router : ℕ) → ups net histories router ≡ up router) (deliveries : List Delivery) (fly : AllByRecursion (IsDelivery net) deliveries)
+  module _ (window : ℕ) (ours : ℕ) (histories : List History) (are : AreHistories net histories)
+      (stay : (router : ℕ) → router < ours → ups net histories router ≡ up router) (stopped : AreStopped net ours histories) (deliveries : List Delivery) (fly : AllByRecursion (IsDelivery net) deliveries)
       (over : (deliveries ≡ []) ⊎ (most_beats_flying delay ≤ slack)) (beats : List (List WireStep)) (all : AreBeats net beats)
-      (leave : EachWireStep LeavesPorts beats) (say : EachWireStep (SaysOnly (TellsOnlyOf foreign)) beats) (quick : AreQuick net window beats)
-      (hear : AreHeardInTime net most_routes most_services delay window up (flying histories deliveries) beats) where
+      (leave : EachWireStep LeavesPorts beats) (say : EachWireStep (SaysTruly net up ours foreign (StrangeOf given)) beats) (quick : AreQuick net window beats)
+      (hear : AreHeardInTime net most_routes most_services delay window (ups net histories) (flying histories deliveries) beats)
+      (outsiders : AreOutsidersInTime net most_routes most_services delay window up ours network (flying histories deliveries) beats) where
     abbrev at : List (List WireStep) → Wires
     at front = beats_of net most_routes most_services delay (flying histories deliveries) front
 
@@ -89,7 +94,7 @@ module _ (delay slack : ℕ) (given : Given) where
     StepsLeave steps = AllByRecursion (λ step. LeavesPorts (as_step step)) steps
 
     abbrev StepsSay : List WireStep → Type 0
-    StepsSay steps = AllByRecursion (λ step. SaysOnly (TellsOnlyOf foreign) (as_step step)) steps
+    StepsSay steps = AllByRecursion (λ step. SaysTruly net up ours foreign (StrangeOf given) (as_step step)) steps
 
     -- ---- parts of them
 
@@ -101,9 +106,9 @@ module _ (delay slack : ℕ) (given : Given) where
       rest_of P every = all_behind P front rest (subst (λ (bs : List (List WireStep)). AllByRecursion P bs) parts every)
 
       -- after the first of them
-      reals : Goes delay slack net laws is most_routes most_services up foreign AnyHistory AnyEntry (length front + 0) (λ router. 0) (at front)
+      reals : Goes delay slack net laws is most_routes most_services up foreign ours (StrangeOf given) (truth_of given) AnyHistory AnyEntry (length front + 0) (λ router. 0) (at front)
       reals =
-          ends delay slack net laws is most_routes most_services up foreign histories are stay deliveries fly over front (part_of (IsBeat net) all)
+          ends delay slack net laws is most_routes most_services up foreign ours (StrangeOf given) (truth_of given) histories are stay stopped deliveries fly over front (part_of (IsBeat net) all)
           (part_of StepsLeave leave) (part_of StepsSay say)
 
       -- what flies was sent before
@@ -130,32 +135,32 @@ module _ (delay slack : ℕ) (given : Given) where
     abbrev Moments : (n : ℕ) → suc n ≤ 15 → Type 0
     Moments n most =
         (front : List (List WireStep)) (steps : List WireStep) (rest : List (List WireStep)) → beats ≡ front ++ steps ∷ rest → steps_right_from n ≤ length front
-        → Along net most_routes most_services delay (λ now. (router : ℕ) → router < length net → Fit delay slack given (suc n) most router (history_of now.histories router))
+        → Along net most_routes most_services delay (λ now. (router : ℕ) → router < length net → router < ours → Fit delay slack given (suc n) most router (history_of now.histories router))
         (at front) steps
 
     beat_is : (front : List (List WireStep)) (steps : List WireStep) (rest : List (List WireStep)) → beats ≡ front ++ steps ∷ rest → IsBeat net steps
     beat_is front steps rest parts = (rest_of front (steps ∷ rest) parts (IsBeat net) all).0
 
     such_real : (front : List (List WireStep)) (steps : List WireStep) (rest : List (List WireStep)) → beats ≡ front ++ steps ∷ rest
-        → Such delay slack net laws is most_routes most_services up foreign AnyHistory AnyEntry (at front) steps
+        → Such delay slack net laws is most_routes most_services up foreign ours (StrangeOf given) (truth_of given) AnyHistory AnyEntry (at front) steps
     such_real front steps rest parts = record {
       arise =
-          steps_arise delay slack net laws is most_routes most_services up foreign AnyHistory AnyEntry (at front) steps (rest_of front (steps ∷ rest) parts StepsLeave leave).0
+          steps_arise delay slack net laws is most_routes most_services up foreign ours (StrangeOf given) (truth_of given) AnyHistory AnyEntry (at front) steps (rest_of front (steps ∷ rest) parts StepsLeave leave).0
           (rest_of front (steps ∷ rest) parts StepsSay say).0;
-      good = along_all net most_routes most_services delay (λ now. (router : ℕ) → router < length net → Unit {0}) (λ now router inside. tt) (at front) steps;
+      good = along_all net most_routes most_services delay (λ now. (router : ℕ) → router < length net → router < ours → Unit {0}) (λ now router inside mine. tt) (at front) steps;
     }
 
     -- nobody wants a route of no hop
     first_moments : (most : 1 ≤ 15) → Moments 0 most
     first_moments most front steps rest parts long =
-        steps_each net laws is most_routes most_services delay (Lasts delay slack net laws is most_routes most_services up foreign AnyHistory AnyEntry)
-        (Flies delay slack net laws is most_routes most_services up foreign AnyHistory AnyEntry)
-        (Arises delay slack net laws is most_routes most_services up foreign AnyHistory AnyEntry)
-        (Good delay slack net laws is most_routes most_services up foreign AnyHistory AnyEntry)
-        (keeps delay slack net laws is most_routes most_services up foreign AnyHistory AnyEntry (nothing_more delay slack net laws is most_routes most_services up foreign))
-        (λ now. (router : ℕ) → router < length net → Fit delay slack given 1 most router (history_of now.histories router)) (length front + 0)
-        (λ seconds now going router inside. record {
-          ups = (going.routers router 0 inside (omega arith) (omega arith)).ups;
+        steps_each net laws is most_routes most_services delay (Lasts delay slack net laws is most_routes most_services up foreign ours (StrangeOf given) (truth_of given) AnyHistory AnyEntry)
+        (Flies delay slack net laws is most_routes most_services up foreign ours (StrangeOf given) (truth_of given) AnyHistory AnyEntry)
+        (Arises delay slack net laws is most_routes most_services up foreign ours (StrangeOf given) (truth_of given) AnyHistory AnyEntry)
+        (Good delay slack net laws is most_routes most_services up foreign ours (StrangeOf given) (truth_of given) AnyHistory AnyEntry)
+        (keeps delay slack net laws is most_routes most_services up foreign ours (StrangeOf given) (truth_of given) AnyHistory AnyEntry (nothing_more delay slack net laws is most_routes most_services up foreign ours (StrangeOf given) (truth_of given)))
+        (λ now. (router : ℕ) → router < length net → router < ours → Fit delay slack given 1 most router (history_of now.histories router)) (length front + 0)
+        (λ seconds now going router inside mine. record {
+          ups = ((going.routers router 0 inside (omega arith) (omega arith)).0 mine).ups;
           has = λ w less. let some = a_hop delay slack given router w in absurd (omega (arith, less, some));
         })
         steps (at front) (λ router. 0) (beat_is front steps rest parts).happens (such_real front steps rest parts) (reals front (steps ∷ rest) parts)
@@ -174,19 +179,19 @@ module _ (delay slack : ℕ) (given : Given) where
       X = Extra delay slack given (suc n) most start long
 
       abbrev L : ℕ → ℕ → History → Type 0
-      L = Lasts delay slack net laws is most_routes most_services up foreign F X
+      L = Lasts delay slack net laws is most_routes most_services up foreign ours (StrangeOf given) (truth_of given) F X
 
       abbrev Fl : Flight → Type 0
-      Fl = Flies delay slack net laws is most_routes most_services up foreign F X
+      Fl = Flies delay slack net laws is most_routes most_services up foreign ours (StrangeOf given) (truth_of given) F X
 
       abbrev GoesOn : ℕ → (ℕ → ℕ) → Wires → Type 0
-      GoesOn = Goes delay slack net laws is most_routes most_services up foreign F X
+      GoesOn = Goes delay slack net laws is most_routes most_services up foreign ours (StrangeOf given) (truth_of given) F X
 
       abbrev SuchBeat : Wires → List WireStep → Type 0
-      SuchBeat = Such delay slack net laws is most_routes most_services up foreign F X
+      SuchBeat = Such delay slack net laws is most_routes most_services up foreign ours (StrangeOf given) (truth_of given) F X
 
       abbrev GoodBeat : Wires → List WireStep → Type 0
-      GoodBeat = AllGood delay slack net laws is most_routes most_services up foreign F X
+      GoodBeat = AllGood delay slack net laws is most_routes most_services up foreign ours (StrangeOf given) (truth_of given) F X
 
       -- ---- parts of the beats from then on
 
@@ -204,7 +209,7 @@ module _ (delay slack : ℕ) (given : Given) where
 
           such_in : EachBeat net most_routes most_services delay SuchBeat (at front) part
           such_in =
-              such_beats delay slack net laws is most_routes most_services up foreign F X (at front) part good_in (of_part StepsLeave leave) (of_part StepsSay say)
+              such_beats delay slack net laws is most_routes most_services up foreign ours (StrangeOf given) (truth_of given) F X (at front) part good_in (of_part StepsLeave leave) (of_part StepsSay say)
 
       -- ---- what flies when they begin
 
@@ -219,18 +224,18 @@ module _ (delay slack : ℕ) (given : Given) where
               are = real.are;
               routers = λ router had inside many last. real.routers router had inside (omega (arith, many, count)) (omega (arith, last, count));
               flights =
-                  all_then (λ f. (f.sent < length zeroth) × Flies delay slack net laws is most_routes most_services up foreign AnyHistory AnyEntry f) Fl
+                  all_then (λ f. (f.sent < length zeroth) × Flies delay slack net laws is most_routes most_services up foreign ours (StrangeOf given) (truth_of given) AnyHistory AnyEntry f) Fl
                   (λ f both. record { delivery = both.1.delivery; speaks = speaks f both.0 both.1.speaks }) (at zeroth).flights
-                  (all_both (λ f. f.sent < length zeroth) (Flies delay slack net laws is most_routes most_services up foreign AnyHistory AnyEntry) (at zeroth).flights
+                  (all_both (λ f. f.sent < length zeroth) (Flies delay slack net laws is most_routes most_services up foreign ours (StrangeOf given) (truth_of given) AnyHistory AnyEntry) (at zeroth).flights
                   begins.before real.flights);
             }
           where
             speaks : (f : Flight) → f.sent < length zeroth
-                → Speaks delay slack net laws is most_routes most_services up foreign AnyHistory AnyEntry f.delivery.to f.delivery.bytes f.sent
-                → Speaks delay slack net laws is most_routes most_services up foreign F X f.delivery.to f.delivery.bytes f.sent
+                → Speaks delay slack net laws is most_routes most_services up foreign ours (StrangeOf given) (truth_of given) AnyHistory AnyEntry f.delivery.to f.delivery.bytes f.sent
+                → Speaks delay slack net laws is most_routes most_services up foreign ours (StrangeOf given) (truth_of given) F X f.delivery.to f.delivery.bytes f.sent
             speaks f before (inl comes) =
-                inl (comes_then net up foreign (Told delay slack net laws is most_routes most_services up foreign AnyHistory AnyEntry f.sent)
-                (Told delay slack net laws is most_routes most_services up foreign F X f.sent)
+                inl (comes_then net up foreign (Told delay slack net laws is most_routes most_services up foreign ours (StrangeOf given) (truth_of given) AnyHistory AnyEntry f.sent)
+                (Told delay slack net laws is most_routes most_services up foreign ours (StrangeOf given) (truth_of given) F X f.sent)
                 (λ from e both. (both.0, λ late. absurd (omega (arith, late, before, count)))) f.delivery.to f.delivery.bytes comes)
             speaks f before (inr (inl early)) = inr (inl early)
             speaks f before (inr (inr over_soon)) = inr (inr (record { reply = over_soon.reply; soon = over_soon.soon }))
@@ -239,9 +244,9 @@ module _ (delay slack : ℕ) (given : Given) where
         going before after same =
             let part = parts ∙ ap (λ (r : List (List WireStep)). zeroth ++ r) same in
             subst (λ (v : Wires). GoesOn (length before + start) (λ router. 0) v) (sym (beats_more net most_routes most_services delay (flying histories deliveries) zeroth before))
-            (beats_go net laws is most_routes most_services delay L Fl (Arises delay slack net laws is most_routes most_services up foreign F X)
-            (Good delay slack net laws is most_routes most_services up foreign F X)
-            (keeps delay slack net laws is most_routes most_services up foreign F X (extras delay slack given (suc n) most start long)) start before (at zeroth)
+            (beats_go net laws is most_routes most_services delay L Fl (Arises delay slack net laws is most_routes most_services up foreign ours (StrangeOf given) (truth_of given) F X)
+            (Good delay slack net laws is most_routes most_services up foreign ours (StrangeOf given) (truth_of given) F X)
+            (keeps delay slack net laws is most_routes most_services up foreign ours (StrangeOf given) (truth_of given) F X (extras delay slack given (suc n) most start long ours)) start before (at zeroth)
             (of_part zeroth before after part (IsBeat net) all) (such_in zeroth before after part (omega (arith, count))) stage)
 
       -- ---- one hop more
@@ -273,7 +278,7 @@ module _ (delay slack : ℕ) (given : Given) where
             wide = omega (arith, late, step, sum, count, flush, total);
           }
 
-      module _ (x : ℕ) (w : Wants given x) (exact : w.v.hops ≡ suc n) (front rest : List (List WireStep)) (parts : beats ≡ front ++ rest)
+      module _ (x : ℕ) (mine : x < ours) (w : Wants given x) (exact : w.v.hops ≡ suc n) (front rest : List (List WireStep)) (parts : beats ≡ front ++ rest)
           (late : steps_right_from (suc n) ≤ length front) where
         cut : Parts front
         cut = parts_of front late
@@ -299,17 +304,53 @@ module _ (delay slack : ℕ) (given : Given) where
         going_in : GoesOn (length cut.before + start) (λ router. 0) (at behind)
         going_in = going cut.zeroth (cut.before ++ (cut.inside ++ rest)) from_start cut.count cut.before (cut.inside ++ rest) refl
 
-        heard : (port : ℕ) (f : Place) → SourceOf given x w.v port f
-            → HeardInBeats net most_routes most_services delay (record { router = x; port = port }) (port_of net f).node network (at behind) cut.inside
-        heard port f source =
-            hear f (record { router = x; port = port }) network behind cut.inside rest source.neighbour.on_there source.neighbour.on_here source.neighbour.other
+        abbrev IsHeardFromIt : ℕ → Place → Wires → WireStep → Type 0
+        IsHeardFromIt port f = IsHeardFrom net most_routes most_services delay (record { router = x; port = port }) (port_of net f).node network
+
+        -- another router of ours, as it advertises the network all the time
+        heard_router : (port : ℕ) (f : Place) → SourceOf given x w.v port f → f.router < ours
+            → InBeats net most_routes most_services delay (IsHeardFromIt port f) (at behind) cut.inside
+        heard_router port f source theirs =
+            hear f (record { router = x; port = port }) network behind cut.inside rest
+            (subst (λ (us : List ℕ). is_up us f.port ≡ true) (sym (stay f.router theirs)) source.neighbour.on_there)
+            (subst (λ (us : List ℕ). is_up us port ≡ true) (sym (stay x mine)) source.neighbour.on_here) source.neighbour.other
             (sym source.neighbour.network) (parts ∙ ap (λ (f : List (List WireStep)). f ++ rest) cut.same) cut.wide
             (each_then net most_routes most_services delay GoodBeat (Along net most_routes most_services delay (Advertises net most_routes most_services delay f network))
             (λ v steps good. along_then net most_routes most_services delay
-            (λ now. Good delay slack net laws is most_routes most_services up foreign F X now.histories) (Advertises net most_routes most_services delay f network)
+            (λ now. Good delay slack net laws is most_routes most_services up foreign ours (StrangeOf given) (truth_of given) F X now.histories)
+            (Advertises net most_routes most_services delay f network)
             (λ now fit. advertises delay slack given (suc n) most x port w f source exact (history_of now.histories f.router)
-            (fit f.router (router_there net f.router f.port source.neighbour.place))) v steps good)
+            (fit f.router (router_there net f.router f.port source.neighbour.place) theirs)) v steps good)
             (at behind) cut.inside (good_in behind cut.inside rest whole late_behind))
+
+        -- an outsider
+        leads : (port : ℕ) (f : Place) → SourceOf given x w.v port f → ours ≤ f.router → LeadsByOutsider net up ours network (record { router = x; port = port }) f
+        leads port f source outsider = record {
+          an_outsider = outsider;
+          of_ours = mine;
+          there = source.neighbour.on_there;
+          here = source.neighbour.on_here;
+          one_network = source.neighbour.network;
+          way = source.way;
+          its_least = source.there;
+          our_least = w.least ∙ ap Some source.by;
+        }
+
+        abbrev IsHeard : ℕ → Place → Wires → WireStep → Type 0
+        IsHeard port f = IsHeardOf delay slack given (suc n) most start long x w exact there ours mine port f
+
+        heard : (port : ℕ) (f : Place) → SourceOf given x w.v port f → InBeats net most_routes most_services delay (IsHeard port f) (at behind) cut.inside
+        heard port f source = elim (cases_lt f.router ours) [
+          | inl theirs ↦
+              in_beats_so net most_routes most_services delay (IsHeardFromIt port f) (IsHeard port f) (λ v step lands. inl lands)
+              (at behind) cut.inside (heard_router port f source theirs)
+          | inr outsider ↦
+              in_beats_so net most_routes most_services delay
+              (λ now step. IsHeardOutside net (record { router = x; port = port }) (port_of net f).node network now.histories (as_step step)) (IsHeard port f)
+              (λ v step outside. inr outside) (at behind) cut.inside
+              (outsiders (record { router = x; port = port }) f behind cut.inside rest (leads port f source outsider)
+              (parts ∙ ap (λ (f : List (List WireStep)). f ++ rest) cut.same) cut.wide)
+        ]
 
         abbrev then_at : Wires
         then_at = beats_of net most_routes most_services delay (at behind) cut.inside
@@ -326,7 +367,7 @@ module _ (delay slack : ℕ) (given : Given) where
         bound : HasIt delay slack given x w (history_of (at front).histories x)
         bound =
             subst (λ (v : Wires). HasIt delay slack given x w (history_of v.histories x)) (sym is_then)
-            (window_right delay slack given (suc n) most start long x w exact there (length cut.before + start) enough cut.inside (at behind)
+            (window_right delay slack given (suc n) most start long x w exact there ours mine (length cut.before + start) enough cut.inside (at behind)
             (of_part behind cut.inside rest whole (IsBeat net) all)
             (such_in behind cut.inside rest whole late_behind) going_in fast heard
             (a_source net is cheap up in_ports network suffice x w.v w.off w.least))
@@ -335,14 +376,14 @@ module _ (delay slack : ℕ) (given : Given) where
             → Along net most_routes most_services delay (λ now. HasIt delay slack given x w (history_of now.histories x)) (at front) steps
         bound_on steps more next =
             let goes_then : GoesOn (length cut.inside + (length cut.before + start)) (λ router. 0) then_at =
-            beats_go net laws is most_routes most_services delay L Fl (Arises delay slack net laws is most_routes most_services up foreign F X)
-            (Good delay slack net laws is most_routes most_services up foreign F X)
-            (keeps delay slack net laws is most_routes most_services up foreign F X (extras delay slack given (suc n) most start long)) (length cut.before + start)
+            beats_go net laws is most_routes most_services delay L Fl (Arises delay slack net laws is most_routes most_services up foreign ours (StrangeOf given) (truth_of given) F X)
+            (Good delay slack net laws is most_routes most_services up foreign ours (StrangeOf given) (truth_of given) F X)
+            (keeps delay slack net laws is most_routes most_services up foreign ours (StrangeOf given) (truth_of given) F X (extras delay slack given (suc n) most start long ours)) (length cut.before + start)
             cut.inside (at behind) (of_part behind cut.inside rest whole (IsBeat net) all) (such_in behind cut.inside rest whole late_behind) going_in in
             let last = parts ∙ ap (λ (r : List (List WireStep)). front ++ r) next in
             let such_now = (such_in front (steps ∷ []) more last (omega (arith, late))).0 in
             subst (λ (v : Wires). Along net most_routes most_services delay (λ now. HasIt delay slack given x w (history_of now.histories x)) v steps) (sym is_then)
-            (beat_right delay slack given (suc n) most start long x w exact there (length cut.before + start) enough cut.inside (at behind)
+            (beat_right delay slack given (suc n) most start long x w exact there ours mine (length cut.before + start) enough cut.inside (at behind)
             (of_part behind cut.inside rest whole (IsBeat net) all)
             (such_in behind cut.inside rest whole late_behind) going_in fast heard
             (a_source net is cheap up in_ports network suffice x w.v w.off w.least) steps
@@ -357,19 +398,22 @@ module _ (delay slack : ℕ) (given : Given) where
 
     next_moments : (n : ℕ) (most : suc (suc n) ≤ 15) (fewer : suc n ≤ 15) → Moments n fewer → Moments (suc n) most
     next_moments n most fewer moments front steps rest parts late =
-        along_each net most_routes most_services delay (λ (router : ℕ) now. router < length net → Fit delay slack given (suc (suc n)) most router (history_of now.histories router))
+        along_each net most_routes most_services delay (λ (router : ℕ) now. router < length net → router < ours → Fit delay slack given (suc (suc n)) most router (history_of now.histories router))
         (at front) steps (λ router. along_each net most_routes most_services delay
-        (λ (inside : router < length net) now. Fit delay slack given (suc (suc n)) most router (history_of now.histories router)) (at front) steps (λ inside.
+        (λ (inside : router < length net) now. router < ours → Fit delay slack given (suc (suc n)) most router (history_of now.histories router)) (at front) steps (λ inside.
+        along_each net most_routes most_services delay
+        (λ (mine : router < ours) now. Fit delay slack given (suc (suc n)) most router (history_of now.histories router)) (at front) steps (λ mine.
         along_then net most_routes most_services delay (λ now. Before router now × Exact router now)
         (λ now. Fit delay slack given (suc (suc n)) most router (history_of now.histories router)) (λ now both. both_then router now both.0 both.1) (at front) steps
         (along_both net most_routes most_services delay (Before router) (Exact router) (at front) steps
         (along_then net most_routes most_services delay
-        (λ now. (k : ℕ) → k < length net → Fit delay slack given (suc n) fewer k (history_of now.histories k)) (Before router) (λ now all. all router inside) (at front) steps
+        (λ now. (k : ℕ) → k < length net → k < ours → Fit delay slack given (suc n) fewer k (history_of now.histories k)) (Before router) (λ now all. all router inside mine)
+        (at front) steps
         (moments front steps rest parts sooner))
         (along_each net most_routes most_services delay (λ (w : Wants given router) now. w.v.hops ≡ suc n → HasIt delay slack given router w (history_of now.histories router))
         (at front) steps (λ w. along_each net most_routes most_services delay
         (λ (exact : w.v.hops ≡ suc n) now. HasIt delay slack given router w (history_of now.histories router)) (at front) steps (λ exact.
-        bound_on n fewer moments router w exact front (steps ∷ rest) parts late steps rest refl))))))
+        bound_on n fewer moments router mine w exact front (steps ∷ rest) parts late steps rest refl)))))))
       where
         sooner : steps_right_from n ≤ length front
         sooner =
@@ -397,7 +441,7 @@ module _ (delay slack : ℕ) (given : Given) where
 
     -- ---- tables
 
-    module _ (x : ℕ) (inside : x < length net) (front rest : List (List WireStep)) (parts : beats ≡ front ++ rest)
+    module _ (x : ℕ) (inside : x < length net) (mine : x < ours) (front rest : List (List WireStep)) (parts : beats ≡ front ++ rest)
         (enough : slack + beats_right delay window (least_route net up x network) ≤ length front) where
       some_beats : slack + most_beats_gone delay ≤ length front
       some_beats = by (least_route net up x network) enough
@@ -426,8 +470,8 @@ module _ (delay slack : ℕ) (given : Given) where
       pub right_at : Right_now x (at front)
       right_at =
           let real = reals front rest parts in
-          table_right x (length front) some_beats (history_of (at front).histories x) (real.routers x (length front) inside (omega arith) (omega arith)) (λ w should.
-          bound (hops_before w should) (most_fifteen w should) (all_moments (hops_before w should) (most_fifteen w should)) x w (exact w should) front rest parts
+          table_right x (length front) some_beats (history_of (at front).histories x) ((real.routers x (length front) inside (omega arith) (omega arith)).0 mine) (λ w should.
+          bound (hops_before w should) (most_fifteen w should) (all_moments (hops_before w should) (most_fifteen w should)) x mine w (exact w should) front rest parts
           (late_for_it w should))
 
       -- and at each moment of the next
@@ -440,7 +484,7 @@ module _ (delay slack : ℕ) (given : Given) where
           (λ (w : Wants given x) now. least_route net up x network ≡ Some w.v → HasIt delay slack given x w (history_of now.histories x)) (at front) steps (λ w.
           along_each net most_routes most_services delay
           (λ (should : least_route net up x network ≡ Some w.v) now. HasIt delay slack given x w (history_of now.histories x)) (at front) steps (λ should.
-          bound_on (hops_before w should) (most_fifteen w should) (all_moments (hops_before w should) (most_fifteen w should)) x w (exact w should) front rest parts
+          bound_on (hops_before w should) (most_fifteen w should) (all_moments (hops_before w should) (most_fifteen w should)) x mine w (exact w should) front rest parts
           (late_for_it w should) steps more next))))
         where
           Has : Wires → Type 0
@@ -451,11 +495,11 @@ module _ (delay slack : ℕ) (given : Given) where
 
           lasting : Along net most_routes most_services delay (λ now. Lasting delay slack given x (length front) (history_of now.histories x)) (at front) steps
           lasting =
-              steps_each net laws is most_routes most_services delay (Lasts delay slack net laws is most_routes most_services up foreign AnyHistory AnyEntry)
-              (Flies delay slack net laws is most_routes most_services up foreign AnyHistory AnyEntry)
-              (Arises delay slack net laws is most_routes most_services up foreign AnyHistory AnyEntry)
-              (Good delay slack net laws is most_routes most_services up foreign AnyHistory AnyEntry)
-              (keeps delay slack net laws is most_routes most_services up foreign AnyHistory AnyEntry (nothing_more delay slack net laws is most_routes most_services up foreign))
+              steps_each net laws is most_routes most_services delay (Lasts delay slack net laws is most_routes most_services up foreign ours (StrangeOf given) (truth_of given) AnyHistory AnyEntry)
+              (Flies delay slack net laws is most_routes most_services up foreign ours (StrangeOf given) (truth_of given) AnyHistory AnyEntry)
+              (Arises delay slack net laws is most_routes most_services up foreign ours (StrangeOf given) (truth_of given) AnyHistory AnyEntry)
+              (Good delay slack net laws is most_routes most_services up foreign ours (StrangeOf given) (truth_of given) AnyHistory AnyEntry)
+              (keeps delay slack net laws is most_routes most_services up foreign ours (StrangeOf given) (truth_of given) AnyHistory AnyEntry (nothing_more delay slack net laws is most_routes most_services up foreign ours (StrangeOf given) (truth_of given)))
               (λ now. Lasting delay slack given x (length front) (history_of now.histories x)) (length front + 0)
-              (λ seconds now going. going.routers x (length front) inside (omega arith) (omega arith)) steps (at front) (λ router. 0)
+              (λ seconds now going. (going.routers x (length front) inside (omega arith) (omega arith)).0 mine) steps (at front) (λ router. 0)
               (beat_is front steps more last).happens (such_real front steps more last) (reals front (steps ∷ more) last)

@@ -1,6 +1,6 @@
 -- A router has a service with its fewest hops after beats in which all were heard that say it so, where those that are nearer were right; and
 -- at each moment of the beat that follows.
-use Rattle.std.proofs.Common.{◌≡◌, ◌≢◌, refl, sym, ap, ◌∙◌, subst, ◌⊎◌, ℕ, suc, ◌+◌, ◌*◌, ◌<◌, ◌≤◌, nat_le, Bool, true, false, if◌then◌else◌, List, [], ◌∷◌, ◌++◌, length, map, Option, None, Some, slice_get, inl, inr, arith, get_or-set_same, get_or-set_other}
+use Rattle.std.proofs.Common.{◌≡◌, ◌≢◌, refl, sym, ap, ◌∙◌, subst, ◌⊎◌, ℕ, suc, ◌+◌, ◌<◌, ◌≤◌, nat_le, Bool, true, false, if◌then◌else◌, List, [], ◌∷◌, ◌++◌, length, map, Option, None, Some, slice_get, inl, inr, arith, get_or-set_same, get_or-set_other}
 use Rattle.std.specs.List.{AllByRecursion}
 use Rattle.std.proofs.lemmas.Bool.{cases_eq, leb-true, leb-false}
 use Rattle.ipx_table.specs.Alive.{lifetime}
@@ -25,8 +25,8 @@ use Rattle.ipx_laws.specs.InTime.{seconds_in}
 use Rattle.ipx_laws.specs.Meanwhile.{message_of}
 use Rattle.ipx_laws.specs.Regular.{HasRoomFor, Announces}
 use Rattle.ipx_laws.specs.Servers.{at_hops}
-use Rattle.ipx_laws.specs.WireRegular.{NamesService, InSteps, InBeats, IsRouterHeard}
-use Rattle.ipx_laws.specs.Wires.{Flight, Wires, WireStep, Occurs, Lands, as_step, beaten, occurs, lands, wired, wires_of, beats_of, Along, EachBeat, IsBeat, most_beats_gone}
+use Rattle.ipx_laws.specs.WireRegular.{NamesService, IsRouterHeard}
+use Rattle.ipx_laws.specs.Wires.{Flight, Wires, WireStep, Occurs, Lands, as_step, beaten, occurs, lands, wired, wires_of, beats_of, Along, EachBeat, IsBeat, most_beats_gone, InSteps, InBeats}
 use Rattle.ipx_laws.proofs.packets.SentOnSaysTheSame.{heard_message}
 use Rattle.ipx_laws.proofs.services.HeardByARouter.{Source, W, StateOf, MissingOf, IsRightIn, right_then, passes_by, second_goes, packet_goes}
 use Rattle.ipx_laws.proofs.services.NearestHost.{Sought, Listed, SaidBy, Good, host_of, by_who}

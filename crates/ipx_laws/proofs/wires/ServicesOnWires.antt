@@ -39,8 +39,8 @@ use Rattle.ipx_laws.specs.Servers.{Server, MaySay, SaysNoFalse, NamesOnly}
 use Rattle.ipx_laws.specs.Wires.{Flight, Wires, WireStep, Occurs, Lands, as_step, beaten, wired, wires_of, Along, EachBeat, EachWireStep, most_beats_flying}
 use Rattle.ipx_laws.proofs.packets.SentOnSaysTheSame.{of_packet, message_heard}
 use Rattle.ipx_laws.proofs.records.RecordsGrowOld.{IsOldOffer, after_offers}
-use Rattle.ipx_laws.proofs.services.HostTickAfterTick.{second_spoken, packet_spoken}
 use Rattle.ipx_laws.proofs.services.ServedOrSoonEnded.{Fine, ServicesAged, Endures, at_begin, event_endures, services_said, changes_said}
+use Rattle.ipx_laws.proofs.services.SpokenByARouter.{second_spoken, packet_spoken}
 use Rattle.ipx_laws.proofs.services.SpokenOfAServer.{at, Silent, Names, told_asks, Waits, IsSpoken, ServiceSaid, host_waits, spoken_waits}
 use Rattle.ipx_laws.proofs.wires.BeatAfterBeat.{Happening, Leaves, Sends, Keeps, Going, AreSuch, StepsArise}
 use Rattle.ipx_laws.proofs.wires.EarlyFlights.{IsEarly, early_soon, early_onward, early_first}

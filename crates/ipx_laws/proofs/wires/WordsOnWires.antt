@@ -18,6 +18,7 @@ use Rattle.ipx_internet.specs.Internet.{Place, ports_of}
 use Rattle.ipx_internet.proofs.lists.EachElement.{all_then}
 use Rattle.ipx_laws.specs.Gone.{most_ticks_gone}
 use Rattle.ipx_laws.specs.Least.{Way, is_on}
+use Rattle.ipx_laws.specs.Outsiders.{IsTrueOf, IsTrueAndLeast}
 use Rattle.ipx_laws.specs.Wires.{most_beats_gone}
 use Rattle.ipx_laws.proofs.lists.SomeElement.{AnyIs, any-map, passes_any}
 use Rattle.ipx_laws.proofs.records.RecordsGrowOld.{fine_at_last, at_last}
@@ -35,6 +36,13 @@ use Rattle.ipx_laws.proofs.wires.SpokenOnWires.{Extras}
 pub all_if : {X : Type 0} (A : Type 0) (P : X → Type 0) (xs : List X) → (A → AllByRecursion P xs) → AllByRecursion (λ x. A → P x) xs
 all_if A P [] all = tt
 all_if A P (x ∷ xs) all = ((λ a. (all a).0), all_if A P xs (λ a. (all a).1))
+
+-- what outsiders say: what is true, and of the network their least way
+abbrev pub StrangeOf : Given → Place → RipEntry → Type 0
+StrangeOf given = IsTrueAndLeast given.net given.up given.network
+
+pub truth_of : (given : Given) (from : Place) (e : RipEntry) → StrangeOf given from e → IsTrueOf given.net given.up from e
+truth_of given from e says = says.0
 
 module _ (delay slack : ℕ) (given : Given) where
   open given use {net, laws, is, cheap, up, in_ports, most_routes, most_services, foreign, network}
@@ -120,8 +128,8 @@ module _ (delay slack : ℕ) (given : Given) where
             (knows_off given 0 router w history h some (ap (λ (r : RouteOffer). r.network) right.same) (right_way given router w.v w.off w.least f h.offer right))
       ]
 
-      pub extras : Extras delay slack net laws is most_routes most_services up foreign Fit Extra
-      extras = record {
+      pub extras : (ours : ℕ) → Extras delay slack net laws is most_routes most_services up foreign ours (StrangeOf given) (truth_of given) Fit Extra
+      extras ours = record {
         advertised = λ beats had router history enough lasts fit j.
             all_if (start ≤ beats) (Word (record { router = router; port = j })) (told (ports_of net router) (up router) (routes_in router history) j)
             (λ late. all_words (record { router = router; port = j }) (told (ports_of net router) (up router) (routes_in router history) j)

@@ -46,10 +46,7 @@ pub fn real_apart()
         → AllByRecursion (λ r. is_up (ups net run.histories router) r.port ≡ true)
         (routes_of net most_routes (ticked net most_routes most_services run (first ∷ ticks)).histories router) }
 {
-    ipx_wire::laws::readings();
-    ipx_wire::laws::service_readings();
-    ipx_wire::laws::reread();
-    ipx_router::laws::packets();
+    crate::laws::given::layouts();
 }
 
 /// Every table becomes right about each network off the list, and stays so, whatever was in it before and whatever hosts advertise of the networks
@@ -93,10 +90,7 @@ pub fn right_apart()
         → route_of net most_routes (ticked net most_routes most_services run (ticks ++ further)).histories router network
         ≡ route_of net most_routes (ticked net most_routes most_services run ticks).histories router network }
 {
-    ipx_wire::laws::readings();
-    ipx_wire::laws::service_readings();
-    ipx_wire::laws::reread();
-    ipx_router::laws::packets();
+    crate::laws::given::layouts();
 }
 
 /// So packets for a network off the list arrive, as by `laws::arrives`, whatever hosts advertise of the networks on the list, even a default route.
@@ -111,8 +105,5 @@ pub fn arrives_apart()
         → Arrives (routers_after net most_routes (ticked net most_routes most_services run (first ∷ ticks)).histories) p.header.destination p.header.control way.hops 0
         (root place bytes) }
 {
-    ipx_wire::laws::readings();
-    ipx_wire::laws::service_readings();
-    ipx_wire::laws::reread();
-    ipx_router::laws::packets();
+    crate::laws::given::layouts();
 }

@@ -37,10 +37,7 @@ pub fn losses()
         → AreCalmTicks net most_routes most_services (run_of net most_routes most_services (begun histories) steps) ticks
         → AreRight net most_routes (ticked net most_routes most_services (run_of net most_routes most_services (begun histories) steps) ticks).histories (ups net last) }
 {
-    ipx_wire::laws::readings();
-    ipx_wire::laws::service_readings();
-    ipx_wire::laws::reread();
-    ipx_router::laws::packets();
+    crate::laws::given::layouts();
     crate::laws::right();
 }
 
@@ -65,9 +62,6 @@ pub fn gains()
         → AreRight net most_routes
         (ticked net most_routes most_services (run_of net most_routes most_services (begun histories) steps) ticks).histories (ups net last) }
 {
-    ipx_wire::laws::readings();
-    ipx_wire::laws::service_readings();
-    ipx_wire::laws::reread();
-    ipx_router::laws::packets();
+    crate::laws::given::layouts();
     crate::laws::right();
 }

@@ -51,11 +51,8 @@ pub fn upkeep()
         → AllByRecursion (IsReal net (ups net histories) router) (routes_of net most_routes histories router)
         → length (told (ports_of net router) (ups net histories router) (routes_of net most_routes histories router) number) < length (networks_of net) }
 {
-    ipx_wire::laws::readings();
-    ipx_wire::laws::service_readings();
-    ipx_wire::laws::reread();
+    crate::laws::given::layouts();
     ipx_wire::laws::sizes();
-    ipx_router::laws::packets();
     ipx_router::laws::tables();
 }
 
@@ -109,10 +106,7 @@ pub fn tables_stay()
         → sent_by router number (departures net most_routes most_services run (steps_of further))
         ≡ all_pages (ports_of net router) (has net most_routes most_services run.histories router) number }
 {
-    ipx_wire::laws::readings();
-    ipx_wire::laws::service_readings();
-    ipx_wire::laws::reread();
-    ipx_router::laws::packets();
+    crate::laws::given::layouts();
     ipx_router::laws::tables();
     upkeep();
 }

@@ -34,16 +34,9 @@ pub fn runs()
         → run.waiting ≡ w ∷ waiting → entered (port_of net w.delivery.to) w.delivery.bytes ≡ None
         → edge_stepped net most_routes most_services run Settles ≡ record run { waiting = waiting } }
 {
-    ipx_wire::laws::readings();
-    ipx_wire::laws::service_readings();
-    ipx_wire::laws::reread();
-    ipx_router::laws::relays();
-    ipx_router::laws::tables();
-    ipx_router::laws::packets();
-    ipx_edge::laws::names_its_network();
-    ipx_edge::laws::holds_what_routers_carried();
-    ipx_edge::laws::lets_all_else_in();
-    ipx_edge::laws::hears_neighbours_alone();
+    crate::laws::given::layouts();
+    crate::laws::given::routing();
+    crate::laws::given::edge();
 }
 
 /// What is said of routes and services on a cable stays there. Whatever a router hears came from outside at that port, or is a router's own: it
@@ -68,15 +61,8 @@ pub fn containment()
     ensures services { (net : Internet) (most_routes most_services : ℕ) (run : Run) (steps : List Step) (router : ℕ)
         → WithinServiceShares (ports_of net router) (services_held (ports_of net router) most_services (history_of (edge_run net most_routes most_services run steps).histories router)) }
 {
-    ipx_wire::laws::readings();
-    ipx_wire::laws::service_readings();
-    ipx_wire::laws::reread();
-    ipx_router::laws::relays();
-    ipx_router::laws::tables();
-    ipx_router::laws::packets();
-    ipx_edge::laws::names_its_network();
-    ipx_edge::laws::holds_what_routers_carried();
-    ipx_edge::laws::lets_all_else_in();
-    ipx_edge::laws::hears_neighbours_alone();
+    crate::laws::given::layouts();
+    crate::laws::given::routing();
+    crate::laws::given::edge();
     ipx_router::laws::shares_hold();
 }

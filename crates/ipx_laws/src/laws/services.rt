@@ -45,10 +45,8 @@ pub fn served()
         → ((hops : ℕ) → IsAway net (ups net run.histories) server router hops → hops < unreachable → ⊥)
         → AllByRecursion (λ s. IsOf server s.service → ⊥) (services_of net most_services (ticked net most_routes most_services run (first ∷ ticks)).histories router) }
 {
-    ipx_wire::laws::readings();
-    ipx_wire::laws::service_readings();
-    ipx_wire::laws::reread();
-    ipx_router::laws::packets();
+    crate::laws::given::layouts();
+    crate::laws::wire_services::served_on_wires();
 }
 
 /// A router beside the nearest of the hosts that announce a service has it, at its address, with that host's hops, fewer than 16, from the
@@ -68,10 +66,8 @@ pub fn beside()
         → known_of server (services_of net most_services (ticked net most_routes most_services run (first ∷ ticks)).histories place.router)
         ≡ Some (at_hops server host.hops) }
 {
-    ipx_wire::laws::readings();
-    ipx_wire::laws::service_readings();
-    ipx_wire::laws::reread();
-    ipx_router::laws::packets();
+    crate::laws::given::layouts();
+    crate::laws::wire_services::beside_on_wires();
 }
 
 /// Each router with a way to a service of fewer than 16 hops comes to have the service, at its address and with the fewest hops of all its
@@ -100,10 +96,8 @@ pub fn everywhere()
         → known_of server (services_of net most_services (run_of net most_routes most_services (ticked net most_routes most_services run (first ∷ ticks)) steps).histories router)
         ≡ Some (at_hops server hops) }
 {
-    ipx_wire::laws::readings();
-    ipx_wire::laws::service_readings();
-    ipx_wire::laws::reread();
-    ipx_router::laws::packets();
+    crate::laws::given::layouts();
+    crate::laws::wire_services::everywhere_on_wires();
 }
 
 /// A query for the nearest server of a type is answered with one, by each router that has a way to such a service. It comes to a port of the
@@ -126,8 +120,6 @@ pub fn nearest()
         → IsAnswered (ports_of net place.router) place.port source server.kind (suc hops)
         (sends_at net most_routes most_services now.histories place.router (Packet place.port bytes)) }
 {
-    ipx_wire::laws::readings();
-    ipx_wire::laws::service_readings();
-    ipx_wire::laws::reread();
-    ipx_router::laws::packets();
+    crate::laws::given::layouts();
+    crate::laws::wire_services::nearest_on_wires();
 }

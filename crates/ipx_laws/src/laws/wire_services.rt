@@ -68,10 +68,7 @@ pub fn served_on_wires()
         → AllByRecursion (λ s. IsOf server s.service → ⊥)
         (services_of net most_services (beats_of net most_routes most_services delay (flying histories deliveries) beats).histories router) }
 {
-    ipx_wire::laws::readings();
-    ipx_wire::laws::service_readings();
-    ipx_wire::laws::reread();
-    ipx_router::laws::packets();
+    crate::laws::given::layouts();
 }
 
 /// A router beside the nearest of the hosts that announce a service has it, at its address, with that host's hops, fewer than 16, over real
@@ -99,10 +96,7 @@ pub fn beside_on_wires()
         → known_of server (services_of net most_services (beats_of net most_routes most_services delay (flying histories deliveries) beats).histories place.router)
         ≡ Some (at_hops server host.hops) }
 {
-    ipx_wire::laws::readings();
-    ipx_wire::laws::service_readings();
-    ipx_wire::laws::reread();
-    ipx_router::laws::packets();
+    crate::laws::given::layouts();
 }
 
 /// Each router with a way to a service of fewer than 16 hops comes to have the service over real wires, at its address and with the fewest
@@ -152,17 +146,15 @@ pub fn everywhere_on_wires()
         → known_of server (services_of net most_services (beats_of net most_routes most_services delay (flying histories deliveries) beats).histories router)
         ≡ Some (at_hops server hops) }
 {
-    ipx_wire::laws::readings();
-    ipx_wire::laws::service_readings();
-    ipx_wire::laws::reread();
-    ipx_router::laws::packets();
+    crate::laws::given::layouts();
 }
 
 /// A query for the nearest server of a type is answered with one over real wires, by each router that has a way to such a service. It comes to
 /// a port of the router, at any moment when the router has the service by `everywhere_on_wires`, with fewer than 15 hops. Then the router
 /// sends one packet to whoever asked, with one service alone, of the type asked for, and of no more hops than this service as the router
 /// advertises it (`answered`). As in `nearest`, no way that is as short begins on that port's network (`LeadsElsewhere`), and FFFFh, which
-/// asks for every type, is left out. Whether the answer arrives is another matter.
+/// asks for every type, is left out. Whether the answer arrives is another matter. If anything flies at first, forged packets too, it takes 18
+/// delays and one beat more (`whatever_flies`).
 pub fn nearest_on_wires()
     ensures answered { (net : Internet) (most_routes most_services delay window : ℕ) (server : Server) (names : List (ℕ × List ℕ)) (nearest : ℕ)
         (histories : List History) (beats : List (List WireStep)) (steps more : List WireStep) (hops : ℕ) (place : Place) (source : Address) (bytes : List ℕ)
@@ -178,9 +170,20 @@ pub fn nearest_on_wires()
         Asks net now.histories place source server.kind bytes
         → IsAnswered (ports_of net place.router) place.port source server.kind (suc hops)
         (sends_at net most_routes most_services now.histories place.router (Packet place.port bytes)) }
+    ensures whatever_flies { (net : Internet) (most_routes most_services delay window : ℕ) (server : Server) (names : List (ℕ × List ℕ)) (nearest : ℕ)
+        (histories : List History) (deliveries : List Delivery) (beats : List (List WireStep)) (steps more : List WireStep) (hops : ℕ) (place : Place) (source : Address) (bytes : List ℕ)
+        → IsServiceSetting net most_services histories names server → AllByRecursion (IsDelivery net) deliveries → AreBeats net (beats ++ (steps ++ more) ∷ []) → EachWireStep LeavesPorts (beats ++ (steps ++ more) ∷ [])
+        → AreQuick net window (beats ++ (steps ++ more) ∷ [])
+        → AreRegularBeats net most_routes most_services delay server window names (ups net histories) (flying histories deliveries) (beats ++ (steps ++ more) ∷ [])
+        → NodesDiffer net → NoneNearer server nearest
+        → AreRoutersInTime net most_routes most_services delay server window (ups net histories) (flying histories deliveries) (beats ++ (steps ++ more) ∷ [])
+        → most_beats_flying delay + most_beats_known delay window nearest hops ≤ length beats → place.router < length net → suc hops < unreachable
+        → IsFewest net (ups net histories) server place.router hops → server.kind ≢ every_service
+        → LeadsElsewhere net (ups net histories) server place hops
+        → let now = wires_of net most_routes most_services delay (beats_of net most_routes most_services delay (flying histories deliveries) beats) steps in
+        Asks net now.histories place source server.kind bytes
+        → IsAnswered (ports_of net place.router) place.port source server.kind (suc hops)
+        (sends_at net most_routes most_services now.histories place.router (Packet place.port bytes)) }
 {
-    ipx_wire::laws::readings();
-    ipx_wire::laws::service_readings();
-    ipx_wire::laws::reread();
-    ipx_router::laws::packets();
+    crate::laws::given::layouts();
 }

@@ -19,10 +19,13 @@ ghost use Rattle.ipx_laws.specs.InTime.{AreHeardInTime, AreQuick, beats_right, I
 ghost use Rattle.ipx_laws.specs.Least.{least_route};
 ghost use Rattle.ipx_laws.specs.Meanwhile.{IsWithoutRoute, IsWithoutService, TellsNoRoute, LeavesPorts, SaysOnly, AreBusyTicks, AreTicksOfHosts};
 ghost use Rattle.ipx_laws.specs.Real.{IsReal};
+ghost use Rattle.ipx_laws.specs.Regular.{AreRegular};
+ghost use Rattle.ipx_laws.specs.Servers.{Server};
 ghost use Rattle.ipx_laws.specs.Setting.{IsSetting};
 ghost use Rattle.ipx_laws.specs.Tables.{routes_of, IsRight, services_of};
 ghost use Rattle.ipx_laws.specs.Ups.{ups};
 ghost use Rattle.ipx_laws.specs.WireAnnounces.{WasAnnounced};
+ghost use Rattle.ipx_laws.specs.WireRegular.{AreRegularBeats, AreRoutersInTime};
 ghost use Rattle.ipx_laws.specs.Wires.{WireStep, still, flying, wires_of, beats_of, KeepGone, AreBeats, EachWireStep, most_beats_gone, most_beats_flying};
 
 /// What is gone is gone everywhere after 2,880 beats and 15 delays, whatever was in the tables before, whatever is lost, late, doubled or
@@ -55,10 +58,7 @@ pub fn gone_on_wires()
         → AllByRecursion (λ s. (s.service.kind, s.service.name) ≢ key)
         (services_of net most_services (beats_of net most_routes most_services delay (flying histories deliveries) beats).histories router) }
 {
-    ipx_wire::laws::readings();
-    ipx_wire::laws::service_readings();
-    ipx_wire::laws::reread();
-    ipx_router::laws::packets();
+    crate::laws::given::layouts();
 }
 
 /// Every service that a router has was announced by a host: after 2,880 beats and 15 delays it is one that a packet of a host said in them, with
@@ -78,10 +78,7 @@ pub fn announced_on_wires()
         → AllByRecursion (λ s. WasAnnounced net most_routes most_services delay (flying histories deliveries) beats s.service)
         (services_of net most_services (beats_of net most_routes most_services delay (flying histories deliveries) beats).histories router) }
 {
-    ipx_wire::laws::readings();
-    ipx_wire::laws::service_readings();
-    ipx_wire::laws::reread();
-    ipx_router::laws::packets();
+    crate::laws::given::layouts();
 }
 
 /// Every route is of a real way after 2,880 beats and 15 delays, whatever was in the tables before, and whatever the wires do (`routes`). If
@@ -121,10 +118,7 @@ pub fn real_on_wires()
         → AllByRecursion (IsReal net (ups net histories) router)
         (routes_of net most_routes (beats_of net most_routes most_services delay (flying histories deliveries) beats).histories router) }
 {
-    ipx_wire::laws::readings();
-    ipx_wire::laws::service_readings();
-    ipx_wire::laws::reread();
-    ipx_router::laws::packets();
+    crate::laws::given::layouts();
 }
 
 /// Every table becomes right and stays so, whatever was in it before, hop by hop: a router has the route of its least way to a network of h hops
@@ -175,16 +169,14 @@ pub fn right_on_wires()
         → most_beats_flying delay + beats_right delay window (least_route net (ups net histories) router network) ≤ length beats
         → IsRight net most_routes (beats_of net most_routes most_services delay (flying histories deliveries) beats).histories (ups net histories) router network }
 {
-    ipx_wire::laws::readings();
-    ipx_wire::laws::service_readings();
-    ipx_wire::laws::reread();
-    ipx_router::laws::packets();
+    crate::laws::given::layouts();
 }
 
 /// Lock step is a case of this. From where nothing waits, busy ticks are beats: there are beats with the same steps, in which each delivery lands
 /// that is handed out, with a delay of 0, and in the end the same has happened to each router (`beats`). If ports stay as they are and nodes differ,
 /// routers are heard in time in such beats, with a window of 60 (`heard`): what a router advertises on a port all the time of any 60 of them, each router
-/// beside it hears in these.
+/// beside it hears in these. They are heard of a service in the same way; and where ticks are regular, such beats are all that the laws of services over wires ask for,
+/// with a window of 60, which is quick (`services_heard`).
 pub fn lock_step()
     ensures beats { (net : Internet) (most_routes most_services : ℕ) (histories : List History) (ticks : List (List Step))
         → AreBusyTicks net most_routes most_services (begun histories) ticks
@@ -193,9 +185,14 @@ pub fn lock_step()
         → IsInternet net → NodesDiffer net → AreHistories net histories → AreTicksOfHosts net most_routes most_services (begun histories) ticks
         → (beats : List (List WireStep)) × IsInLockStep net most_routes most_services histories ticks beats
         × AreHeardInTime net most_routes most_services 0 period (ups net histories) (still histories) beats }
+    ensures services_heard { (net : Internet) (most_routes most_services : ℕ) (server : Server) (names : List (ℕ × List ℕ)) (histories : List History)
+        (ticks : List (List Step))
+        → IsInternet net → AreHistories net histories → NodesDiffer net
+        → AreTicksOfHosts net most_routes most_services (begun histories) ticks → AreRegular net most_routes most_services server names (ups net histories) (begun histories) ticks
+        → (beats : List (List WireStep)) × IsInLockStep net most_routes most_services histories ticks beats × AreBeats net beats
+        × EachWireStep LeavesPorts beats × AreQuick net period beats
+        × AreRegularBeats net most_routes most_services 0 server period names (ups net histories) (still histories) beats
+        × AreRoutersInTime net most_routes most_services 0 server period (ups net histories) (still histories) beats }
 {
-    ipx_wire::laws::readings();
-    ipx_wire::laws::service_readings();
-    ipx_wire::laws::reread();
-    ipx_router::laws::packets();
+    crate::laws::given::layouts();
 }

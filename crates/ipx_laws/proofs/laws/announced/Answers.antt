@@ -4,7 +4,6 @@ use Rattle.ipx_router.specs.History.{History}
 use Rattle.ipx_internet.specs.Run.{run_of}
 use Rattle.ipx_internet.specs.Ticks.{ticked}
 use Rattle.ipx_internet.proofs.lists.EachElement.{all_then}
-use Rattle.ipx_internet.proofs.packets.SentOnOrReply.{Layouts}
 use Rattle.ipx_laws.specs.Announces.{IsAnnounced, AsksApart}
 use Rattle.ipx_laws.specs.Meanwhile.{SaysOnly}
 use Rattle.ipx_laws.specs.Tables.{services_of}
@@ -13,29 +12,6 @@ use Rattle.ipx_laws.specs.Wires.{still}
 use Rattle.ipx_laws.proofs.laws.announced.Goals as goal
 use Rattle.ipx_laws.proofs.ticks.AfterRest.{are_after}
 use Rattle.ipx_laws.proofs.wires.LockStep.{as_beats, as_many, beats_say, are_beats, same_last, announced}
-
--- the laws of packets and routers
-layouts : goal.After-announced_on_wires → Layouts
-layouts c = record {
-  readings = record {
-    packet_read = c.readings.ensures.packet_read;
-    packet_front = c.readings.ensures.packet_front;
-    rip_read = c.readings.ensures.rip_read;
-    sap_read = c.service_readings.ensures.sap_read;
-  };
-  again = record {
-    rip_packet_again = c.reread.ensures.rip_packet;
-    rip_again = c.reread.ensures.rip;
-    query_packet_again = c.reread.ensures.query_packet;
-    query_again = c.reread.ensures.query;
-    sap_packet_again = c.reread.ensures.sap_packet;
-    sap_again = c.reread.ensures.sap;
-    forwarded_again = c.reread.ensures.forwarded;
-    propagated_again = c.reread.ensures.propagated;
-  };
-  layouts = c.packets.ensures.layouts;
-  bytes = c.packets.ensures.bytes;
-}
 
 pub returns : goal.returns
 returns c = record {
@@ -50,6 +26,6 @@ returns c = record {
       (subst (λ (hs : List History). AllByRecursion (λ s. WasAnnounced net most_routes most_services 0 now beats s.service) (services_of net most_services hs router))
       (same_last net most_routes most_services next rest.2 ticks busy)
       (c.announced_on_wires.ensures.services net most_routes most_services 0 next.histories beats router is
-      (are_after net (layouts c) is most_routes most_services run first are rest) (are_beats net most_routes most_services next now ticks busy)
+      (are_after net c.layouts.ensures is most_routes most_services run first are rest) (are_beats net most_routes most_services next now ticks busy)
       (omega (arith, long, same)) within (beats_say net most_routes most_services (SaysOnly AsksApart) next now ticks apart)));
 }

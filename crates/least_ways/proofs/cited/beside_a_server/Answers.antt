@@ -1,5 +1,5 @@
-use Rattle.std.proofs.Common.{◌≡◌, ap, ℕ, ◌≤◌, length, ◌∷◌, [], arith}
-use Rattle.ipx_laws.specs.Least.{least_route, ticks_right}
+use Rattle.std.proofs.Common.{◌∷◌, [], arith}
+use Rattle.ipx_laws.specs.Least.{least_route}
 use Rattle.ipx_laws.specs.Ups.{ups}
 use Rattle.least_ways.proofs.cited.beside_a_server.Goals as goal
 

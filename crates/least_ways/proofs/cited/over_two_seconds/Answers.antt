@@ -1,4 +1,4 @@
-use Rattle.std.proofs.Common.{◌≡◌, sym, subst, ℕ, ◌+◌, ◌*◌, ◌≤◌, List, length, Option, None, Some, arith}
+use Rattle.std.proofs.Common.{◌≡◌, sym, subst, ℕ, ◌+◌, ◌*◌, ◌≤◌, length, Option, Some}
 use Rattle.ipx_laws.specs.InTime.{beats_right}
 use Rattle.ipx_laws.specs.Least.{Way}
 use Rattle.least_ways.proofs.cited.over_two_seconds.Goals as goal

@@ -1,4 +1,3 @@
-use Rattle.std.proofs.Common.{arith}
 use Rattle.least_ways.proofs.cited.served_over_two_seconds.Goals as goal
 
 pub returns : goal.returns

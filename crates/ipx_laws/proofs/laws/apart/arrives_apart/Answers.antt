@@ -1,38 +1,13 @@
 use Rattle.std.proofs.Common.{refl, length, Some, None}
 use Rattle.ipx_internet.specs.Run.{run_of}
 use Rattle.ipx_internet.specs.Ticks.{ticked}
-use Rattle.ipx_internet.proofs.packets.SentOnOrReply.{Layouts}
 use Rattle.ipx_laws.specs.Ups.{ups}
 use Rattle.ipx_laws.proofs.laws.apart.arrives_apart.Goals as goal
-use Rattle.ipx_laws.proofs.laws.apart.arrives_apart.Goals.{After-packets}
 use Rattle.ipx_laws.proofs.tables.AnyTablesBecomeRight.{from_any}
 use Rattle.ipx_laws.proofs.tables.LeastWays.{ups_within}
 use Rattle.ipx_laws.proofs.tables.PacketsArrive.{goes}
 use Rattle.ipx_laws.proofs.tables.TablesAreRight.{some_ticks, all_ticks}
 use Rattle.ipx_laws.proofs.ticks.TickAfterTick.{ticks_beside}
-
--- the laws of packets and routers
-layouts : After-packets → Layouts
-layouts c = record {
-  readings = record {
-    packet_read = c.readings.ensures.packet_read;
-    packet_front = c.readings.ensures.packet_front;
-    rip_read = c.readings.ensures.rip_read;
-    sap_read = c.service_readings.ensures.sap_read;
-  };
-  again = record {
-    rip_packet_again = c.reread.ensures.rip_packet;
-    rip_again = c.reread.ensures.rip;
-    query_packet_again = c.reread.ensures.query_packet;
-    query_again = c.reread.ensures.query;
-    sap_packet_again = c.reread.ensures.sap_packet;
-    sap_again = c.reread.ensures.sap;
-    forwarded_again = c.reread.ensures.forwarded;
-    propagated_again = c.reread.ensures.propagated;
-  };
-  layouts = c.packets.ensures.layouts;
-  bytes = c.packets.ensures.bytes;
-}
 
 pub returns : goal.returns
 returns c = record {
@@ -41,9 +16,9 @@ returns c = record {
       let next = run_of net most_routes most_services run first in
       let to = p.header.destination in
       let long = some_ticks (Some way) (length ticks) sure in
-      goes net (layouts c) is differ cheap (ups net run.histories) (ups_within net run.histories) most_routes most_services foreign room to suffice
+      goes net c.layouts.ensures is differ cheap (ups net run.histories) (ups_within net run.histories) most_routes most_services foreign room to suffice
       unlisted (length ticks) (ticked net most_routes most_services next ticks)
-      (from_any net (layouts c) is differ cheap most_routes most_services foreign room to.network unlisted run are suffice first ticks rest leaves
+      (from_any net c.layouts.ensures is differ cheap most_routes most_services foreign room to.network unlisted run are suffice first ticks rest leaves
       (ticks_beside net most_routes most_services foreign next ticks calm) long) long
       way.hops place.router place.port 0 None bytes p way there on away are_bytes is_packet refl of_host short few_control least refl (all_ticks way (length ticks) sure);
 }

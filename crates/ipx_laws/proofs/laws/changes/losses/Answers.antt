@@ -3,7 +3,6 @@ use Rattle.ipx_wire.specs.declared.network.Network.{Network}
 use Rattle.ipx_router.specs.History.{History}
 use Rattle.ipx_internet.specs.Internet.{Internet, IsInternet}
 use Rattle.ipx_internet.specs.Run.{Step, Run, Waiting, AreHistories, begun, run_of}
-use Rattle.ipx_internet.proofs.packets.SentOnOrReply.{Layouts}
 use Rattle.ipx_laws.specs.Least.{AreCheap, FifteenSuffice, least_route}
 use Rattle.ipx_laws.specs.Losses.{AreLosses}
 use Rattle.ipx_laws.specs.Tables.{AreReal, AreRight}
@@ -13,29 +12,6 @@ use Rattle.ipx_laws.proofs.losses.LossesGoOn.{Losing, steps_lose}
 use Rattle.ipx_laws.proofs.losses.RealAfterLosses.{all_real}
 use Rattle.ipx_laws.proofs.losses.TableIsAdvertised.{at_first}
 
--- the laws of packets and routers
-layouts : goal.After-right → Layouts
-layouts c = record {
-  readings = record {
-    packet_read = c.readings.ensures.packet_read;
-    packet_front = c.readings.ensures.packet_front;
-    rip_read = c.readings.ensures.rip_read;
-    sap_read = c.service_readings.ensures.sap_read;
-  };
-  again = record {
-    rip_packet_again = c.reread.ensures.rip_packet;
-    rip_again = c.reread.ensures.rip;
-    query_packet_again = c.reread.ensures.query_packet;
-    query_again = c.reread.ensures.query;
-    sap_packet_again = c.reread.ensures.sap_packet;
-    sap_again = c.reread.ensures.sap;
-    forwarded_again = c.reread.ensures.forwarded;
-    propagated_again = c.reread.ensures.propagated;
-  };
-  layouts = c.packets.ensures.layouts;
-  bytes = c.packets.ensures.bytes;
-}
-
 module _ (c : goal.After-right) (net : Internet) (most_routes most_services : ℕ) (histories : List History) (steps : List Step) (is : IsInternet net)
     (suffice : (network : Network) → FifteenSuffice net (ups net histories) network) (cheap : AreCheap net) (are : AreHistories net histories)
     (real : AreReal net most_routes histories (ups net histories)) (right : AreRight net most_routes histories (ups net histories))
@@ -44,15 +20,15 @@ module _ (c : goal.After-right) (net : Internet) (most_routes most_services : �
   after = run_of net most_routes most_services (begun histories) steps
 
   -- where nothing waits
-  losing : Losing net (layouts c) is most_routes most_services after.histories (record { histories = after.histories; queue = [] })
+  losing : Losing net c.layouts.ensures is most_routes most_services after.histories (record { histories = after.histories; queue = [] })
   losing =
       subst (λ (ws : List Waiting).
-      Losing net (layouts c) is most_routes most_services after.histories (record { histories = after.histories; queue = map (λ w. w.delivery) ws })) losses.quiet
-      (steps_lose net (layouts c) is most_routes most_services after.histories (begun histories) steps losses.losses
-      (at_first net (layouts c) is cheap most_routes most_services after.histories histories are suffice real right))
+      Losing net c.layouts.ensures is most_routes most_services after.histories (record { histories = after.histories; queue = map (λ w. w.delivery) ws })) losses.quiet
+      (steps_lose net c.layouts.ensures is most_routes most_services after.histories (begun histories) steps losses.losses
+      (at_first net c.layouts.ensures is cheap most_routes most_services after.histories histories are suffice real right))
 
   real_then : AreReal net most_routes after.histories (ups net after.histories)
-  real_then = all_real net (layouts c) is most_routes most_services after.histories losing
+  real_then = all_real net c.layouts.ensures is most_routes most_services after.histories losing
 
 pub returns-clause-real : goal.returns-clause-real
 returns-clause-real c net most_routes most_services histories steps is suffice cheap are real right losses =

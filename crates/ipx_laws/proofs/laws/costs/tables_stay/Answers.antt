@@ -9,7 +9,6 @@ use Rattle.ipx_internet.specs.BusyTick.{IsBusyTick}
 use Rattle.ipx_internet.specs.Internet.{Internet, IsInternet, NodesDiffer, ports_of}
 use Rattle.ipx_internet.specs.Run.{Step, Run, AreHistories, begun}
 use Rattle.ipx_internet.specs.Ticks.{IsTick, AreTicks, ticked}
-use Rattle.ipx_internet.proofs.packets.SentOnOrReply.{Layouts}
 use Rattle.ipx_internet.proofs.trees.RunIsALog.{router_there}
 use Rattle.ipx_laws.specs.Apart.{HasRoomBeside}
 use Rattle.ipx_laws.specs.Departure.{departures}
@@ -30,29 +29,6 @@ use Rattle.ipx_laws.proofs.ticks.NoServiceInTicks.{NoService, stays_none, from_a
 use Rattle.ipx_laws.proofs.ticks.TickAfterTick.{IsCalmTick, CalmTicks, Rests, calm_ticks, ticks_are_calm, rested}
 use Rattle.ipx_laws.proofs.upkeep.TablesStayInTicks.{tables_stay_in}
 use Rattle.ipx_laws.proofs.upkeep.TicksAreOfUpkeep.{are_of_upkeep, seconds_in}
-
--- the laws of packets and routers
-layouts : After-upkeep → Layouts
-layouts c = record {
-  readings = record {
-    packet_read = c.readings.ensures.packet_read;
-    packet_front = c.readings.ensures.packet_front;
-    rip_read = c.readings.ensures.rip_read;
-    sap_read = c.service_readings.ensures.sap_read;
-  };
-  again = record {
-    rip_packet_again = c.reread.ensures.rip_packet;
-    rip_again = c.reread.ensures.rip;
-    query_packet_again = c.reread.ensures.query_packet;
-    query_again = c.reread.ensures.query;
-    sap_packet_again = c.reread.ensures.sap_packet;
-    sap_again = c.reread.ensures.sap;
-    forwarded_again = c.reread.ensures.forwarded;
-    propagated_again = c.reread.ensures.propagated;
-  };
-  layouts = c.packets.ensures.layouts;
-  bytes = c.packets.ensures.bytes;
-}
 
 -- whichever that is
 any_network : Network
@@ -98,9 +74,9 @@ module _ (c : After-upkeep) (net : Internet) (most_routes most_services : ℕ) (
   stay_then : Calm (ticks ++ further) → most_ticks_right ≤ length ticks → Services → Tables
   stay_then calm long services =
       let parts = parts_of net most_routes most_services (IsCalmTick net most_routes most_services []) (begun histories) ticks further calm in
-      tables_stay_in net (layouts c) is differ cheap (ups net histories) (ups_within net histories) most_routes most_services room_beside suffice
+      tables_stay_in net c.layouts.ensures is differ cheap (ups net histories) (ups_within net histories) most_routes most_services room_beside suffice
       (λ ports history. c.tables.ensures.routes_rise ports most_routes history) (length ticks) long run further
-      (λ network. from_any net (layouts c) is differ cheap most_routes most_services [] room_beside network refl (begun histories) are (suffice network) []
+      (λ network. from_any net c.layouts.ensures is differ cheap most_routes most_services [] room_beside network refl (begun histories) are (suffice network) []
       ticks (tt, tt, refl) tt parts.0
       (omega (arith, long)))
       parts.1 services
@@ -108,9 +84,9 @@ module _ (c : After-upkeep) (net : Internet) (most_routes most_services : ℕ) (
   stay_sooner : AreReal net most_routes histories (ups net histories) → Calm (ticks ++ further) → period ≤ length ticks → Services → Tables
   stay_sooner real calm long services =
       let parts = parts_of net most_routes most_services (IsCalmTick net most_routes most_services []) (begun histories) ticks further calm in
-      tables_stay_in net (layouts c) is differ cheap (ups net histories) (ups_within net histories) most_routes most_services room_beside suffice
+      tables_stay_in net c.layouts.ensures is differ cheap (ups net histories) (ups_within net histories) most_routes most_services room_beside suffice
       (λ ports history. c.tables.ensures.routes_rise ports most_routes history) (length ticks + most_ticks_gone) (omega (arith, long)) run further
-      (λ network. from_real net (layouts c) is differ cheap most_routes most_services [] room_beside network refl (begun histories) are (suffice network)
+      (λ network. from_real net c.layouts.ensures is differ cheap most_routes most_services [] room_beside network refl (begun histories) are (suffice network)
       ticks refl parts.0
       (real_beside net most_routes histories (ups net histories) [] real))
       parts.1 services
@@ -123,8 +99,8 @@ module _ (c : After-upkeep) (net : Internet) (most_routes most_services : ℕ) (
         parts_of net most_routes most_services (IsCalmTick net most_routes most_services []) (begun histories) ticks further
         (calm_ticks net most_routes most_services [] (begun histories) (ticks ++ further) all_calm)
 
-    rests : Rests net (layouts c) is most_routes most_services (ups net histories) [] (length ticks) run
-    rests = rested net (layouts c) is most_routes most_services (ups net histories) [] (begun histories) ticks are (λ router. refl) refl both_calm.0
+    rests : Rests net c.layouts.ensures is most_routes most_services (ups net histories) [] (length ticks) run
+    rests = rested net c.layouts.ensures is most_routes most_services (ups net histories) [] (begun histories) ticks are (λ router. refl) refl both_calm.0
 
     minute_then : (router number : ℕ) → AllByRecursion (IsOfUpkeep net) (steps_of further) → length further ≡ period → is_up (ups net histories router) number ≡ true
         → Tables → sent_by router number (departures net most_routes most_services run (steps_of further))
@@ -151,13 +127,13 @@ module _ (c : After-upkeep) (net : Internet) (most_routes most_services : ℕ) (
 
     alone_then : most_ticks_right ≤ length ticks → Tables
     alone_then long =
-        stay_then calm long (stays_none net (layouts c) is most_routes most_services (length ticks + 0) (omega (arith, long)) run further
-        (none_from_any net (layouts c) is most_routes most_services histories are ticks parts.0) parts.1)
+        stay_then calm long (stays_none net c.layouts.ensures is most_routes most_services (length ticks + 0) (omega (arith, long)) run further
+        (none_from_any net c.layouts.ensures is most_routes most_services histories are ticks parts.0) parts.1)
 
-    alone_soon : AreReal net most_routes histories (ups net histories) → NoService net (layouts c) is most_routes most_services histories → period ≤ length ticks → Tables
+    alone_soon : AreReal net most_routes histories (ups net histories) → NoService net c.layouts.ensures is most_routes most_services histories → period ≤ length ticks → Tables
     alone_soon real none long =
-        stay_sooner real calm long (stays_none net (layouts c) is most_routes most_services (length ticks + most_ticks_gone) (omega (arith, long)) run further
-        (at_once net (layouts c) is most_routes most_services histories are none ticks parts.0) parts.1)
+        stay_sooner real calm long (stays_none net c.layouts.ensures is most_routes most_services (length ticks + most_ticks_gone) (omega (arith, long)) run further
+        (at_once net c.layouts.ensures is most_routes most_services histories are none ticks parts.0) parts.1)
 
     ticks_of_upkeep : AllByRecursion (IsOfUpkeep net) (steps_of further)
     ticks_of_upkeep = are_of_upkeep net most_routes most_services run further parts.1

@@ -19,7 +19,6 @@ use Rattle.ipx_internet.specs.Queue.{history_of}
 use Rattle.ipx_internet.specs.Run.{AreHistories, Waiting, Run}
 use Rattle.ipx_internet.specs.Ticks.{seconds_of}
 use Rattle.ipx_internet.proofs.lists.EachElement.{all_then, rising_differ}
-use Rattle.ipx_internet.proofs.packets.SentOnOrReply.{Layouts}
 use Rattle.ipx_laws.specs.Upkeep.{all_pages, has}
 use Rattle.ipx_laws.specs.Ups.{ups}
 use Rattle.ipx_laws.proofs.laws.costs.upkeep.Goals as goal
@@ -27,34 +26,11 @@ use Rattle.ipx_laws.proofs.upkeep.FewNetworks.{fewer}
 use Rattle.ipx_laws.proofs.upkeep.OnceInAPeriod.{Calm, Keeps, goes, all_up, owed}
 use Rattle.ipx_laws.proofs.upkeep.SizeOfPages.{Sizes, counted, sized}
 
--- the laws of packets and routers
-layouts : goal.After-tables → Layouts
-layouts c = record {
-  readings = record {
-    packet_read = c.readings.ensures.packet_read;
-    packet_front = c.readings.ensures.packet_front;
-    rip_read = c.readings.ensures.rip_read;
-    sap_read = c.service_readings.ensures.sap_read;
-  };
-  again = record {
-    rip_packet_again = c.reread.ensures.rip_packet;
-    rip_again = c.reread.ensures.rip;
-    query_packet_again = c.reread.ensures.query_packet;
-    query_again = c.reread.ensures.query;
-    sap_packet_again = c.reread.ensures.sap_packet;
-    sap_again = c.reread.ensures.sap;
-    forwarded_again = c.reread.ensures.forwarded;
-    propagated_again = c.reread.ensures.propagated;
-  };
-  layouts = c.packets.ensures.layouts;
-  bytes = c.packets.ensures.bytes;
-}
-
 at_first : (c : goal.After-tables) (net : Internet) (is : IsInternet net) (most_routes most_services : ℕ) (run : Run) → AreHistories net run.histories
-    → run.waiting ≡ [] → Keeps net (layouts c) is most_routes most_services run.histories run.histories (map (λ w. w.delivery) run.waiting)
+    → run.waiting ≡ [] → Keeps net c.layouts.ensures is most_routes most_services run.histories run.histories (map (λ w. w.delivery) run.waiting)
 at_first c net is most_routes most_services run are quiet = record {
   are = are;
-  calm = subst (λ (ws : List Waiting). AllByRecursion (Calm net (layouts c) is most_routes most_services run.histories) (map (λ w. w.delivery) ws)) (sym quiet) tt;
+  calm = subst (λ (ws : List Waiting). AllByRecursion (Calm net c.layouts.ensures is most_routes most_services run.histories) (map (λ w. w.delivery) ws)) (sym quiet) tt;
   same = λ router within. (refl, refl);
   ports = λ router. refl;
 }
@@ -66,13 +42,13 @@ returns-clause-pages c net most_routes most_services run steps router number is 
     let few : ran % period + seconds_of router steps < 2 * period = omega (arith, below, sixty) in
     let whole : nat_lt (ran % period + period) period ≡ false = le-ltb (ran % period + period) period (omega arith) in
     let all = all_pages (ports_of net router) (has net most_routes most_services run.histories router) number in
-    goes net (layouts c) is most_routes most_services run.histories router number on steps run
+    goes net c.layouts.ensures is most_routes most_services run.histories router number on steps run
     (at_first c net is most_routes most_services run are quiet) of stay few
     ∙ ap (owed all ran) sixty ∙ rw whole refl
 
 pub returns-clause-ups_alone : goal.returns-clause-ups_alone
 returns-clause-ups_alone c net most_routes most_services run steps is are quiet of stay =
-    all_up net (layouts c) is most_routes most_services run.histories steps run (at_first c net is most_routes most_services run are quiet) of stay
+    all_up net c.layouts.ensures is most_routes most_services run.histories steps run (at_first c net is most_routes most_services run are quiet) of stay
 
 pub returns-clause-packets : goal.returns-clause-packets
 returns-clause-packets c ports most_routes most_services history number =
@@ -85,7 +61,7 @@ returns-clause-bytes c ports most_routes most_services history number are of_byt
     let sizes : Sizes = record { rip = c.sizes.ensures.rip; sap = c.sizes.ensures.sap } in
     sized sizes ports number (port-all IsPort ports number are within) (told ports h.up h.routes number) (told_services h.services number)
     (all_then IsTellable IsService (λ s it. it.ranges) (told_services h.services number)
-    (told_services_fit h.services number (held_services_fit (layouts c).readings ports most_services history of_bytes)))
+    (told_services_fit h.services number (held_services_fit c.layouts.ensures.readings ports most_services history of_bytes)))
 
 pub returns-clause-few : goal.returns-clause-few
 returns-clause-few c net most_routes histories router number is are on real =

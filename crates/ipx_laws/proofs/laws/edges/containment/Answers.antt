@@ -4,60 +4,17 @@ use Rattle.ipx_internet.specs.Internet.{Internet, ports_of}
 use Rattle.ipx_internet.specs.Log.{Sending, reception_at}
 use Rattle.ipx_internet.specs.Queue.{history_of}
 use Rattle.ipx_internet.specs.Run.{Run, Happens, begun, stepped}
-use Rattle.ipx_internet.proofs.packets.ForwardsDiffer.{Routing}
-use Rattle.ipx_internet.proofs.packets.SentOnOrReply.{Layouts}
 use Rattle.ipx_laws.specs.Edges.{lets_in, edge_run}
-use Rattle.ipx_laws.proofs.edges.EdgesKeepRuns.{Edge, Well, no_some, runs_well}
+use Rattle.ipx_laws.proofs.edges.EdgesKeepRuns.{Well, no_some, runs_well}
 use Rattle.ipx_laws.proofs.edges.SentOnChangesNoTable.{contained}
 use Rattle.ipx_laws.proofs.laws.edges.containment.Goals as goal
-
--- the laws of packets, of routers and of edges
-layouts : goal.After-shares_hold → Layouts
-layouts c = record {
-  readings = record {
-    packet_read = c.readings.ensures.packet_read;
-    packet_front = c.readings.ensures.packet_front;
-    rip_read = c.readings.ensures.rip_read;
-    sap_read = c.service_readings.ensures.sap_read;
-  };
-  again = record {
-    rip_packet_again = c.reread.ensures.rip_packet;
-    rip_again = c.reread.ensures.rip;
-    query_packet_again = c.reread.ensures.query_packet;
-    query_again = c.reread.ensures.query;
-    sap_packet_again = c.reread.ensures.sap_packet;
-    sap_again = c.reread.ensures.sap;
-    forwarded_again = c.reread.ensures.forwarded;
-    propagated_again = c.reread.ensures.propagated;
-  };
-  layouts = c.packets.ensures.layouts;
-  bytes = c.packets.ensures.bytes;
-}
-
-routing : goal.After-shares_hold → Routing
-routing c = record {
-  listed = c.relays.ensures.listed;
-  in_order = c.relays.ensures.in_order;
-  ups = c.relays.ensures.ups;
-  of_a_table = c.tables.ensures.of_a_table;
-  routes_up = c.tables.ensures.routes_up;
-  sent_bytes = c.packets.ensures.bytes;
-}
-
-edge : goal.After-shares_hold → Edge
-edge c = record {
-  names = c.names_its_network.ensures.source;
-  held = c.holds_what_routers_carried.ensures.held;
-  same = c.lets_all_else_in.ensures.same;
-  direct = c.hears_neighbours_alone.ensures;
-}
 
 pub returns-clause-heard : goal.returns-clause-heard
 returns-clause-heard c net most_routes most_services histories steps place message is are all within hears =
     none (reception_at (edge_run net most_routes most_services (begun histories) steps).log place).origin refl
   where
     well : Well net (edge_run net most_routes most_services (begun histories) steps)
-    well = runs_well net (layouts c) (routing c) (edge c) is most_routes most_services histories steps are all
+    well = runs_well net c.layouts.ensures c.routing.ensures c.edge.ensures is most_routes most_services histories steps are all
 
     none : (o : Option Sending) → (reception_at (edge_run net most_routes most_services (begun histories) steps).log place).origin ≡ o
         → (reception_at (edge_run net most_routes most_services (begun histories) steps).log place).origin ≡ None
@@ -66,8 +23,8 @@ returns-clause-heard c net most_routes most_services histories steps place messa
 
 pub returns-clause-contained : goal.returns-clause-contained
 returns-clause-contained c net most_routes most_services histories steps w waiting s is are all is_first from =
-    contained net most_routes most_services (layouts c) (routing c) (edge c) is (edge_run net most_routes most_services (begun histories) steps) w waiting s
-    (runs_well net (layouts c) (routing c) (edge c) is most_routes most_services histories steps are all) is_first from
+    contained net most_routes most_services c.layouts.ensures c.routing.ensures c.edge.ensures is (edge_run net most_routes most_services (begun histories) steps) w waiting s
+    (runs_well net c.layouts.ensures c.routing.ensures c.edge.ensures is most_routes most_services histories steps are all) is_first from
 
 -- what happens to one router leaves the histories of all others
 abbrev after : (net : Internet) (most_routes most_services : ℕ) → Run → ℕ → Option Event → Run

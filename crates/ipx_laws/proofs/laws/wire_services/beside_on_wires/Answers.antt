@@ -2,7 +2,6 @@ use Rattle.std.proofs.Common.{◌≡◌, refl, sym, ap, ℕ, ◌+◌, ◌-◌, �
 use Rattle.ipx_router.proofs.port_values.PortOfEachNumber.{ports_up-within}
 use Rattle.ipx_internet.specs.Internet.{ports_of}
 use Rattle.ipx_internet.specs.Queue.{history_of}
-use Rattle.ipx_internet.proofs.packets.SentOnOrReply.{Layouts}
 use Rattle.ipx_laws.specs.Servers.{beside}
 use Rattle.ipx_laws.specs.Ups.{ups}
 use Rattle.ipx_laws.specs.Wires.{still, flying, most_beats_flying, most_beats_gone}
@@ -11,29 +10,6 @@ use Rattle.ipx_laws.specs.WireRegular.{most_beats_known}
 use Rattle.ipx_laws.proofs.services.FewestHops.{no_nearer}
 use Rattle.ipx_laws.proofs.wires.HeardInBeats.{hosts_apart}
 use Rattle.ipx_laws.proofs.wires.KnownOnWires.{beside_known}
-
--- the laws of packets and routers
-layouts : goal.After-packets → Layouts
-layouts c = record {
-  readings = record {
-    packet_read = c.readings.ensures.packet_read;
-    packet_front = c.readings.ensures.packet_front;
-    rip_read = c.readings.ensures.rip_read;
-    sap_read = c.service_readings.ensures.sap_read;
-  };
-  again = record {
-    rip_packet_again = c.reread.ensures.rip_packet;
-    rip_again = c.reread.ensures.rip;
-    query_packet_again = c.reread.ensures.query_packet;
-    query_again = c.reread.ensures.query;
-    sap_packet_again = c.reread.ensures.sap_packet;
-    sap_again = c.reread.ensures.sap;
-    forwarded_again = c.reread.ensures.forwarded;
-    propagated_again = c.reread.ensures.propagated;
-  };
-  layouts = c.packets.ensures.layouts;
-  bytes = c.packets.ensures.bytes;
-}
 
 -- no hop more than the nearest
 none_more : (delay window hops count : ℕ) → most_beats_gone delay + window ≤ count → most_beats_known delay window hops hops ≤ count
@@ -45,7 +21,7 @@ none_more delay window hops count long =
 pub returns-clause-has : goal.returns-clause-has
 returns-clause-has c net most_routes most_services delay window server names histories beats place which host (is, are, voice, room, listed) all leave quick (say, named, in_time) long (within, on, announces, network, reached, least) =
     let due = none_more delay window host.hops (length beats - 0) (omega (arith, long)) in
-    beside_known delay 0 net (layouts c) is most_routes most_services (ups net histories) server names
+    beside_known delay 0 net c.layouts.ensures is most_routes most_services (ups net histories) server names
     (hosts_apart net most_routes most_services delay server window (ups net histories) (still histories) beats voice in_time (omega (arith, long)))
     (λ k. ports_up-within (ports_of net k) (history_of histories k)) room listed host.hops least window histories are (λ other. refl) [] tt (inl refl) beats all leave say
     named quick in_time
@@ -55,7 +31,7 @@ returns-clause-has c net most_routes most_services delay window server names his
 pub returns-clause-whatever_flies : goal.returns-clause-whatever_flies
 returns-clause-whatever_flies c net most_routes most_services delay window server names histories deliveries beats place which host (is, are, voice, room, listed) fly all leave quick (say, named, in_time) long (within, on, announces, network, reached, least) =
     let due = none_more delay window host.hops (length beats - (most_beats_flying delay)) (omega (arith, long)) in
-    beside_known delay (most_beats_flying delay) net (layouts c) is most_routes most_services (ups net histories) server names
+    beside_known delay (most_beats_flying delay) net c.layouts.ensures is most_routes most_services (ups net histories) server names
     (hosts_apart net most_routes most_services delay server window (ups net histories) (flying histories deliveries) beats voice in_time (omega (arith, long)))
     (λ k. ports_up-within (ports_of net k) (history_of histories k)) room listed host.hops least window histories are (λ other. refl) deliveries fly (inr (omega arith)) beats all leave say
     named quick in_time

@@ -2,7 +2,6 @@ use Rattle.std.proofs.Common.{◌≡◌, refl, sym, ◌∷◌, ◌++◌, [], app
 use Rattle.ipx_router.proofs.port_values.PortOfEachNumber.{ports_up-within}
 use Rattle.ipx_internet.specs.Internet.{ports_of}
 use Rattle.ipx_internet.specs.Queue.{history_of}
-use Rattle.ipx_internet.proofs.packets.SentOnOrReply.{Layouts}
 use Rattle.ipx_laws.specs.Servers.{at_hops, known_of}
 use Rattle.ipx_laws.specs.Tables.{services_of}
 use Rattle.ipx_laws.specs.Ups.{ups}
@@ -12,32 +11,9 @@ use Rattle.ipx_laws.proofs.wires.HeardInBeats.{hosts_apart}
 use Rattle.ipx_laws.proofs.wires.KnownOnWires.{known, known_last}
 use Rattle.ipx_laws.proofs.wires.PartsOfBeats.{along_prefix}
 
--- the laws of packets and routers
-layouts : goal.After-packets → Layouts
-layouts c = record {
-  readings = record {
-    packet_read = c.readings.ensures.packet_read;
-    packet_front = c.readings.ensures.packet_front;
-    rip_read = c.readings.ensures.rip_read;
-    sap_read = c.service_readings.ensures.sap_read;
-  };
-  again = record {
-    rip_packet_again = c.reread.ensures.rip_packet;
-    rip_again = c.reread.ensures.rip;
-    query_packet_again = c.reread.ensures.query_packet;
-    query_again = c.reread.ensures.query;
-    sap_packet_again = c.reread.ensures.sap_packet;
-    sap_again = c.reread.ensures.sap;
-    forwarded_again = c.reread.ensures.forwarded;
-    propagated_again = c.reread.ensures.propagated;
-  };
-  layouts = c.packets.ensures.layouts;
-  bytes = c.packets.ensures.bytes;
-}
-
 pub returns-clause-has : goal.returns-clause-has
 returns-clause-has c net most_routes most_services delay window server names nearest histories beats router hops (is, are, voice, room, listed) all leave quick (say, named, in_time) differ least routers long within near fewest =
-    known_last delay 0 net (layouts c) is most_routes most_services (ups net histories) server names
+    known_last delay 0 net c.layouts.ensures is most_routes most_services (ups net histories) server names
     (hosts_apart net most_routes most_services delay server window (ups net histories) (still histories) beats voice in_time (omega (arith, long)))
     (λ k. ports_up-within (ports_of net k) (history_of histories k)) room listed nearest least window histories are (λ other. refl) [] tt (inl refl) beats all leave say
     named quick in_time
@@ -45,7 +21,7 @@ returns-clause-has c net most_routes most_services delay window server names nea
 
 pub returns-clause-whatever_flies : goal.returns-clause-whatever_flies
 returns-clause-whatever_flies c net most_routes most_services delay window server names nearest histories deliveries beats router hops (is, are, voice, room, listed) fly all leave quick (say, named, in_time) differ least routers long within near fewest =
-    known_last delay (most_beats_flying delay) net (layouts c) is most_routes most_services (ups net histories) server names
+    known_last delay (most_beats_flying delay) net c.layouts.ensures is most_routes most_services (ups net histories) server names
     (hosts_apart net most_routes most_services delay server window (ups net histories) (flying histories deliveries) beats voice in_time (omega (arith, long)))
     (λ k. ports_up-within (ports_of net k) (history_of histories k)) room listed nearest least window histories are (λ other. refl) deliveries fly (inr (omega arith)) beats all leave say
     named quick in_time
@@ -55,7 +31,7 @@ pub returns-clause-meanwhile : goal.returns-clause-meanwhile
 returns-clause-meanwhile c net most_routes most_services delay window server names nearest histories beats steps more router hops (is, are, voice, room, listed) all leave quick (say, named, in_time) differ least routers long within near fewest =
     along_prefix net most_routes most_services delay (λ now. known_of server (services_of net most_services now.histories router) ≡ Some (at_hops server hops))
     (beats_of net most_routes most_services delay (still histories) beats) steps more
-    (known delay 0 net (layouts c) is most_routes most_services (ups net histories) server names
+    (known delay 0 net c.layouts.ensures is most_routes most_services (ups net histories) server names
     (hosts_apart net most_routes most_services delay server window (ups net histories) (still histories) (beats ++ (steps ++ more) ∷ []) voice in_time (let count = length-append beats ((steps ++ more) ∷ []) in omega (arith, count, long)))
     (λ k. ports_up-within (ports_of net k) (history_of histories k)) room listed nearest least window histories are (λ other. refl) [] tt (inl refl) (beats ++ (steps ++ more) ∷ []) all leave say
     named quick in_time

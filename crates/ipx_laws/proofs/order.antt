@@ -1,0 +1,2 @@
+-- Deliveries in any order come to an end.
+pub mod AnyOrderEnds
