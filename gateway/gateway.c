@@ -225,6 +225,8 @@ static void hear_all(gateway *it, cable *carrier, arrivals *in)
         arrival *next = &in->list[k];
         if (carrier->set->type == LINK_DOSBOX)
             tunnel_hear(it, first_on(it, carrier), next->bytes, next->length, &next->from);
+        else if (next->is_sent)
+            ether_hear_sent(it, carrier, next->bytes, next->length);
         else
             ether_hear(it, carrier, next->bytes, next->length);
     }

@@ -31,6 +31,9 @@ enum {
 #define LOCAL_NODE 0x02
 #define COOKIE_NODE 0x06
 
+/* The socket of the gateway's own packets that look for loops. It is no program's: whoever hears such a packet lets go of it. */
+#define LOOP_SOCKET 0x8A5E
+
 /* Bytes of the longest packet that any link here carries. */
 #define LONGEST 1500
 

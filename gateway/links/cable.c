@@ -217,7 +217,7 @@ static bool is_at_any_address(const network_setting *set)
            memcmp(set->local.six, ANY.six, sizeof ANY.six) == 0;
 }
 
-/* Where that address isn't the machine's any more, as where it was given another one, the link is opened again, by the one there is now. */
+/* Where that is another address by now, as where the machine was given one, or a card came up that leads there, the link is opened again. */
 static void follow_own_address(cable *it)
 {
     if (it->fd < 0 || !is_at_any_address(it->set) || datagram_has_address(it->fd))
@@ -330,6 +330,7 @@ static bool receive_frame(cable *it, arrivals *in)
     ssize_t length = it->set->type == LINK_TAP ? tap_receive(it->fd, first->bytes, sizeof first->bytes)
                                                : receive_stream(it, first->bytes, sizeof first->bytes);
     first->length = length > 0 ? (size_t)length : 0;
+    first->is_sent = false;
     in->count = 1;
     return length >= 0;
 }

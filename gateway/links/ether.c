@@ -338,15 +338,44 @@ static uint16_t answer(incoming *in, uint8_t next)
     return answer_carried(in, next);
 }
 
-void ether_hear(gateway *it, cable *carrier, const uint8_t *frame, size_t length)
+/* The network of the cable, whatever its kind of frames, whose own packet it is that looks for loops; or NULL. */
+static network *looks_for_loops(const incoming *in)
 {
-    ipxr_course way;
+    for (network *on = in->it->networks; in->kind != IPXR_NO_FRAME && on < in->it->networks + in->it->count; on++)
+        if (on->cable == in->carrier && loop_sent(in->it, on, in->carried.packet, in->rest))
+            return on;
+    return NULL;
+}
+
+/* A frame as it was read. */
+static incoming read_frame(gateway *it, cable *carrier, const uint8_t *frame, size_t length)
+{
     size_t front = 0;
     incoming in = {.it = it, .carrier = carrier, .frame = frame, .length = length};
     in.kind = ipxr_frame_read(frame, length < MOST_RECEIVED ? length : MOST_RECEIVED, &front);
     in.carried.on = network_of(it, carrier, in.kind, &in.is_there);
     in.carried.packet = frame + front;
     in.rest = length - front;
+    network *own = in.is_there ? NULL : looks_for_loops(&in);
+    if (own != NULL) {
+        in.carried.on = own;
+        in.is_there = true;
+    }
+    return in;
+}
+
+void ether_hear_sent(gateway *it, cable *carrier, const uint8_t *frame, size_t length)
+{
+    incoming in = read_frame(it, carrier, frame, length);
+    network *own = looks_for_loops(&in);
+    if (own != NULL)
+        loop_hears_sent(it, own, in.carried.packet, in.rest);
+}
+
+void ether_hear(gateway *it, cable *carrier, const uint8_t *frame, size_t length)
+{
+    ipxr_course way;
+    incoming in = read_frame(it, carrier, frame, length);
     ipxr_course_of_frame(&way);
     while (way.next != IPXR_NEXT_END)
         ipxr_course_answer(&way, answer(&in, way.next));

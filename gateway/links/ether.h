@@ -7,6 +7,9 @@
 /* A frame came on a cable; `length` is all that it had, of which the first MOST_RECEIVED bytes are there. */
 void ether_hear(gateway *it, cable *carrier, const uint8_t *frame, size_t length);
 
+/* The same of a frame that this machine sends there: of these the gateway hears its own that look for loops alone. */
+void ether_hear_sent(gateway *it, cable *carrier, const uint8_t *frame, size_t length);
+
 /* Sends a packet in a frame from a node to a node, or to all. On a link of any kind it goes to a node in the kind that this uses, and to
  * all, or to a node that isn't known, in each that was heard lately. What clients say goes there as far as the link receives it. What the
  * router itself says to all waits until it is due. */

@@ -9,9 +9,8 @@
 #include "links/links.h"
 
 enum {
-    LOOP_SOCKET = 0x8A5E, /* no program's: whoever hears such a packet lets go of it */
-    SEAL = 8,             /* bytes by which the gateway knows its own packet */
-    MOST_ROOM = 64,       /* frames that go, at most, so that there is room for it */
+    SEAL = 8,       /* bytes by which the gateway knows its own packet */
+    MOST_ROOM = 64, /* frames that go, at most, so that there is room for it */
 };
 
 /* The data of such a packet: the link, the second, and a hash of both that nobody can make but this gateway. Once links have changed, their
@@ -96,11 +95,13 @@ static void tell_shut(gateway *it, network *on, const network *with)
     links_look(it, on->cable);
 }
 
-/* Whether the link with which one is one cable is still before it. */
+/* Whether the link with which one is one cable is still there, and before it unless it is the one beneath. */
 static bool stays_shut(gateway *it, const network *on)
 {
     char why[LOOP_WORDS];
-    for (const network *other = first_of(it, port_of(it, on)); other < on; other++) {
+    const port *router_port = port_of(it, on);
+    const network *first = first_of(it, router_port), *end = on->loop.is_beneath ? first + router_port->count : on;
+    for (const network *other = first; other < end; other++) {
         why_with(other, why);
         if (is_cable(other) && strcmp(why, on->loop.why) == 0)
             return true;
@@ -125,27 +126,58 @@ static bool is_own(const gateway *it, const network *on, const uint8_t *packet)
     return memcmp(made, data, DATA) == 0;
 }
 
-bool loop_hears(gateway *it, network *on, const uint8_t *packet, size_t length)
+/* The link on which the gateway sent such a packet of its own that came on another, or on itself; NULL where it is none. */
+static network *sent_on(gateway *it, const network *on, const uint8_t *packet, size_t length)
 {
     if (!is_cable(on) || length < HEADER + DATA || get16(packet + AT_TO_SOCKET) != LOOP_SOCKET || !is_own(it, on, packet))
-        return false;
-    const uint8_t *data = packet + HEADER;
+        return NULL;
     port *router_port = port_of(it, on);
-    if (data[AT_LINK] >= router_port->count)
-        return true; /* (none does: its seal is of the links as they are now) */
-    network *other = first_of(it, router_port) + data[AT_LINK];
+    uint8_t link = packet[HEADER + AT_LINK];
+    return link < router_port->count ? first_of(it, router_port) + link : NULL; /* (it is: its seal is of the links as they are now) */
+}
+
+bool loop_sent(gateway *it, const network *on, const uint8_t *packet, size_t length)
+{
+    return sent_on(it, on, packet, length) != NULL;
+}
+
+bool loop_hears(gateway *it, network *on, const uint8_t *packet, size_t length)
+{
     ipxr_loop same = {0};
-    switch (ipxr_loop_probe(on->link, data[AT_LINK], second_of(data), it->seconds, &on->loop.shut, other != on ? &other->loop.shut : &same)) {
+    network *other = sent_on(it, on, packet, length);
+    if (other == NULL)
+        return false;
+    uint64_t second = second_of(packet + HEADER);
+    switch (ipxr_loop_probe(on->link, other->link, second, it->seconds, &on->loop.shut, other != on ? &other->loop.shut : &same)) {
     case IPXR_PROBE_LATE:
         return false;
     case IPXR_PROBE_HERE:
+        on->loop.is_beneath = false;
         tell_shut(it, on, other);
         break;
     case IPXR_PROBE_THERE:
+        other->loop.is_beneath = false;
         tell_shut(it, other, on);
         break;
     }
     return true;
+}
+
+/* (the one beneath counts as the later, since whoever is on it is on the other too) */
+void loop_hears_sent(gateway *it, network *on, const uint8_t *packet, size_t length)
+{
+    enum { EARLIER, LATER };
+    network *other = sent_on(it, on, packet, length);
+    if (other == NULL || other == on)
+        return;
+    if (same_link(other->set, on->set)) {
+        (void)loop_hears(it, on, packet, length);
+        return;
+    }
+    if (ipxr_loop_probe(LATER, EARLIER, second_of(packet + HEADER), it->seconds, &on->loop.shut, &other->loop.shut) == IPXR_PROBE_HERE) {
+        on->loop.is_beneath = true;
+        tell_shut(it, on, other);
+    }
 }
 
 /* Where three links or more are one cable, each packet comes back more than once, and soon the system's room for what waits is full: then a probe

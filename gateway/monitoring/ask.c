@@ -123,9 +123,11 @@ static int hear(int fd, const char *path)
             file = bytes[done++] == FOR_OUTPUT ? stdout : stderr;
         if (!has_ended)
             done += print(file, bytes + done, (size_t)length - done, &is_lost);
+        if (is_lost)
+            return NOT_WELL; /* (events have no end) */
         has_ended = has_ended || done < (size_t)length;
         if (has_ended && bytes[length - 1] != '\0')
-            return bytes[length - 1] == IS_WELL && !is_lost ? WELL : NOT_WELL;
+            return bytes[length - 1] == IS_WELL ? WELL : NOT_WELL;
     }
     fprintf(stderr, "ipxr-gateway: the gateway at %s ended before its answer did\n", path);
     return NOT_WELL;

@@ -2,6 +2,7 @@
 #ifndef DATAGRAM_H
 #define DATAGRAM_H
 
+#include <stdbool.h>
 #include <stddef.h>
 #include <stdint.h>
 
@@ -13,9 +14,11 @@
 /* How many come, or go, by one call of the system. */
 #define MOST_TOGETHER 32
 
-/* What came, and for a datagram who sent it. The length may be more than the room: what is beyond is lost. */
+/* What came, and for a datagram who sent it. The length may be more than the room: what is beyond is lost. A frame may be one that this
+ * machine sends there, by another way than the socket. */
 typedef struct arrival {
     address from;
+    bool is_sent;
     size_t length;
     uint8_t bytes[MOST_RECEIVED];
 } arrival;

@@ -14,7 +14,8 @@
  * Returns the socket, or -1. */
 int datagram_open(address *local, const address *remote);
 
-/* Whether the address that the system chose for a socket with a remote one is the machine's still; also where that can't be said. */
+/* Whether the system would choose the same address again for a socket with a remote one: it is the machine's still, and the way to the other end
+ * leaves from there. Also where that can't be said. */
 bool datagram_has_address(int fd);
 
 /* The next datagrams of a socket, or the next frames of an interface's. Returns false where there is none; with ECONNREFUSED where

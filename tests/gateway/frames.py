@@ -10,14 +10,14 @@ KINDS = ("ethernet2", "raw", "llc", "snap")
 FRONTS = {"raw": b"", "llc": b"\xe0\xe0\x03", "snap": b"\xaa\xaa\x03\0\0\0\x81\x37"}
 
 
-def frame(kind, to, source, bytes_, is_padded=True):
+def frame(kind, to, source, bytes_, padding=b"\xa5"):
     """A packet in a frame, padded to 60 bytes with what isn't zero, as old cards did."""
     if kind == "ethernet2":
         whole = to + source + b"\x81\x37" + bytes_
     else:
         body = FRONTS[kind] + bytes_
         whole = to + source + struct.pack(">H", len(body)) + body
-    return whole.ljust(60, b"\xa5") if is_padded else whole
+    return whole.ljust(60, padding)
 
 
 def unframed(kind, bytes_):
@@ -108,10 +108,10 @@ class Packets:
 
 
 class Station:
-    """A computer on a wire, with one kind of frame."""
+    """A computer on a wire, with one kind of frame, padded as old cards did or as they should."""
 
-    def __init__(self, wire, kind, network, node, gateway):
-        self.wire, self.kind, self.network, self.node, self.gateway = wire, kind, network, node, gateway
+    def __init__(self, wire, kind, network, node, gateway, padding=b"\xa5"):
+        self.wire, self.kind, self.network, self.node, self.gateway, self.padding = wire, kind, network, node, gateway, padding
         self.waiting = []
 
     def at(self, port=GAME):
@@ -119,7 +119,7 @@ class Station:
 
     def say(self, to, data, node=None, **how):
         """Sends a packet by the gateway, or to a node of the wire."""
-        self.wire.send(frame(self.kind, node or self.gateway, self.node, packet(to, self.at(), data, **how)))
+        self.wire.send(frame(self.kind, node or self.gateway, self.node, packet(to, self.at(), data, **how), self.padding))
 
     def hear(self, wanted=lambda it: not is_routers(it), patience=LIMIT):
         """The next packet that is wanted, of those for this station; or None."""

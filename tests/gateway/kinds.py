@@ -509,16 +509,37 @@ def cards_and_taps():
 
 
 def a_bridge_behind_its_back():
-    """Two links that a bridge joins are found where one is of any kind and the other of one: the later is shut."""
+    """Two links that a bridge joins are found whatever their kinds of frames: the later is shut."""
     ip("link", "add", "brk", "type", "bridge")
     ip("link", "set", "brk", "up")
-    for kinds in (("auto", "llc"), ("snap", "auto"), ("auto", "auto")):
+    for kinds in (("auto", "llc"), ("snap", "auto"), ("auto", "auto"), ("raw", "ethernet2"), ("llc", "snap")):
         with Cable([f"tap kinda {kinds[0]}", f"tap kindb {kinds[1]}"]) as gate:
             for name in ("kinda", "kindb"):
                 ip("link", "set", name, "master", "brk")
             down = gate.told(f"network {NUMBER:08X} is down: tap kindb {kinds[1]}")
             assert down.endswith(f": it is one cable with tap kinda {kinds[0]}"), down
     ip("link", "del", "brk")
+
+
+def two_kinds_on_one_card():
+    """Two links of a network with a kind each, on one card or on two that a bridge joins: the later is shut, and who is there is heard."""
+    pair("k0", "k1")
+    pair("k2", "k3")
+    ip("link", "add", "brk", "type", "bridge")
+    for name in ("k1", "k3"):
+        ip("link", "set", name, "master", "brk")
+    pair("k4", "k5")
+    ip("link", "set", "k4", "master", "brk")
+    ip("link", "set", "brk", "up")
+    for later in ("interface k0 llc", "interface k2 llc"):
+        with Cable(["interface k0 raw", later, "dosbox 127.0.0.1:0"]) as gate:
+            down = gate.told(f"network {NUMBER:08X} is down: {later}")
+            assert down.endswith(": it is one cable with interface k0 raw"), down
+            anna = Client(gate.ports_of[2], gateway=gate.nodes[NUMBER])
+            pc = Station(Packets("k5", "raw"), "raw", NUMBER, node(1), gate.nodes[NUMBER])
+            assert hears(anna, calls(pc)) and hears(pc, tells(anna, pc))
+    for name in ("k0", "k2", "k4", "brk"):
+        ip("link", "del", name)
 
 
 def each_option_fails():
@@ -556,7 +577,7 @@ def inside():
         return counts
     counts += tried(*((cards_and_taps,) if hears_all_frames() else ()), wrong_kinds_on_a_tap)
     if has_bridges():
-        return counts + tried(a_bridge_behind_its_back)
+        return counts + tried(a_bridge_behind_its_back, two_kinds_on_one_card)
     left_out("a bridge behind the gateway's back", "none can be made")
     return counts
 

@@ -79,7 +79,7 @@ def the_same_again():
 # Seeds that found what was once wrong, and the turns that they needed: two links of a network with port 0 that a reload joined; a 65th link
 # that overwrote what stands behind 64. And those that find what is planted today: newcomers who aren't let in with `strangers 1` (4); a client
 # that is pinged while it waits for its node (2, 6); a segment that is told places (2).
-FOUND = {1: 2500, 2: 1600, 3: 2500, 4: 3200, 6: 2900}
+FOUND = {1: 2500, 2: 1600, 3: 2500, 4: 3200, 6: 2900, 426789305747: 7000}
 
 
 def those_that_found():

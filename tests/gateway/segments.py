@@ -24,6 +24,7 @@ TWENTY = 20  # packets at once: fewer than a client's limit
 LASTS = 300  # seconds for which a station is known
 SIX_HUNDRED = 600  # clients: more than there are stations
 STATIONS = 512  # of a link with frames that are known
+LOOKED_AT = 12  # seconds, after which a link that was shut would be open again, if nothing came back on it
 ROUTES_OF_DOSBOX, SERVICES_OF_DOSBOX = 64, 32  # that are learned where a network's line says nothing of it
 FOR_ALL = struct.pack(">HIHH", 1, 0xFFFFFFFF, 16, 1)  # a request for all routes
 ASKED, QUESTIONS = 40, 6  # that a client asks at once, and that go on of them: four, and one each second
@@ -451,7 +452,7 @@ def cards_and_taps():
 def a_bridge_behind_its_back():
     """Two links that a bridge joins behind the gateway's back are one cable: the later is shut, which is told, until they are apart."""
     # (a bridge lets nothing pass from a node whose first byte is odd, as that of a client at 127.0.0.1)
-    ip("addr", "add", f"{EVEN}/32", "dev", "lo")
+    ip("addr", "replace", f"{EVEN}/32", "dev", "lo")
     ip("link", "add", "brs", "type", "bridge")
     ip("link", "set", "brs", "up")
     pair("s0", "s1")
@@ -480,6 +481,42 @@ def a_bridge_behind_its_back():
         assert gate.told(f"network {NUMBER:08X} is up: tap segb raw")
     ip("link", "del", "s0")
     ip("link", "del", "brs")
+
+
+def in_a_bridge_with(upper, first):
+    """A card in a bridge, as a link of the network, beside another through which the bridge is reached; which of the two the file names first."""
+    ip("link", "add", "brs", "type", "bridge")
+    ip("link", "set", "brs", "up")
+    for near, far in (("s0", "s1"), ("t0", "t1")):
+        pair(near, far)
+        ip("link", "set", near, "master", "brs")
+    card = "interface s0 raw"
+    links = [card, upper] if first == card else [upper, card]
+    with Cable([*links, f"dosbox {EVEN}:0"]) as gate:
+        anna = Client(gate.ports_of[2], EVEN, to=EVEN, gateway=gate.nodes[NUMBER])
+        if upper.startswith("tap"):
+            ip("link", "set", "sega", "master", "brs")
+        down = gate.told(f"network {NUMBER:08X} is down: {card}")
+        assert down.endswith(f": it is one cable with {upper}"), down
+        pcs = [Station(Packets(far, "raw"), "raw", NUMBER, node, gate.nodes[NUMBER], b"\0") for far, node in (("s1", PC), ("t1", CARD))]
+        for one, other in (pcs, reversed(pcs)):
+            data = calls(one)
+            assert hears(anna, data) and hears(other, data) and hears(one, tells(anna, one))
+            assert hears(other, tells(one, other))
+        time.sleep(LOOKED_AT if first == card else 0)
+        assert sum(" is down: " in it for it in told_so_far(gate)) == 1, gate.lines
+        ip("link", "set", "s0", "nomaster")
+        assert gate.told(f"network {NUMBER:08X} is up: {card}")
+    for name in ("s0", "t0", "brs"):
+        ip("link", "del", name)
+
+
+def a_card_beneath_a_link():
+    """A card in a bridge that the gateway reaches by another link, too, is shut, whichever the file names first, until it is taken out."""
+    ip("addr", "replace", f"{EVEN}/32", "dev", "lo")
+    for upper in ("tap sega raw", "interface brs raw"):
+        for first in ("interface s0 raw", upper):
+            in_a_bridge_with(upper, first)
 
 
 def four_in_one_bridge():
@@ -518,7 +555,7 @@ def inside():
         return Counts()
     counts = tried(*((cards_and_taps,) if hears_all_frames() else ()))
     if has_bridges():
-        return counts + tried(a_bridge_behind_its_back, four_in_one_bridge)
+        return counts + tried(a_bridge_behind_its_back, a_card_beneath_a_link, four_in_one_bridge)
     left_out("a bridge behind the gateway's back", "none can be made")
     return counts
 

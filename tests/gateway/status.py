@@ -249,6 +249,9 @@ def an_answer_that_is_lost():
         run = subprocess.run([*SYSTEM.quick, SYSTEM.program, "show", "counts", "--prometheus", "--status", gate.path], stdout=full,
                              stderr=subprocess.PIPE, timeout=LIMIT, check=False)
         assert run.returncode == 1 and run.stderr == b"ipxr-gateway: the answer can't be written: No space left on device\n", run
+        with subprocess.Popen([*SYSTEM.quick, SYSTEM.program, "show", "events", "--status", gate.path], stdout=full, stderr=subprocess.PIPE) as run:
+            until(lambda: Client(gate.ports[0x10]) and run.poll() is not None, "the events that can't be written end")
+            assert run.returncode == 1 and run.stderr.read() == b"ipxr-gateway: the answer can't be written: No space left on device\n"
 
 
 def wrong_questions():

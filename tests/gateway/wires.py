@@ -5,6 +5,7 @@ import select
 import socket
 import struct
 import subprocess
+import sys
 import tempfile
 import time
 
@@ -12,10 +13,12 @@ from cards import TUN, about, has_cards, has_taps, own_address, pair
 from frames import KINDS, Packets, Station, Tcp
 from lab import AGAIN, GAME, Client, Gateway, address, comes_next, free_ports, is_routers, reaches, tunnels, until
 from links import NO_LIMIT, STATION, both_ways, connected, listening, places_joined
-from spaces import ip
+from six import has_six
+from spaces import Space, ip
 from systems import SYSTEM
 from trying import Counts, begin, can, left_out, tried, tried_inside
 
+HEADER = 30  # bytes of an IPX packet's
 ANY_PORTS = "32768 60999"  # as Linux begins
 
 
@@ -143,7 +146,7 @@ def sources(wire):
 
 
 def another_own_address():
-    """Where this machine has another address, as of a line that connects anew, a link at 0.0.0.0 sends and hears by that one."""
+    """Where this machine has another address, as of a line that connects anew, or one from which the way leaves, a link at 0.0.0.0 sends by it."""
     pair("v0", "v1")
     ip("addr", "add", "10.77.0.1/24", "dev", "v0")
     ip("neigh", "add", "10.77.0.9", "lladdr", about("v1")["address"], "dev", "v0", "nud", "permanent")
@@ -151,15 +154,54 @@ def another_own_address():
         gate.until("network 00000020 up")
         far, wire = Client(gate.ports[0x10]), socket.socket(socket.AF_PACKET, socket.SOCK_RAW, socket.htons(0x0800))
         wire.bind(("v1", 0x0800))
-        for old, new in (("10.77.0.1", "10.77.0.3"), ("10.77.0.3", "10.77.0.4")):
+        for old, new in (("10.77.0.1/24", "10.77.0.3"), ("10.77.0.3/32", "10.77.0.4"), (None, "10.77.0.5")):
             ip("addr", "add", f"{new}/32", "dev", "v0")
-            ip("addr", "del", f"{old}/{24 if old == '10.77.0.1' else 32}", "dev", "v0")
+            if old is not None:
+                ip("addr", "del", old, "dev", "v0")
             ip("route", "replace", "10.77.0.0/24", "dev", "v0", "src", new)
             sources(wire)
             until(lambda: far.say(address(0x20, STATION, GAME), b"out") or time.sleep(AGAIN) or new in sources(wire), f"it sends by {new}")
             gate.told("network 00000020 is up")
         wire.close()
     ip("link", "del", "v0")
+
+
+# Ends with the first long datagram that comes there.
+LISTENS = """import socket
+it = socket.socket(socket.AF_INET6, socket.SOCK_DGRAM)
+it.bind(("fd02::2", 5002))
+print("hears", flush=True)
+while len(it.recv(2000)) < 1424:
+    pass
+"""
+
+
+def a_narrow_way():
+    """By IPv6 a long packet crosses a way that is narrower than the card, as a tunnel is, once a router there has said so."""
+    between, there = Space(), Space()
+    for near, far, space in (("v0", "v1", None), ("w0", "w1", between)):
+        (space.ip if space else ip)("link", "add", near, "type", "veth", "peer", "name", far)
+        (space.ip if space else ip)("link", "set", far, "netns", str((there if space else between).holder.pid))
+    ip("-6", "addr", "add", "fd01::1/64", "dev", "v0", "nodad")
+    ip("link", "set", "v0", "up")
+    for space, name, own in ((between, "v1", "fd01::2"), (between, "w0", "fd02::1"), (there, "w1", "fd02::2")):
+        space.ip("link", "set", name, "mtu", "1500" if name == "v1" else "1280", "up")
+        space.ip("-6", "addr", "add", f"{own}/64", "dev", name, "nodad")
+    between.set("ipv6/conf/all/forwarding", 1)
+    ip("-6", "route", "add", "fd02::/64", "via", "fd01::2")
+    there.ip("-6", "route", "add", "fd01::/64", "via", "fd02::1")
+    with subprocess.Popen([*there.within, sys.executable, "-c", LISTENS], stdout=subprocess.PIPE) as listener:
+        listener.stdout.readline()
+        with Gateway(tunnels(1) + "network 20 1 1490 qemu-udp [fd01::1]:5001 [fd02::2]:5002 raw\n") as gate:
+            gate.until("network 00000020 up")
+            far, data = Client(gate.ports[0x10]), bytes(1424 - HEADER)
+            try:
+                until(lambda: far.say(address(0x20, STATION, GAME), data) or time.sleep(AGAIN) or listener.poll() is not None, "a long packet comes")
+            finally:
+                listener.kill()
+    ip("link", "del", "v0")
+    for it in (between, there):
+        it.close()
 
 
 def two_gateways():
@@ -359,7 +401,7 @@ def inside():
         left_out("a connection with itself", "the ports that the system gives can't be set")
     if has_cards():
         counts += tried(all_kinds, a_short_mtu, a_cable_is_pulled, a_card_by_the_same_number, a_card_comes_later, an_address_comes_later,
-                        another_own_address, two_gateways, a_new_address, what_waits_on_a_card, a_dead_pc)
+                        another_own_address, two_gateways, a_new_address, what_waits_on_a_card, a_dead_pc, *((a_narrow_way,) if has_six() else ()))
     else:
         left_out("interfaces", "no pair of them can be made")
     if has_taps():

@@ -17,6 +17,7 @@
 #include <unistd.h>
 
 #include "configuration/settings.h"
+#include "ipx.h"
 #include "ipxr.h"
 #include "systems/sockets.h"
 
@@ -104,35 +105,47 @@ bool tap_send(int fd, const uint8_t *frame, size_t length)
     return write(fd, frame, length) == (ssize_t)length;
 }
 
-/* What a socket lets pass, as the system's own filter, so that a busy card's other traffic wakes nobody: frames that came, have no tag of
- * another VLAN, and are of IPX' type, or have a length and the first bytes of one of the three other kinds. The library looks at what
- * follows. */
-enum { TYPE_OF_IPX = 0x8137, LEAST_TYPE = 0x600, AT_TYPE_OR_LENGTH = 12, BEHIND_LENGTH = 14, BEHIND_SNAP = 20, VLAN = 0xFFF };
+/* What a socket lets pass, as the system's own filter, so that a busy card's other traffic wakes nobody. No frame with the tag of another
+ * VLAN; those of IPX' type, or with a length and the first bytes of one of the three other kinds, where they are of a kind that is heard and
+ * came from the cable. Of other kinds, and of what this machine sends, a packet to the gateway's own socket for loops. The library looks at
+ * what follows. (X is where the packet begins) */
+enum { TYPE_OF_IPX = 0x8137, LEAST_TYPE = 0x600, AT_TYPE_OR_LENGTH = 12, BEHIND_LENGTH = 14, BEHIND_LLC = 17, AT_TYPE_OF_SNAP = 20,
+       BEHIND_SNAP = 22, VLAN = 0xFFF };
 enum { RAW = 0xFFFF, LLC = 0xE0E0, SNAP = 0xAAAA };
 static const struct sock_filter OF_IPX[] = {
-    BPF_STMT(BPF_LD | BPF_W | BPF_ABS, (uint32_t)(SKF_AD_OFF + SKF_AD_PKTTYPE)),
-    BPF_JUMP(BPF_JMP | BPF_JEQ | BPF_K, PACKET_OUTGOING, 14, 0),
     BPF_STMT(BPF_LD | BPF_W | BPF_ABS, (uint32_t)(SKF_AD_OFF + SKF_AD_VLAN_TAG_PRESENT)),
     BPF_JUMP(BPF_JMP | BPF_JEQ | BPF_K, 0, 3, 0),
     BPF_STMT(BPF_LD | BPF_W | BPF_ABS, (uint32_t)(SKF_AD_OFF + SKF_AD_VLAN_TAG)),
     BPF_STMT(BPF_ALU | BPF_AND | BPF_K, VLAN),
-    BPF_JUMP(BPF_JMP | BPF_JEQ | BPF_K, 0, 0, 9), /* (number 0 is no VLAN: such a tag says how urgent a frame is) */
+    BPF_JUMP(BPF_JMP | BPF_JEQ | BPF_K, 0, 0, 21), /* (number 0 is no VLAN: such a tag says how urgent a frame is) */
     BPF_STMT(BPF_LD | BPF_H | BPF_ABS, AT_TYPE_OR_LENGTH),
-    BPF_JUMP(BPF_JMP | BPF_JEQ | BPF_K, TYPE_OF_IPX, 8, 0),
-    BPF_JUMP(BPF_JMP | BPF_JGE | BPF_K, LEAST_TYPE, 6, 0),
+    BPF_JUMP(BPF_JMP | BPF_JEQ | BPF_K, TYPE_OF_IPX, 7, 0),
+    BPF_JUMP(BPF_JMP | BPF_JGE | BPF_K, LEAST_TYPE, 18, 0),
     BPF_STMT(BPF_LD | BPF_H | BPF_ABS, BEHIND_LENGTH),
-    BPF_JUMP(BPF_JMP | BPF_JEQ | BPF_K, RAW, 5, 0),
-    BPF_JUMP(BPF_JMP | BPF_JEQ | BPF_K, LLC, 4, 0),
-    BPF_JUMP(BPF_JMP | BPF_JEQ | BPF_K, SNAP, 0, 2),
-    BPF_STMT(BPF_LD | BPF_H | BPF_ABS, BEHIND_SNAP),
-    BPF_JUMP(BPF_JMP | BPF_JEQ | BPF_K, TYPE_OF_IPX, 1, 0),
+    BPF_JUMP(BPF_JMP | BPF_JEQ | BPF_K, RAW, 6, 0),
+    BPF_JUMP(BPF_JMP | BPF_JEQ | BPF_K, LLC, 7, 0),
+    BPF_JUMP(BPF_JMP | BPF_JEQ | BPF_K, SNAP, 0, 14),
+    BPF_STMT(BPF_LD | BPF_H | BPF_ABS, AT_TYPE_OF_SNAP),
+    BPF_JUMP(BPF_JMP | BPF_JEQ | BPF_K, TYPE_OF_IPX, 6, 12),
+    BPF_STMT(BPF_LDX | BPF_IMM, BEHIND_LENGTH), /* Ethernet II */
+    BPF_JUMP(BPF_JMP | BPF_JA, 6, 0, 0),
+    BPF_STMT(BPF_LDX | BPF_IMM, BEHIND_LENGTH), /* raw */
+    BPF_JUMP(BPF_JMP | BPF_JA, 4, 0, 0),
+    BPF_STMT(BPF_LDX | BPF_IMM, BEHIND_LLC),
+    BPF_JUMP(BPF_JMP | BPF_JA, 2, 0, 0),
+    BPF_STMT(BPF_LDX | BPF_IMM, BEHIND_SNAP),
+    BPF_JUMP(BPF_JMP | BPF_JA, 0, 0, 0),
+    BPF_STMT(BPF_LD | BPF_W | BPF_ABS, (uint32_t)(SKF_AD_OFF + SKF_AD_PKTTYPE)),
+    BPF_JUMP(BPF_JMP | BPF_JEQ | BPF_K, PACKET_OUTGOING, 0, 3),
+    BPF_STMT(BPF_LD | BPF_H | BPF_IND, AT_TO_SOCKET),
+    BPF_JUMP(BPF_JMP | BPF_JEQ | BPF_K, LOOP_SOCKET, 1, 0),
     BPF_STMT(BPF_RET | BPF_K, 0),
     BPF_STMT(BPF_RET | BPF_K, UINT32_MAX),
 };
-enum { FILTER_LENGTH = sizeof OF_IPX / sizeof *OF_IPX, LETS_GO = FILTER_LENGTH - 2 };
+enum { FILTER_LENGTH = sizeof OF_IPX / sizeof *OF_IPX, FOR_LOOPS = FILTER_LENGTH - 4 };
 
-/* The row that lets a kind pass. */
-static const uint8_t ROW_OF[] = {[IPXR_FRAME_ETHERNET2] = 8, [IPXR_FRAME_RAW] = 11, [IPXR_FRAME_LLC] = 12, [IPXR_FRAME_SNAP] = 15};
+/* The row that leads on what is of a kind. */
+static const uint8_t ROW_OF[] = {[IPXR_FRAME_ETHERNET2] = 15, [IPXR_FRAME_RAW] = 17, [IPXR_FRAME_LLC] = 19, [IPXR_FRAME_SNAP] = 21};
 
 /* (one more kind of frames needs its row) */
 typedef char has_row_for_each_kind[sizeof ROW_OF == IPXR_FRAME_KINDS + 1 ? 1 : -1];
@@ -144,7 +157,7 @@ bool interface_hears_kinds(int fd, unsigned kinds)
     memcpy(own, OF_IPX, sizeof own);
     for (uint8_t kind = IPXR_NO_FRAME + 1; kind <= IPXR_FRAME_KINDS; kind++)
         if ((kinds & 1u << kind) == 0)
-            own[ROW_OF[kind]].jt = (uint8_t)(LETS_GO - ROW_OF[kind] - 1);
+            own[ROW_OF[kind]].k = FOR_LOOPS - ROW_OF[kind] - 1u;
     return setsockopt(fd, SOL_SOCKET, SO_ATTACH_FILTER, &filter, sizeof filter) == 0;
 }
 

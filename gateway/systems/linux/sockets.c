@@ -5,8 +5,10 @@
 #include <arpa/inet.h>
 #include <errno.h>
 #include <fcntl.h>
+#include <linux/if_packet.h>
 #include <linux/sockios.h>
 #include <netinet/in.h>
+#include <linux/in6.h>
 #include <netinet/tcp.h>
 #include <poll.h>
 #include <string.h>
@@ -57,6 +59,7 @@ typedef union any_address {
     struct sockaddr one;
     struct sockaddr_in four;
     struct sockaddr_in6 six;
+    struct sockaddr_ll card; /* (of a frame) */
 } any_address;
 
 static int family_of(const address *at)
@@ -146,6 +149,14 @@ static void keep(int fd, int without_limit, int within_limit, int size)
     (void)(set(fd, SOL_SOCKET, without_limit, size) || set(fd, SOL_SOCKET, within_limit, size));
 }
 
+/* By IPv6 only the sender cuts what is too long for its way, so it believes a router that says so: that makes pieces of 1,280 bytes at least,
+ * whoever forges it. And where the system chooses, it takes the address that stays, not one of those that it changes to hide the machine. */
+static void set_six(int fd)
+{
+    (void)set(fd, IPPROTO_IPV6, IPV6_MTU_DISCOVER, IPV6_PMTUDISC_DONT);
+    (void)set(fd, IPPROTO_IPV6, IPV6_ADDR_PREFERENCES, IPV6_PREFER_SRC_PUBLIC);
+}
+
 int datagram_open(address *local, const address *remote)
 {
     int fd = unwaiting(socket(family_of(local), SOCK_DGRAM, 0));
@@ -153,27 +164,52 @@ int datagram_open(address *local, const address *remote)
         return -1;
     keep(fd, SO_RCVBUFFORCE, SO_RCVBUF, KEPT);
     keep(fd, SO_SNDBUFFORCE, SO_SNDBUF, KEPT_SENT);
-    /* (else anybody who forges a router's complaint makes the system cut what goes to a client, into pieces as small as he likes) */
     if (local->is_six)
-        (void)set(fd, IPPROTO_IPV6, IPV6_MTU_DISCOVER, IPV6_PMTUDISC_OMIT);
-    else
+        set_six(fd);
+    else /* (else anybody who forges a router's complaint makes the system cut what goes to a client, into pieces as small as he likes) */
         (void)set(fd, IPPROTO_IP, IP_MTU_DISCOVER, IP_PMTUDISC_OMIT);
     return kept_if(is_bound(fd, local) && (remote == NULL || is_connected(fd, remote)), fd);
 }
 
-/* (a socket for another port at that address tells it) */
-bool datagram_has_address(int fd)
+/* The address of a socket, or of the other end of one, without its port. Returns whether it is known. */
+static bool address_of(int fd, int asks(int, struct sockaddr *, socklen_t *), address *it)
 {
     any_address at = {.six = {.sin6_family = AF_INET}};
     socklen_t size = sizeof at;
-    if (getsockname(fd, &at.one, &size) != 0)
+    bool is_known = asks(fd, &at.one, &size) == 0;
+    *it = of_any(&at);
+    it->port = 0;
+    return is_known;
+}
+
+/* Whether an address isn't the machine's any more. (a socket for another port there tells it) */
+static bool is_gone(address own)
+{
+    int fd = unwaiting(socket(family_of(&own), SOCK_DGRAM, 0));
+    bool is_so = fd >= 0 && !is_bound(fd, &own) && errno == EADDRNOTAVAIL;
+    close_any(&fd);
+    return is_so;
+}
+
+/* Whether what goes to another machine would leave from another address than that. (a socket to there tells it) */
+static bool leaves_elsewhere(const address *own, const address *remote)
+{
+    address chosen, there = *remote;
+    there.port = 1; /* (any will do: nothing is sent) */
+    int fd = unwaiting(socket(family_of(own), SOCK_DGRAM, 0));
+    if (fd >= 0 && own->is_six)
+        set_six(fd);
+    bool is_so = fd >= 0 && is_connected(fd, &there) && address_of(fd, getsockname, &chosen) && !same_address(&chosen, own);
+    close_any(&fd);
+    return is_so;
+}
+
+bool datagram_has_address(int fd)
+{
+    address own, remote;
+    if (!address_of(fd, getsockname, &own) || !address_of(fd, getpeername, &remote))
         return true;
-    address own = of_any(&at);
-    own.port = 0;
-    int other = unwaiting(socket(family_of(&own), SOCK_DGRAM, 0));
-    bool is_gone = other >= 0 && !is_bound(other, &own) && errno == EADDRNOTAVAIL;
-    close_any(&other);
-    return !is_gone;
+    return !is_gone(own) && !leaves_elsewhere(&own, &remote);
 }
 
 int listener_open(address *local)
@@ -272,7 +308,7 @@ bool connection_has_ended(int fd)
 typedef struct batch {
     struct mmsghdr list[MOST_TOGETHER];
     struct iovec pieces[MOST_TOGETHER];
-    any_address places[MOST_TOGETHER]; /* (with room for that of a frame, too) */
+    any_address places[MOST_TOGETHER];
 } batch;
 
 static void set_piece(batch *it, size_t k, uint8_t *bytes, size_t length, socklen_t size_of_place)
@@ -316,6 +352,12 @@ static bool tells_complaint(ssize_t answer)
     }
 }
 
+/* Whether what came is a frame that this machine sends itself. */
+static bool is_sent_here(const any_address *from)
+{
+    return from->one.sa_family == AF_PACKET && from->card.sll_pkttype == PACKET_OUTGOING;
+}
+
 bool datagrams_receive(int fd, arrivals *in)
 {
     batch *all = rooms_of(in);
@@ -323,6 +365,7 @@ bool datagrams_receive(int fd, arrivals *in)
     for (int k = 0; k < count; k++) {
         in->list[k].length = all->list[k].msg_len;
         in->list[k].from = of_system(&all->places[k].four); /* (it is asked for in the tunnel, which is of IPv4) */
+        in->list[k].is_sent = is_sent_here(&all->places[k]);
         all->list[k].msg_hdr.msg_namelen = sizeof all->places[k];
     }
     in->count = count > 0 ? (size_t)count : 0;

@@ -272,6 +272,7 @@ bool datagrams_receive(int fd, arrivals *in)
     ssize_t length = received(recvfrom((SOCKET)fd, (char *)first->bytes, room, 0, &at.one, &size), (size_t)room);
     first->length = length > 0 ? (size_t)length : 0;
     first->from = of_any(&at);
+    first->is_sent = false;
     in->count = 1;
     return length >= 0;
 }

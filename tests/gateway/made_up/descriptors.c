@@ -78,17 +78,29 @@ int descriptor_any(what is)
     return -1;
 }
 
-void comes(descriptor *it, const address *from, const uint8_t *bytes, size_t length)
+static void waits(descriptor *it, const address *from, bool is_sent, const uint8_t *bytes, size_t length)
 {
     if (it->count == MOST_MESSAGES)
         return;
     message *made = own_memory(sizeof *made + length);
     made->from = *from;
+    made->is_sent = is_sent;
     made->length = length;
     memcpy(made->bytes, bytes, length);
     *(it->first == NULL ? &it->first : &it->last->next) = made;
     it->last = made;
     it->count++;
+}
+
+void comes(descriptor *it, const address *from, const uint8_t *bytes, size_t length)
+{
+    waits(it, from, false, bytes, length);
+}
+
+void is_seen(descriptor *it, const uint8_t *frame, size_t length)
+{
+    address nobody = {.port = 0};
+    waits(it, &nobody, true, frame, length);
 }
 
 message *next_message(descriptor *it)

@@ -25,6 +25,7 @@ typedef enum { CLOSED, DATAGRAMS, LISTENER, CONNECTION, TAP, CARD, STATUS, VIEWE
 typedef struct message {
     struct message *next;
     address from;
+    bool is_sent;  /* a frame: this machine sends it */
     size_t length; /* it may be more than there is of its bytes */
     uint8_t bytes[];
 } message;
@@ -73,8 +74,9 @@ size_t descriptors_open(void);
 /* Any that is such a thing, or -1. */
 int descriptor_any(what is);
 
-/* A datagram or frame comes; bytes come on a connection; somebody calls. What finds no room is lost. */
+/* A datagram or frame comes; a frame that this machine sends is seen; bytes come on a connection; somebody calls. What finds no room is lost. */
 void comes(descriptor *it, const address *from, const uint8_t *bytes, size_t length);
+void is_seen(descriptor *it, const uint8_t *frame, size_t length);
 void bytes_come(descriptor *it, const uint8_t *bytes, size_t length);
 void somebody_calls(descriptor *it, const address *from);
 

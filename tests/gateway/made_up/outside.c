@@ -22,7 +22,7 @@ typedef struct player {
 
 static player players[ALL_HOSTS][PORTS_OF_HOST];
 static bool has_address = true;
-static int joined[2] = {-1, -1};
+static int joined[2] = {-1, -1}, upper = -1, lower = -1;
 
 /* ---- Addresses ---- */
 
@@ -146,9 +146,16 @@ void cables_are_joined_or_not(void)
     told("cables %d and %d are one", joined[0], joined[1]);
 }
 
+void a_card_is_beneath_or_not(void)
+{
+    upper = upper < 0 ? descriptor_any(one_in(2) ? CARD : TAP) : -1;
+    lower = upper < 0 ? -1 : descriptor_any(CARD);
+    told("cable %d is beneath %d", lower, upper);
+}
+
 void cables_are_apart(void)
 {
-    joined[0] = joined[1] = -1;
+    joined[0] = joined[1] = upper = lower = -1;
 }
 
 /* The other of two cables that are one, if a descriptor is one of them; else -1. */
@@ -157,23 +164,59 @@ static int other_of(int fd)
     return fd == joined[0] ? joined[1] : fd == joined[1] ? joined[0] : -1;
 }
 
+/* Whether a frame looks for loops, as far as the system sees. */
+static bool is_for_loops(const uint8_t *frame, size_t length)
+{
+    size_t front;
+    uint8_t kind = ipxr_frame_read(frame, length < MOST_RECEIVED ? length : MOST_RECEIVED, &front);
+    return kind != IPXR_NO_FRAME && length >= front + HEADER && get16(frame + front + AT_TO_SOCKET) == LOOP_SOCKET;
+}
+
 /* Whether a socket of a card lets a frame pass. */
 static bool lets_pass(const descriptor *it, const uint8_t *frame, size_t length)
 {
     size_t front;
     uint8_t kind = ipxr_frame_read(frame, length < MOST_RECEIVED ? length : MOST_RECEIVED, &front);
-    return kind == IPXR_NO_FRAME || (it->kinds & 1u << kind) != 0;
+    return kind == IPXR_NO_FRAME || (it->kinds & 1u << kind) != 0 || is_for_loops(frame, length);
+}
+
+/* The next socket of a card from a descriptor on, or NULL. */
+static descriptor *next_of_card(int *fd, unsigned index)
+{
+    for (; *fd < MOST_DESCRIPTORS; ++*fd) {
+        descriptor *it = descriptor_if_open(*fd);
+        if (it != NULL && it->is == CARD && it->index == index)
+            return it;
+    }
+    return NULL;
 }
 
 /* A frame on a wire comes to each socket of the card there. */
 static void comes_to_card(const descriptor *at, const uint8_t *frame, size_t length)
 {
     address nobody = {.port = 0};
-    for (int fd = FIRST_DESCRIPTOR; fd < MOST_DESCRIPTORS; fd++) {
-        descriptor *it = descriptor_if_open(fd);
-        if (it != NULL && it->is == CARD && it->index == at->index && lets_pass(it, frame, length))
+    descriptor *it;
+    for (int fd = FIRST_DESCRIPTOR; (it = next_of_card(&fd, at->index)) != NULL; fd++)
+        if (lets_pass(it, frame, length))
             comes(it, &nobody, frame, length);
-    }
+}
+
+/* What this machine sends on a card by one way, or beneath another cable, the card's other sockets see. */
+static void is_seen_on_card(int by, const descriptor *at, const uint8_t *frame, size_t length)
+{
+    descriptor *it;
+    for (int fd = FIRST_DESCRIPTOR; is_for_loops(frame, length) && (it = next_of_card(&fd, at->index)) != NULL; fd++)
+        if (fd != by)
+            is_seen(it, frame, length);
+}
+
+static void is_seen_beneath(int fd, const descriptor *on, const uint8_t *frame, size_t length)
+{
+    const descriptor *beneath = lower >= 0 && fd == upper ? descriptor_if_open(lower) : NULL;
+    if (on->is == CARD)
+        is_seen_on_card(fd, on, frame, length);
+    if (beneath != NULL && beneath->is == CARD && (on->is != CARD || on->index != beneath->index))
+        is_seen_on_card(fd, beneath, frame, length);
 }
 
 void frame_comes(int fd, const uint8_t *frame, size_t length)
@@ -212,7 +255,7 @@ static void reply(int fd, const uint8_t *frame, size_t length)
 
 void outside_hears_frame(int fd, descriptor *on, const uint8_t *bytes, size_t length)
 {
-    (void)on;
+    is_seen_beneath(fd, on, bytes, length);
     peace_hears(fd, bytes, length);
     if (length > IPXR_LONGEST_FRAME || length < IPXR_SHORTEST_FRAME)
         wrong("a frame of %zu bytes is sent", length);

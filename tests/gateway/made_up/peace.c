@@ -160,13 +160,22 @@ static void each_tunnel(gateway *it, void (*does)(gateway *, network *))
 
 /* ---- What holds ---- */
 
+/* Whether another link of the network has the same card: of two that do, one is shut. */
+static bool shares_its_card(const gateway *it, const network *on)
+{
+    for (size_t k = 0; k < it->count; k++)
+        if (&it->networks[k] != on && it->networks[k].set->port == on->set->port && same_link(it->networks[k].set, on->set))
+            return true;
+    return false;
+}
+
 static void check_calm(const gateway *it)
 {
     for (size_t k = 0; k < it->count; k++) {
         const network *on = &it->networks[k];
         if (on->roster.count > 0)
             wrong("network %X has %zu clients after %d s of peace", (unsigned)on->set->network, on->roster.count, CALM);
-        if (on->pings.count + on->again.count > 0 || loop_is_shut(&on->loop))
+        if (on->pings.count + on->again.count > 0 || (loop_is_shut(&on->loop) && !shares_its_card(it, on)))
             wrong("network %X has %zu pings after %d s of peace, or is shut", (unsigned)on->set->network, on->pings.count, CALM);
     }
 }

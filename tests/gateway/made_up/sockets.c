@@ -195,6 +195,7 @@ static void take_next(descriptor *it, arrival *into)
     memcpy(into->bytes, next->bytes, next->length < sizeof into->bytes ? next->length : sizeof into->bytes);
     into->length = next->length;
     into->from = next->from;
+    into->is_sent = next->is_sent;
     give_back(next);
 }
 

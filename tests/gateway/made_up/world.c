@@ -309,7 +309,7 @@ static const struct {
     {stations_play, 8},  {one_complains, 1},      {one_calls, 4},            {half_a_frame, 2},      {connection_changes, 3},
     {card_comes_or_goes, 2}, {clock_jumps, 2},    {clock_changes, 1},        {name_is_answered, 3},  {weather_changes, 2},
     {other_configuration, 2}, {somebody_wants_a_report, 1}, {readers_come_or_go, 1}, {viewers_act, 14}, {address_comes_or_goes, 1},
-    {cables_are_joined_or_not, 2},
+    {cables_are_joined_or_not, 2}, {a_card_is_beneath_or_not, 2},
 };
 
 /* One mood in so many ends in peace, and in one in so many some players play all the while. */

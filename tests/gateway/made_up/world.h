@@ -24,9 +24,11 @@ network *network_at(int fd);
 /* A frame comes on a descriptor that carries frames. */
 void frame_comes(int fd, const uint8_t *frame, size_t length);
 
-/* The machine gets or loses an address; frames of one cable come on another, too, or do so no longer. */
+/* The machine gets or loses an address; frames of one cable come on another, too, or do so no longer; all that goes out on a cable goes out on
+ * a card, too, or does so no longer. */
 void address_comes_or_goes(void);
 void cables_are_joined_or_not(void);
+void a_card_is_beneath_or_not(void);
 void cables_are_apart(void);
 
 #endif
