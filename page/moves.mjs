@@ -39,16 +39,20 @@ class Traffic {
         this.routers = script.routers.map((it) => new Played(it.ports.map((port) => script.lines[port.line].text), counted));
     }
 
-    // An event of a router; what it sends for that is looked at when all have caught up.
-    event(router, line) {
-        if (this.routers[router]) this.pending.push({ router, at: this.routers[router].tell(line) });
+    // An event of a router, as by a packet that is handed out; what it says and sends for that is looked at when all have caught up.
+    event(router, line, packet = {}) {
+        if (this.routers[router]) this.pending.push({ router, at: this.routers[router].tell(line), packet });
     }
 
-    // Lets the routers play their events, and puts what they send behind what waits.
+    // Lets the routers play their events, and puts what they send behind what waits; of a packet that one drops it says why.
     catchUp() {
         for (const it of this.routers) it.catchUp();
-        for (const { router, at } of this.pending) {
-            for (const line of this.routers[router].said[at] ?? []) if (line.startsWith("out ")) this.send(router, line.split(" "));
+        for (const { router, at, packet } of this.pending) {
+            for (const line of this.routers[router].said[at] ?? []) {
+                const words = line.split(" ");
+                if (words[0] === "out") this.send(router, words);
+                if (words[0] === "drop") packet.dropped = words[1];
+            }
         }
         this.pending = [];
     }
@@ -73,7 +77,7 @@ class Traffic {
             const batch = this.queue.splice(0, limit - moved.length);
             moved.push(...batch);
             this.packets += batch.length;
-            for (const it of batch) this.event(it.to, `in ${it.port} ${it.hex}`);
+            for (const it of batch) this.event(it.to, `in ${it.port} ${it.hex}`, it);
             this.catchUp();
         }
         return moved;
@@ -99,7 +103,7 @@ class Traffic {
 
 const leftOf = (said) => (said?.[0] === "quiet" ? 0 : +(/^left (\d+)$/.exec(said?.[0] ?? "")?.[1] ?? -1));
 
-// The packets that each settle of a script hands out, by its line; and why there are none of later ones, if some were left out. `said` are
+// The packets that each settle of a script hands out, by its line, with the reason of those that were dropped where they came; and why there are none of later ones, if some were left out. `said` are
 // the answers of `ipxr internet` to each line; `play` plays a text to `ipxr replay`.
 export function moves(script, said, play) {
     const traffic = new Traffic(script, play);

@@ -7,6 +7,7 @@ import { answers, isChanged } from "./timeline.mjs";
 import { answered, questions } from "./hops.mjs";
 import { padded } from "./bytes.mjs";
 import { plan } from "./internet_map.mjs";
+import { reason } from "./reasons.mjs";
 import { recordsOf } from "./records.mjs";
 import { ScriptPane } from "./pane_script.mjs";
 import { Stopped } from "./program.mjs";
@@ -74,6 +75,8 @@ export class InternetPane extends ScriptPane {
         const came = waysIn(told, this.script.routers);
         const all = moved ? [...came, ...waysOf(moved.packets, moved.kinds)] : came;
         const ways = all.length && { trace: all, lost: droppedBy(told) };
+        const dropped = (moved?.packets ?? []).filter((it) => it.dropped).map((it) => it.to);
+        if (ways) ways.lost = [...new Set([...ways.lost, ...dropped])];
         return mapAt(this.script, this.found, step, { changed: found.map(isChanged), chosen: this.chosen, ...ways });
     }
 
@@ -101,8 +104,9 @@ export class InternetPane extends ScriptPane {
 
     told(packets, labels) {
         const nameOf = (it) => this.script.routers[it].name;
+        const endOf = ({ dropped }) => (dropped ? `: lost, ${reason(dropped) || dropped}` : "");
         const lines = labels.map((it, k) =>
-            `${nameOf(packets[k].from)} to ${nameOf(packets[k].to)}, net ${packets[k].network}: ${it.text}`);
+            `${nameOf(packets[k].from)} to ${nameOf(packets[k].to)}, net ${packets[k].network}: ${it.text}${endOf(packets[k])}`);
         return packets.length > labels.length ? [...lines, `and ${packets.length - labels.length} more`] : lines;
     }
 

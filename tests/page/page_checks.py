@@ -11,6 +11,17 @@ from page_file import MADE, TOP
 
 ADDRESS = f"file://{MADE}"
 FAR = "FFFF001E0000000000400000000000CC4003000000100000000000AA4003"
+# What a router sends is lost, since the other's port is down.
+LOST = """router
+port 10 101 1 576
+router
+port 10 201 1 576
+start 1
+down 1 0
+settle 100
+start 0
+settle 1
+"""
 WATCH = """
 window.faults = [];
 addEventListener('error', (it) => faults.push(it.message));
@@ -314,6 +325,10 @@ def moving(b, _):
     b.waits("document.querySelector('#pane-internet .right .said').textContent.includes(' to ')")
     want(": RIP" in text(b, "#pane-internet .right .said"), "the first delivery is told")
     same(b.run("return page.panes.internet.drawing.shapes.filter((it) => it.arrow).length"), 1, "its arrow")
+    script(b, "internet", LOST)
+    b.run("const pane = page.panes.internet; await pane.show(pane.steps.length - 1)")
+    b.waits("document.querySelector('#pane-internet .right .said').textContent.includes(': lost, the port is down')")
+    same(b.run("return page.panes.internet.drawing.shapes.filter((it) => it.text === '✕').length"), 2, "the port that is down, and the packet")
     b.click("#pane-internet .fine input")
 
 

@@ -175,6 +175,19 @@ await check("why deliveries are no longer followed is said", () => {
     assert.deepEqual([other.moved.size, other.why], [0, "from here on the page counts other packets than ipxr"]);
 });
 
+await check("a packet that is dropped where it comes says why", () => {
+    // (the first router sends one as it starts; the second drops what comes)
+    const play = (text) => {
+        const lines = text.trimEnd().split("\n");
+        const says = (it) => (it === "start" ? `out 1 FFFFFFFFFFFF ${PACKET}\n` : it.startsWith("in ") ? "drop DownPort\n" : "");
+        const said = lines.map(says);
+        return { text: said.join(""), ends: said.map((_, k) => said.slice(0, k + 1).join("").length) };
+    };
+    const script = parsed(`${TWO}start 0\nsettle 10\n`);
+    const { moved } = moves(script, script.lines.map((it) => (it.words[0] === "settle" ? ["quiet"] : [])), play);
+    assert.deepEqual([...moved.values()].map((all) => all.map((it) => [it.from, it.to, it.dropped])), [[[0, 1, "DownPort"]]]);
+});
+
 await check("of more than 6,000 deliveries the first are followed", () => {
     const out = `out 1 FFFFFFFFFFFF ${PACKET}\n`.repeat(3001);
     // (each router answers its last line alone)
