@@ -10,11 +10,11 @@ SOAK ?= 10
 .NOTPARALLEL:
 unexport MAKEFLAGS MFLAGS
 
-.PHONY: run try show build embed aarch64 windows portable wasm page web gateway test edits fuzz soak bench dist release-test install
+.PHONY: run try show build embed aarch64 windows portable wasm page web library gateway test edits fuzz soak bench dist release-test install
 
 # What builds from the sources, or proves them, says first if there is no toolchain.
 .PHONY: toolchain
-run try show build embed aarch64 windows portable wasm page web gateway test edits fuzz soak bench release-test install: | toolchain
+run try show build embed aarch64 windows portable wasm page web library gateway test edits fuzz soak bench release-test install: | toolchain
 toolchain:
 	@command -v rt >/dev/null || { echo "the toolchain's command rt is missing: README.md says where it comes from" >&2; exit 1; }
 
@@ -62,6 +62,10 @@ page:
 web:
 	@tools/web
 
+# The library for C as one file for any compiler and system, build/library/libipxr.c, with the headers and a server; docs/EMBED.md.
+library:
+	@tools/library
+
 # Builds build/ipxr-gateway, which joins DOSBox' networks, cards of emulators and Ethernet. Needs a C compiler; docs/GATEWAY.md.
 gateway:
 	@tools/gateway
@@ -106,6 +110,8 @@ release-test:
 	@tools/platforms test-windows
 	@tools/platforms test-wasm
 	@tools/portable test
+	@tools/library test
+	@tools/library wrong
 	@tools/page test
 	@release/try root
 

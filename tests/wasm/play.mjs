@@ -31,4 +31,5 @@ function played(run, line) {
 
 const run = instance(new WebAssembly.Module(readFileSync(process.argv[2])));
 const lines = readFileSync(0, "utf8").split("\n").filter((it) => it);
-for (const line of lines) console.log(played(run, line));
+const found = lines.map((line) => played(run, line));
+if (found.length) console.log(found.join("\n"));

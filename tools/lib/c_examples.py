@@ -16,26 +16,26 @@ def kept_of(program):
     return of_c if os.path.exists(of_c) else f"{KEPT}/{program}.out"
 
 
-def examples(name, compiler, folder, runner=()):
-    """Builds the examples with the archive of a folder, and compares what they print."""
+def examples(name, compiler, folder, runner=(), library="libipxr.a"):
+    """Builds the examples with the library of a folder, and compares what they print."""
     for program in EXAMPLES:
         made = f"{folder}/{program}.exe"
         tell(f"{name}: {program} is built",
-            succeeds(*compiler, "-std=c99", *FLAGS, f"{KEPT}/c/{program}.c", f"{folder}/libipxr.a", "-o", made))
+            succeeds(*compiler, "-std=c99", *FLAGS, f"{KEPT}/c/{program}.c", f"{folder}/{library}", "-o", made))
         tell(f"{name}: {program} prints what is kept", prints(kept_of(program), *runner, made))
 
 
-def counted_examples(name, compiler, folder, flags=(), runner=()):
+def counted_examples(name, compiler, folder, flags=(), runner=(), library="libipx_c.a"):
     """The same for programs with an allocator of their own, which counts and refuses: they say what they saw, and must end well."""
     for program in COUNTED:
         made = f"{folder}/{program}.exe"
         tell(f"{name}: {program} is built with an allocator of its own{' and the sanitizers' if flags else ''}",
-            succeeds(*compiler, "-std=c99", *FLAGS, *flags, f"{KEPT}/c/{program}.c", f"{folder}/libipx_c.a", "-o", made))
+            succeeds(*compiler, "-std=c99", *FLAGS, *flags, f"{KEPT}/c/{program}.c", f"{folder}/{library}", "-o", made))
         tell(f"{name}: {program} prints what is kept", prints(f"{KEPT}/c/{program}.out", *runner, made))
 
 
-def thread(name, compiler, folder, runner=()):
+def thread(name, compiler, folder, runner=(), library="libipxr.a"):
     """Whether the stack that the header names is enough for a thread."""
     made = f"{folder}/stack.exe"
-    is_built = succeeds(*compiler, "-std=c99", *FLAGS, "tests/embed/stack.c", f"{folder}/libipxr.a", "-pthread", "-o", made)
+    is_built = succeeds(*compiler, "-std=c99", *FLAGS, "tests/embed/stack.c", f"{folder}/{library}", "-pthread", "-o", made)
     tell(f"{name}: a thread has enough stack", is_built and ends(*runner, made))

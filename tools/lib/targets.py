@@ -65,6 +65,13 @@ TARGETS = {
         [PROBES, CPU],
         unknown=PICS,
     ),
+    # (for what writes a module as C: whole numbers alone, and no address among the data, as a table of places would have)
+    "wasm64-plain": Target(
+        "wasm64-unknown-unknown",
+        ["-mcpu=lime1", "-mllvm", "-expand-div-rem-bits=64", "-mllvm", "-expand-fp-convert-bits=64"],
+        [PROBES, CPU, (r"\{ ", '{ "no-jump-tables"="true" ')],
+        unknown=PICS,
+    ),
 }
 
 

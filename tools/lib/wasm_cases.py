@@ -49,12 +49,12 @@ def cases(text, cuts):
     return found
 
 
-def played(node, module, calls, folder):
+def played(node, module, calls, folder, seconds=SECONDS):
     """What the calls of a module return, one after the other; where the engine refuses it, what it said."""
     with open(f"{folder}/played.wasm", "wb") as it:
         it.write(module)
     words = [*node, f"{FOLDER}/play.mjs", f"{folder}/played.wasm"]
-    run = subprocess.run(words, input="\n".join(calls), capture_output=True, text=True, timeout=SECONDS)
+    run = subprocess.run(words, input="\n".join(calls), capture_output=True, text=True, timeout=seconds)
     return run.stdout.split("\n")[:-1] if run.returncode == 0 else [run.stderr]
 
 

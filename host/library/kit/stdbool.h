@@ -1,0 +1,2 @@
+/* For the toolchain's compiler, which has no headers of its own. */
+#define bool _Bool
