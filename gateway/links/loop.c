@@ -163,6 +163,13 @@ bool loop_hears(gateway *it, network *on, const uint8_t *packet, size_t length)
     return true;
 }
 
+/* Whether two links are on one card, which may have several names. */
+static bool is_same_card(const network *a, const network *b)
+{
+    bool are_cards = a->set->type == LINK_INTERFACE && b->set->type == LINK_INTERFACE;
+    return same_link(a->set, b->set) || (are_cards && a->cable->index != 0 && a->cable->index == b->cable->index);
+}
+
 /* (the one beneath counts as the later, since whoever is on it is on the other too) */
 void loop_hears_sent(gateway *it, network *on, const uint8_t *packet, size_t length)
 {
@@ -170,7 +177,7 @@ void loop_hears_sent(gateway *it, network *on, const uint8_t *packet, size_t len
     network *other = sent_on(it, on, packet, length);
     if (other == NULL || other == on)
         return;
-    if (same_link(other->set, on->set)) {
+    if (is_same_card(other, on)) {
         (void)loop_hears(it, on, packet, length);
         return;
     }

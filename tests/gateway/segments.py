@@ -519,6 +519,23 @@ def a_card_beneath_a_link():
             in_a_bridge_with(upper, first)
 
 
+def a_card_by_two_names():
+    """A card that the file names twice, by its name and by another that it has, is one cable: the later link is shut, and it alone."""
+    ip("addr", "replace", f"{EVEN}/32", "dev", "lo")
+    pair("s0", "s1")
+    ip("link", "property", "add", "dev", "s0", "altname", "sother")
+    with Cable(["interface s0 raw", "interface sother raw", f"dosbox {EVEN}:0"]) as gate:
+        anna = Client(gate.ports_of[2], EVEN, to=EVEN, gateway=gate.nodes[NUMBER])
+        down = gate.told(f"network {NUMBER:08X} is down: interface sother raw")
+        assert down.endswith(": it is one cable with interface s0 raw"), down
+        pc = Station(Packets("s1", "raw"), "raw", NUMBER, PC, gate.nodes[NUMBER], b"\0")
+        for _ in range(3):
+            assert hears(anna, calls(pc)) and hears(pc, tells(anna, pc))
+            time.sleep(LOOKED_AT / 3)
+        assert sum(" is down: " in it for it in told_so_far(gate)) == 1, gate.lines
+    ip("link", "del", "s0")
+
+
 def four_in_one_bridge():
     """Of four links that a bridge joins while a station speaks to all, all but the first are shut, though packets that go round fill them."""
     names = [f"seg{it}" for it in "abcd"]
@@ -553,7 +570,7 @@ def inside():
     if not has_taps() or not has_cards():
         left_out("TAPs and cards as one cable", "none can be made")
         return Counts()
-    counts = tried(*((cards_and_taps,) if hears_all_frames() else ()))
+    counts = tried(*((cards_and_taps,) if hears_all_frames() else ()), a_card_by_two_names)
     if has_bridges():
         return counts + tried(a_bridge_behind_its_back, a_card_beneath_a_link, four_in_one_bridge)
     left_out("a bridge behind the gateway's back", "none can be made")

@@ -16,13 +16,17 @@ LONGEST_FILE = 1 << 20
 
 def asked(*words, stdin=b"", folder=HERE):
     """What the program says to words that don't let it route: status, output, complaint. Windows has no file that is standard input: there
-    it reads a file, and what it says of that is told as of standard input."""
+    it reads a file, and what it says of that is told as of standard input. It always says something: where it doesn't, Wine has ended
+    before it began, which happens now and then, and it is asked once more."""
     with tempfile.NamedTemporaryFile() as file:
         file.write(stdin)
         file.flush()
         name = file.name if SYSTEM is Windows else STDIN
         command = [*SYSTEM.quick, SYSTEM.program, *(name if it == STDIN else it for it in words)]
-        run = subprocess.run(command, input=stdin, capture_output=True, timeout=LIMIT, cwd=folder, check=False)
+        how = {"input": stdin, "capture_output": True, "timeout": LIMIT, "cwd": folder, "check": False}
+        run = subprocess.run(command, **how)
+        if SYSTEM is Windows and not run.stdout + run.stderr:
+            run = subprocess.run(command, **how)
     return run.returncode, *(text_of(it).replace(name, STDIN) for it in (run.stdout, run.stderr))
 
 
@@ -170,7 +174,8 @@ def what_is_right():
                  b"service FFFE " + b"A" * 47 + b" FFFFFFFD.FFFFFFFFFFFE.FFFF 15 via 020000000001\n",
                  b"network 20 1 1500 qemu-udp 0.0.0.0:5001 192.0.2.7:5001 raw",
                  b"network 20 1 1500 qemu-udp [::]:5001 [2001:db8::7]:5001 raw"):
-        assert asked("--check", "/dev/stdin", stdin=text)[:2] == (0, "/dev/stdin: 1 network, nothing wrong\n"), text
+        told = asked("--check", "/dev/stdin", stdin=text)
+        assert told[:2] == (0, "/dev/stdin: 1 network, nothing wrong\n"), (text, told)
 
 
 def as_many_links():
