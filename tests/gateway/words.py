@@ -16,8 +16,8 @@ LONGEST_FILE = 1 << 20
 
 def asked(*words, stdin=b"", folder=HERE):
     """What the program says to words that don't let it route: status, output, complaint. Windows has no file that is standard input: there
-    it reads a file, and what it says of that is told as of standard input. It always says something: where it doesn't, Wine has ended
-    before it began, which happens now and then, and it is asked once more."""
+    it reads a file, and what it says of that is told as of standard input. It always says something: where it doesn't, Wine hasn't begun
+    it, and it is asked once more."""
     with tempfile.NamedTemporaryFile() as file:
         file.write(stdin)
         file.flush()
