@@ -7,17 +7,17 @@ import libraries
 import modules
 import targets
 import wasm32
+from systems import HEADERS
 
 TOP = libraries.TOP
 FOLDER, HOST = f"{TOP}/build/wasm", f"{TOP}/host/wasm"
-HEADER = f"{TOP}/include/ipxr.h"
 TARGET = targets.TARGETS["wasm64"]
 FLAGS = [f"--target={TARGET.triple}", *TARGET.words, "-O3", "-ffunction-sections", "-fdata-sections"]
 OF_HOST = ["-std=c99", "-Wall", "-Wextra", "-ffreestanding", "-fno-builtin"]
 # The library's calls take no more than IPXR_STACK, which is 384 KB with tables as delivered.
 STACKS = {"ipxr": 8 << 20, "ipx_c": 1 << 20}
 LINKER = ["-flavor", "wasm", "-mwasm64", "--no-entry", "--stack-first", "--gc-sections", "--compress-relocations"]
-# What a page asks for beside the header's calls: room in the memory for what they take and give.
+# What a page asks for beside the headers' calls: room in the memory for what they take and give.
 ROOM = ("rattle_alloc", "rattle_dealloc")
 
 
@@ -43,11 +43,14 @@ def host():
 
 
 def exported(name):
-    """What is called from outside: the program's beginning, or the calls of the header."""
+    """What is called from outside: the program's beginning, or the calls of the headers."""
     if name == "ipxr":
         return ["main"]
-    with open(HEADER, encoding="utf-8") as it:
-        return sorted([*re.findall(r"(?m)^IPXR_CALL .*?\b(ipxr_\w+)\(", it.read()), *ROOM])
+    found = [*ROOM]
+    for header in HEADERS:
+        with open(f"{TOP}/include/{header}", encoding="utf-8") as it:
+            found += re.findall(r"(?m)^IPXR_CALL .*?\b(ipxr_\w+)\(", it.read())
+    return sorted(found)
 
 
 def module(name, keeps_names=False):
