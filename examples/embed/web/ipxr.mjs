@@ -342,6 +342,9 @@ function judged(answer) {
     return answer;
 }
 
+/** What the other modules of the package for JavaScript take from this one; it is no word for programs. */
+export const inside = Object.freeze({ loaded, whole, bytesOf, objectOf, judged });
+
 // A block with these bytes.
 function blockOf(bytes) {
     const at = library.allocated(bytes.length);
@@ -439,15 +442,11 @@ export class Router {
     }
 
     routes() {
-        const { calls } = library;
-        const handle = this.#there();
-        return this.#records(calls.ipxr_routes(handle), calls.ipxr_route, routeAt);
+        return this.#records(library.calls.ipxr_routes, library.calls.ipxr_route, routeAt);
     }
 
     services() {
-        const { calls } = library;
-        const handle = this.#there();
-        return this.#records(calls.ipxr_services(handle), calls.ipxr_service, serviceAt);
+        return this.#records(library.calls.ipxr_services, library.calls.ipxr_service, serviceAt);
     }
 
     #there() {
@@ -475,9 +474,10 @@ export class Router {
     }
 
     #records(count, call, read) {
+        const handle = this.#there();
         const { view, record, told } = library;
-        return Array.from({ length: Number(count) }, (_, k) => {
-            judged(call(this.#handle, BigInt(k), told));
+        return Array.from({ length: Number(count(handle)) }, (_, k) => {
+            judged(call(handle, BigInt(k), told));
             return read(view, record);
         });
     }
