@@ -10,7 +10,7 @@ from ._library import calls
 from .limits import byte
 from .numbers import Probe
 from .text import Node, NodeLike
-from .values import Bytes, four, six, time_of, whole
+from .values import Bytes, four, six, time_of
 
 HostLike = Union[str, Bytes, Sequence[int]]
 
@@ -159,7 +159,3 @@ def choose_node(*, is_tunnel: bool, hashed: int, is_of_several: bool = False, sa
     nodes = six(Node(bytes(6) if said is None else said)), six(Node(card))
     calls.ipxr_node_choose(*flags, *nodes, time_of(hashed, "the hash"), node)
     return Node(bytes(node))
-
-
-__all__ = ["Asked", "Asks", "HostLike", "Kinds", "Loop", "Pace", "Range", "Twins", "choose_node", "is_first_of_range", "probe",
-           "ranges_have", "whole"]

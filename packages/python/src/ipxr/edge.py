@@ -9,8 +9,8 @@ from ._library import calls
 from .numbers import MOST_RULES, Way
 from .packets import RouteEntry, ServiceEntry, routes_of, services_of, written
 from .router import Port
-from .text import Node, NodeLike
-from .values import Bytes, judged, packed, packed_list, six, whole
+from .text import Node, NodeLike, whole
+from .values import Bytes, judged, packed, packed_list, six
 
 BYTE, SHORT = 0xFF, 0xFFFF
 

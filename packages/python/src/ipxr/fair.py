@@ -6,7 +6,8 @@ from typing import Optional
 
 from . import raw
 from ._library import calls
-from .values import Clock, packed, time_of, whole
+from .text import whole
+from .values import Clock, packed, time_of
 
 BYTE = 0xFF
 

@@ -6,7 +6,8 @@ from ctypes import byref
 from . import raw
 from ._library import calls
 from .numbers import Drop, Fate, Lost, Next
-from .values import whole
+from .text import whole
+
 
 SHORT, BYTE = 0xFFFF, 0xFF
 

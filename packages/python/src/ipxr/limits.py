@@ -7,7 +7,8 @@ from . import raw
 from ._library import calls
 from .fair import Fair, Meter, fair_of, refused
 from .numbers import NO_LIMIT, LimitsLink, PacketKind, Verdict
-from .values import Bytes, Clock, whole
+from .text import whole
+from .values import Bytes, Clock
 
 BYTE, SHORT, LONG = 0xFF, 0xFFFF, 0xFFFFFFFF
 

@@ -7,8 +7,8 @@ from typing import Any, Callable, NamedTuple, Optional, Sequence, Union
 from . import raw
 from ._library import calls
 from .numbers import LONGEST_FRAME, PACKET_ROUTES, PACKET_SERVICES, Frame, Rip
-from .text import Address, AddressLike, Node, NodeLike, address, network
-from .values import Bytes, judged, packed, packed_list, six, text_of, whole
+from .text import Address, AddressLike, Node, NodeLike, address, whole
+from .values import Bytes, judged, packed, packed_list, six, text_of
 
 HEADER, MOST_BYTES, BYTE, SHORT = 30, 65535, 0xFF, 0xFFFF
 ENTRY_OF_RIP, ENTRY_OF_SAP = 8, 64
@@ -152,7 +152,3 @@ def read_sap(data: Bytes) -> Optional[tuple[int, list[ServiceEntry]]]:
     places = range(2, len(data) - ENTRY_OF_SAP + 1, ENTRY_OF_SAP)
     return _number(data, 0), [ServiceEntry(text_of(bytes(data[at + 2: at + 50])), _address(data, at + 50), _number(data, at),
                                            _number(data, at + 62)) for at in places]
-
-
-__all__ = ["ALL_ROUTES", "Read", "RouteEntry", "ServiceEntry", "network", "read_frame", "read_packet", "read_rip", "read_sap", "write_frame",
-           "write_packet", "write_query", "write_rip", "write_sap"]

@@ -7,8 +7,8 @@ from typing import NamedTuple, Sequence, Union
 from . import raw
 from ._library import calls
 from .numbers import NO_LIMIT, Drop, Outcome
-from .text import Address, Node, NodeLike
-from .values import Bytes, Handle, judged, listed, outcome_of, packed, packed_list, text_of, whole
+from .text import Address, Node, NodeLike, whole
+from .values import Bytes, Handle, judged, listed, outcome_of, packed, packed_list, text_of
 
 BYTE, MOST_BYTES = 0xFF, 65535
 
@@ -116,14 +116,14 @@ class Router(Handle):
         """What it knows, by network."""
         it = raw.ipxr_route_record()
         return listed(calls.ipxr_routes(self.handle), lambda k: calls.ipxr_route(self.handle, k, byref(it)),
-                      lambda: Route(it.network, it.hops, it.ticks, Node(it.node), it.port, it.age))
+                      lambda: Route(it.network, it.hops, it.ticks, Node(bytes(it.node)), it.port, it.age))
 
     def services(self) -> list[Service]:
         """What it knows, by type and name."""
         it = raw.ipxr_service_record()
         return listed(calls.ipxr_services(self.handle), lambda k: calls.ipxr_service(self.handle, k, byref(it)),
-                      lambda: Service(text_of(it.name), Address(it.network, Node(it.node), it.socket), it.type, it.hops,
-                                      Node(it.neighbour), it.port, it.age))
+                      lambda: Service(text_of(it.name), Address(it.network, Node(bytes(it.node)), it.socket), it.type, it.hops,
+                                      Node(bytes(it.neighbour)), it.port, it.age))
 
     def _happened(self, answer: int) -> Happened:
         """What became of an event, with the packets that it sent, which are then taken out."""
@@ -135,4 +135,4 @@ class Router(Handle):
     def _packet(self, index: int) -> Packet:
         told, room = raw.ipxr_packet_sent(), create_string_buffer(MOST_BYTES)
         judged(calls.ipxr_get(self.handle, index, byref(told), room, MOST_BYTES))
-        return Packet(told.port, Node(told.node), room.raw[: told.length])
+        return Packet(told.port, Node(bytes(told.node)), room.raw[: told.length])

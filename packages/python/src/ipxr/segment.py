@@ -8,8 +8,8 @@ from . import raw
 from ._library import calls
 from .numbers import LinkKind
 from .packets import struct_of
-from .text import AddressLike, Node, NodeLike
-from .values import Handle, judged, listed, packed, six, whole
+from .text import AddressLike, Node, NodeLike, whole
+from .values import Handle, judged, listed, packed, six
 
 BYTE, SHORT = 0xFF, 0xFFFF
 

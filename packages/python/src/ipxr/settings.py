@@ -7,8 +7,8 @@ from typing import Any, NamedTuple, Optional, Union
 from . import raw
 from ._library import calls
 from .numbers import MOST_CLIENTS, Expected
-from .text import Node
-from .values import Bytes, packed, six, text_of, whole
+from .text import Node, whole
+from .values import Bytes, packed, six
 
 SHORT, MOST_WORDS = 0xFFFF, 512
 Text = Union[str, Bytes]
@@ -127,7 +127,3 @@ class Configuration:
             found.append(link)
             link = raw.ipxr_configured()
         return found
-
-
-__all__ = ["Configuration", "ConfigurationLine", "Line", "setting_host", "setting_link", "settings_address_words", "settings_hexadecimal",
-           "settings_line", "settings_link_words", "settings_node", "settings_range", "settings_socket", "settings_word", "text_of"]

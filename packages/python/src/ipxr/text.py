@@ -3,7 +3,7 @@ network 10, all of it hexadecimal, and "192.168.0.1:2130" is a place of UDP."""
 from __future__ import annotations
 
 import re
-from typing import NamedTuple, Sequence, Tuple, Union
+from typing import Any, NamedTuple, Sequence, Tuple, Union
 
 NODE, FOUR, SHORT, LONG = 6, 4, 0xFFFF, 0xFFFFFFFF
 HEX = re.compile(r"[0-9A-Fa-f]+")
@@ -109,7 +109,7 @@ class Address(NamedTuple):
 
 def address(value: AddressLike, what: str = "the address") -> Address:
     """An address, which may be given as NETWORK.NODE.SOCKET, or as three values."""
-    parts = value.split(".") if isinstance(value, str) else value
+    parts: Sequence[Any] = value.split(".") if isinstance(value, str) else value
     if len(parts) != 3:
         raise ValueError(f"{what} isn't NETWORK.NODE.SOCKET")
     number, node, port = parts

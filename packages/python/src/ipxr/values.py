@@ -134,7 +134,7 @@ def four(host: str | Bytes | Sequence[int], what: str = "the host") -> Any:
 # ---- Reading ----
 
 
-def listed(count: int, copy: Callable[[int], int], read: Callable[[], Found]) -> list[Found]:
+def listed(count: int, copy: Callable[[int], Any], read: Callable[[], Found]) -> list[Found]:
     """What `read` returns after each number, from 0, was copied."""
     found = []
     for number in range(count):
@@ -185,6 +185,3 @@ class Handle:
 def version() -> int:
     """The version of the library's interface: its major number times 65536, plus its minor number."""
     return calls.ipxr_version()
-
-
-__all__ = ["IpxrError", "raw", "version", "words"]
