@@ -1,11 +1,17 @@
 /* The types of the package. The calls are those of the library's headers, which say more of each. Times are nanoseconds. */
-import type { Drop, Fate, Frame, LimitsLink, LineRank, LinkKind, Lost, Names, Next, Outcome, PacketKind, Probe, Rip, RuleOf, Said, TunnelFate, Verdict,
+import type { Drop, Fate, Fault, Frame, LimitsLink, LineRank, LinkKind, Lost, Names, Next, Outcome, PacketKind, Probe, Rip, RuleOf, Said, TunnelFate, Verdict,
     Way } from "./numbers.mjs";
 import type { Happened, Packet, Route, Service, Source } from "./ipxr.mjs";
 
-export { BROADCAST, IpxrError, isDrop, readFrame, version, words } from "./ipxr.mjs";
+export { BROADCAST, isDrop, readFrame, version, words } from "./ipxr.mjs";
 export type { Happened, Packet, Route, Service, Source } from "./ipxr.mjs";
 export * from "./numbers.mjs";
+
+/** A fault: the call did nothing. Its number, and the header's words as message. */
+export class IpxrError extends Error {
+    constructor(number: Fault);
+    readonly number: Fault;
+}
 
 // ---- Texts ----
 
@@ -223,14 +229,17 @@ export class Meter extends Held {
     readonly used: bigint;
 }
 export class Reader extends Held {
+    private readonly waits: unknown;
     constructor(limits: Limits);
     look(now: Time): void;
 }
 export class ClientUse extends Held {
+    private readonly usedByClient: unknown;
     constructor();
     look(now: Time): void;
 }
 export class AddressUse extends Held {
+    private readonly usedByAddress: unknown;
     constructor();
     look(now: Time): void;
 }

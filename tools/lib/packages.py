@@ -13,6 +13,8 @@ from telling import say, tell
 SOURCES = f"{TOP}/packages"
 # What the program of each package prints, in whichever language.
 STORY = f"{SOURCES}/story.out"
+# What comes of made-up events.
+MADE_UP = f"{TOP}/tests/packages/made_up.out"
 # The library as one file of C, with the headers that it was built with.
 LIBRARY = f"{TOP}/build/library"
 NO_LICENCE = "No licence has been named yet. Until the owner names one, nobody has given you permission to copy, change or pass on this.\n"
@@ -69,10 +71,20 @@ def runs(*words, **how):
     return run.returncode == 0
 
 
-def tells_story(name, *words, **how):
-    """Whether a package's program prints what is kept, and complains of nothing."""
+def says_kept(kept, *words, **how):
+    """Whether a program prints what a file has, and complains of nothing."""
     run = subprocess.run(words, stdin=subprocess.DEVNULL, capture_output=True, text=True, check=False, timeout=SECONDS, **how)
-    is_alike = (run.returncode, run.stdout, run.stderr) == (0, text_of(STORY), "")
+    is_alike = (run.returncode, run.stdout, run.stderr) == (0, text_of(kept), "")
     if not is_alike:
         say(f"{run.stdout}{run.stderr}it ended with {run.returncode}")
-    tell(f"{name}: the program over the installed package prints what is kept", is_alike)
+    return is_alike
+
+
+def tells_story(kind, *words, **how):
+    """Tells whether a package's program prints what each of them does."""
+    tell(f"{kind}: the program over the installed package prints what is kept", says_kept(STORY, *words, **how))
+
+
+def plays_made_up(kind, *words, **how):
+    """Tells whether made-up events come out as they do in other languages."""
+    tell(f"{kind}: made-up events come out as they do in other languages", says_kept(MADE_UP, *words, **how))

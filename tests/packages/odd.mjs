@@ -1,0 +1,110 @@
+// What isn't meant: values of wrong types, texts that are none, what was freed, and what can't be made.
+import assert from "node:assert/strict";
+import * as ipxr from "ipxr";
+
+await ipxr.load();
+const SETTING = { network: "10", node: "02:00:00:00:00:01", capacity: 4, share: 2 };
+const fault = (number) => (why) => why instanceof ipxr.IpxrError && why.number === number && why.message === ipxr.words(number);
+const ODD = [undefined, null, {}, [], "", "x", "1.2.3", 1.5, -1, Symbol("1")];
+
+// ---- Texts ----
+
+assert.equal(ipxr.addressText("10.0200C0A80001.451"), "00000010.0200C0A80001.0451");
+assert.deepEqual(ipxr.addressOf("10.02-00-c0-a8-00-01.451"), { network: 0x10, node: Uint8Array.of(2, 0, 0xc0, 0xa8, 0, 1), socket: 0x451 });
+assert.equal(ipxr.placeText("192.168.0.1:2130"), "192.168.0.1:2130");
+assert.equal(ipxr.nodeText([2, 0, 0, 0, 0, 1]), "020000000001");
+assert.equal(ipxr.networkText(0x10) + ipxr.socketText("2"), "000000100002");
+for (const it of ODD) for (const of of [ipxr.nodeOf, ipxr.placeOf, ipxr.addressOf]) assert.throws(() => of(it), TypeError);
+for (const it of ["02000000001", "0200000000011", "02:00:00:00:00", "02:00:00:00:00:0g", "02:00-00:00:00:01"])
+    assert.throws(() => ipxr.nodeOf(it), TypeError);
+for (const it of ["256.0.0.1:1", "1.2.3.4", "1.2.3.4:65536", "1.2.3.4:", "1.2.3.4:1 "]) assert.throws(() => ipxr.placeOf(it), TypeError);
+for (const it of ["123456789", "g", "", "-1", 2 ** 32, 0.5]) assert.throws(() => ipxr.networkOf(it), TypeError);
+for (const it of ["12345", 65536]) assert.throws(() => ipxr.socketOf(it), TypeError);
+for (const it of ["10.020000000001", "10.020000000001.451.1", ".020000000001.451"]) assert.throws(() => ipxr.addressOf(it), TypeError);
+
+// ---- Making and freeing ----
+
+for (const it of ODD) {
+    for (const kind of [ipxr.Tunnel, ipxr.KeyedTunnel, ipxr.Segment, ipxr.Edge, ipxr.Reader]) assert.throws(() => new kind(it), TypeError);
+    if (it !== undefined) assert.throws(() => new ipxr.Fair(it), TypeError);
+    assert.throws(() => new ipxr.Line(it), TypeError);
+    assert.throws(() => new ipxr.HouseholdLimits(it), TypeError);
+}
+assert.throws(() => new ipxr.Tunnel({ ...SETTING, capacity: 4097 }), fault(ipxr.Fault.MANY_CLIENTS));
+assert.throws(() => new ipxr.Tunnel({ ...SETTING, capacity: 65536 }), TypeError);
+assert.throws(() => new ipxr.Segment({ ...SETTING, links: 33, capacity: 9 }), fault(ipxr.Fault.MANY_LINKS));
+assert.throws(() => new ipxr.Fair({ one: 2, own: 1, reserve: 0, room: 9 }), RangeError);
+assert.throws(() => new ipxr.Limits({ link: 0, rate: 0, share: 1 }), RangeError);
+assert.throws(() => new ipxr.HouseholdLimits(0), RangeError);
+assert.throws(() => new ipxr.Router([{ network: "10", node: "FFFFFFFFFFFF", cost: 1, longest: 576 }]), fault(ipxr.Fault.BAD_NODE));
+assert.throws(() => new ipxr.Edge({ network: 0x10, node: "020000000001", cost: 1, longest: 5 }).isHeld(new Uint8Array()),
+    fault(ipxr.Fault.BAD_LONGEST));
+for (const [it, number] of [[new ipxr.Tunnel(SETTING), ipxr.Fault.NO_TUNNEL],
+    [new ipxr.Segment({ ...SETTING, links: 2 }), ipxr.Fault.NO_SEGMENT]]) {
+    it.free();
+    it.free();
+    assert.throws(() => it.second(), fault(number));
+    assert.throws(() => it.address, fault(number));
+}
+const meter = new ipxr.Meter();
+meter.free();
+assert.throws(() => meter.lets(1, 1), /freed/);
+const segment = new ipxr.Segment({ ...SETTING, links: 2 });
+assert.throws(() => segment.change(2, { kind: 1, share: 1 }), fault(ipxr.Fault.NO_LINK));
+assert.throws(() => segment.change(0, { kind: 3, share: 1 }), fault(ipxr.Fault.BAD_LINK));
+segment.free();
+
+// ---- Values of a call ----
+
+const tunnel = new ipxr.Tunnel(SETTING);
+const sender = new ipxr.Keys().sender("10.0.0.1:2130", 60);
+for (const it of ODD) {
+    assert.throws(() => tunnel.hear(it, new Uint8Array(30)), TypeError);
+    assert.throws(() => tunnel.hear(sender, it), TypeError);
+    assert.throws(() => tunnel.send(it), TypeError);
+    assert.throws(() => new ipxr.Fair().says(0, it), TypeError);
+    assert.throws(() => new ipxr.Course(it), TypeError);
+    assert.throws(() => new ipxr.Configuration().line(it ?? 1, { hasCards: it }), TypeError);
+}
+assert.throws(() => tunnel.hear({ ...sender, isTrusted: 1 }, new Uint8Array(30)), TypeError);
+const given = new Uint8Array(40).fill(9);
+tunnel.hear(sender, given);
+assert.deepEqual(given, new Uint8Array(40).fill(9));
+assert.equal(tunnel.hear(sender, new Uint8Array(100_000)).said, ipxr.Said.NOTHING);
+tunnel.free();
+const edge = new ipxr.Edge({ network: "10", node: "020000000001", cost: 1, longest: 576 });
+assert.throws(() => edge.filter(3, [], new Uint8Array(30)), fault(ipxr.Fault.BAD_WAY));
+assert.throws(() => edge.filter(1, Array(70).fill({ permits: 1, what: 1, type: 4 }), new Uint8Array(30)), fault(ipxr.Fault.MANY_RULES));
+assert.throws(() => edge.filter(1, [{ permits: 2, what: 1 }], new Uint8Array(30)), fault(ipxr.Fault.BAD_RULE));
+assert.throws(() => ipxr.plan(Array(65).fill({ network: 1, carrier: 0 }), []), fault(ipxr.Fault.MANY_LINKS));
+assert.equal(ipxr.rangesHave(Array(2500).fill({ host: "10.0.0.0", bits: 32 }).concat({ host: "11.0.0.0", bits: 8 }), "11.2.3.4"), true);
+assert.notEqual(ipxr.extend("10", Array(2500).fill(1).concat(2), "20",
+    ipxr.writePacket("10.020000000001.2", "10.FFFFFFFFFFFF.2", 4, 0, new Uint8Array(9))), null);
+const loop = new ipxr.Loop();
+assert.throws(() => ipxr.probe(0, 1, 1, 1, loop, loop), TypeError);
+
+// ---- The hash of Keys, by the first vectors of its authors ----
+
+const key = [0x0706050403020100n, 0x0f0e0d0c0b0a0908n];
+assert.equal(ipxr.hashOf([], key), 0x726fdb47dd0e0e31n);
+assert.equal(ipxr.hashOf([0x0706050403020100n], key), 0x93f5f5799a932462n);
+const keys = new ipxr.Keys(new Uint8Array(16));
+assert.throws(() => new ipxr.Keys(new Uint8Array(15)), TypeError);
+assert.deepEqual(keys.node("10.0.0.1:2130"), new ipxr.Keys(new Uint8Array(16)).node([10, 0, 0, 1, 8, 0x52]));
+assert.notDeepEqual(keys.node("10.0.0.1:2130").slice(1), keys.cookie("10.0.0.1:2130", 0).slice(1));
+assert.deepEqual(keys.sender("10.0.0.1:2130", 60).previous, keys.sender("10.0.0.1:2130", 59).current);
+assert.equal(keys.node("10.0.0.1:2130")[0], 2);
+assert.equal(keys.cookie("10.0.0.1:2130", 7)[0], 0);
+
+// ---- Memory is given back ----
+
+const used = () => import("ipxr/raw").then((raw) => raw.memory().length);
+for (let k = 0; k < 200; k++) new ipxr.Tunnel(SETTING).free();
+const before = await used();
+for (let k = 0; k < 2000; k++) {
+    new ipxr.Tunnel(SETTING).free();
+    assert.throws(() => new ipxr.Tunnel({ ...SETTING, capacity: 5000 }));
+    new ipxr.Configuration().free();
+    new ipxr.Reader(new ipxr.Limits({ link: 0, rate: 9, share: 1 })).free();
+}
+assert.ok((await used()) < before + 2 ** 23);
