@@ -10,11 +10,11 @@ SOAK ?= 10
 .NOTPARALLEL:
 unexport MAKEFLAGS MFLAGS
 
-.PHONY: run try show build embed aarch64 windows portable wasm page web library gateway test edits fuzz soak bench dist release-test install
+.PHONY: run try show build embed aarch64 windows portable wasm page web library packages gateway test edits fuzz soak bench dist release-test install
 
 # What builds from the sources, or proves them, says first if there is no toolchain.
 .PHONY: toolchain
-run try show build embed aarch64 windows portable wasm page web library gateway test edits fuzz soak bench release-test install: | toolchain
+run try show build embed aarch64 windows portable wasm page web library packages gateway test edits fuzz soak bench release-test install: | toolchain
 toolchain:
 	@command -v rt >/dev/null || { echo "the toolchain's command rt is missing: README.md says where it comes from" >&2; exit 1; }
 
@@ -66,6 +66,10 @@ web:
 library:
 	@tools/library
 
+# The library as packages for other languages: build/packages; docs/EMBED.md.
+packages:
+	@tools/packages
+
 # Builds build/ipxr-gateway, which joins DOSBox' networks, cards of emulators and Ethernet. Needs a C compiler; docs/GATEWAY.md.
 gateway:
 	@tools/gateway
@@ -112,6 +116,7 @@ release-test:
 	@tools/portable test
 	@tools/library test
 	@tools/library wrong
+	@tools/packages test
 	@tools/page test
 	@release/try root
 

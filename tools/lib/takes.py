@@ -31,6 +31,7 @@ TAKES = {
     "web": Takes("1", "1", "make embed"),
     "portable": Takes("2", "2", "make run"),
     "library": Takes("2", "2", "make embed"),
+    "packages": Takes("1", "1", "make library"),
     "aarch64": Takes("4", "3", "make run and make embed"),
     "windows": Takes("3", "3", "make run and make embed"),
     "test": Takes("141", "45"),
