@@ -68,6 +68,7 @@ library:
 
 # The library as packages for other languages: build/packages; docs/EMBED.md.
 packages:
+	@tools/library
 	@tools/packages
 
 # Builds build/ipxr-gateway, which joins DOSBox' networks, cards of emulators and Ethernet. Needs a C compiler; docs/GATEWAY.md.

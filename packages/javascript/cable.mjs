@@ -73,10 +73,9 @@ export function probe(here, there, sent, now, atHere, atThere) {
     return raw.ipxr_loop_probe(byte(here, "the link"), byte(there, "the other link"), timeOf(sent), timeOf(now), one, other);
 }
 
-const fourOf = (host) => Uint8Array.from(typeof host === "string" ? host.split(".").map(Number) : host, (it) => byte(it, "a number of the host"));
-
 function hostOf(host) {
-    const four = fourOf(host);
+    const numbers = typeof host === "string" ? host.split(".").map(Number) : host;
+    const four = Uint8Array.from(numbers, (it) => byte(it, "a number of the host"));
     if (four.length !== 4) throw new TypeError("the host isn't an address of IPv4");
     return four;
 }

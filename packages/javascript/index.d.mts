@@ -1,6 +1,6 @@
 /* The types of the package. The calls are those of the library's headers, which say more of each. Times are nanoseconds. */
-import type { Drop, Fate, Fault, Frame, LimitsLink, LineRank, LinkKind, Lost, Names, Next, Outcome, PacketKind, Probe, Rip, RuleOf, Said, TunnelFate, Verdict,
-    Way } from "./numbers.mjs";
+import type { Drop, Fate, Fault, Frame, LimitsLink, LineRank, LinkKind, Lost, Names, Next, PacketKind, Probe, Rip, RuleOf, Said, TunnelFate,
+    Verdict, Way } from "./numbers.mjs";
 import type { Happened, Packet, Route, Service, Source } from "./ipxr.mjs";
 
 export { BROADCAST, isDrop, readFrame, version, words } from "./ipxr.mjs";
@@ -218,7 +218,8 @@ export class Fair extends Held {
     pass(nanoseconds: Time): void;
     says(speaker: number, weight: Time): boolean;
     bothHear(other: Fair, speaker: number, weight: Time, otherWeight: Time): boolean;
-    state(): { setting: FairSetting; left: bigint; served: bigint; latest: bigint; spare: bigint; waits: bigint; total: bigint; ends: bigint[] };
+    state(): { setting: FairSetting; left: bigint; served: bigint; latest: bigint; spare: bigint; waits: bigint; total: bigint;
+        ends: bigint[] };
 }
 /** A limit for one speaker. */
 export class Meter extends Held {
@@ -524,7 +525,8 @@ export function settingsHexadecimal(word: string, digits: number): number | null
 export function settingsNode(word: string): Uint8Array | null;
 export function settingsRange(word: string): RangeSaid | null;
 export function settingsAddressWords(host: Partial<Host>): string;
-export function settingsLinkWords(link: Partial<Omit<SettingLink, "local" | "remote">> & { local?: Partial<Host>; remote?: Partial<Host> }): string;
+export function settingsLinkWords(link:
+    Partial<Omit<SettingLink, "local" | "remote">> & { local?: Partial<Host>; remote?: Partial<Host> }): string;
 export class Configuration extends Held {
     constructor();
     line(text: string, how?: { hasCards?: boolean }): { expected: number; said: Settings; wrong: LineWrong };

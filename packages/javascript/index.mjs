@@ -14,6 +14,6 @@ export { Line } from "./line.mjs";
 export { Edge } from "./edge.mjs";
 export { Asked, Asks, chooseNode, isFirstOfRange, Kinds, Loop, Pace, probe, rangesHave, Twins } from "./cable.mjs";
 export { Counts, Course } from "./fates.mjs";
-export { Configuration, settingsAddressWords, settingsHexadecimal, settingsLine, settingsLinkWords, settingsNode, settingsRange, settingsSocket,
-    settingsWord } from "./settings.mjs";
+export { Configuration, settingsAddressWords, settingsHexadecimal, settingsLine, settingsLinkWords, settingsNode, settingsRange,
+    settingsSocket, settingsWord } from "./settings.mjs";
 export { plan } from "./plan.mjs";

@@ -4,7 +4,7 @@ import { judged, lend, packedList, read } from "./values.mjs";
 
 const each = (name, at, count) => Array.from({ length: count }, (_, k) => read(name, at + k * raw.layouts[name].size));
 
-/** Plans what stays of the old links with the new ones: whether the router does, what each new link is made from, and each old one's fate. */
+/** What stays of the old links with the new ones: whether the router does, what each new link is made from, and each old one's fate. */
 export function plan(old, links) {
     const [before, after] = [old, links].map((it) => packedList("ipxr_plan_link", it, "link", raw.IPXR_MOST_PLANNED));
     const rooms = [raw.layouts.ipxr_plan_origin.size * after.count, raw.layouts.ipxr_plan_fate.size * before.count];

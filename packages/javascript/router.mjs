@@ -9,9 +9,15 @@ const [HEADER, ENTRY_OF_RIP, ENTRY_OF_SAP, NAME] = [30, 8, 64, 48];
 const isObject = (it) => typeof it === "object" && it !== null;
 
 // Items with what may be text in each; what is no item is refused by the router's own module.
-const each = (items, read) => (Array.isArray(items) ? Array.from(items, (it, k) => (isObject(it) ? { ...it, ...read(it, k) } : it)) : items);
+function each(items, read) {
+    if (!Array.isArray(items)) return items;
+    return Array.from(items, (it, k) => (isObject(it) ? { ...it, ...read(it, k) } : it));
+}
 
-const portOf = (port, k) => ({ network: networkOf(port.network, `the network of port ${k}`), node: nodeOf(port.node, `the node of port ${k}`) });
+function portOf(port, k) {
+    return { network: networkOf(port.network, `the network of port ${k}`), node: nodeOf(port.node, `the node of port ${k}`) };
+}
+
 const routeOf = (route, k) => ({ network: networkOf(route.network, `the network of route ${k}`) });
 const serviceOf = (service, k) => addressOf(service.address ?? service, `the address of service ${k}`);
 

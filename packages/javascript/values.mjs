@@ -17,10 +17,12 @@ const NETWORKS = new Set(["network", "from", "to"]);
 const whole = (most) => (value, what) => inside.whole(value, most, what);
 const NUMBERS = {
     uint8_t: { size: 1, of: whole(0xff), get: (view, at) => view.getUint8(at), put: (view, at, it) => view.setUint8(at, it) },
-    uint16_t: { size: 2, of: whole(0xffff), get: (view, at) => view.getUint16(at, true), put: (view, at, it) => view.setUint16(at, it, true) },
+    uint16_t: { size: 2, of: whole(0xffff), get: (view, at) => view.getUint16(at, true),
+        put: (view, at, it) => view.setUint16(at, it, true) },
     uint32_t: { size: 4, of: whole(0xffffffff), get: (view, at) => view.getUint32(at, true),
         put: (view, at, it) => view.setUint32(at, it, true) },
-    uint64_t: { size: 8, of: timeOf, get: (view, at) => view.getBigUint64(at, true), put: (view, at, it) => view.setBigUint64(at, it, true) },
+    uint64_t: { size: 8, of: timeOf, get: (view, at) => view.getBigUint64(at, true),
+        put: (view, at, it) => view.setBigUint64(at, it, true) },
     size_t: { size: 8, of: whole(Number.MAX_SAFE_INTEGER), get: (view, at) => Number(view.getBigUint64(at, true)),
         put: (view, at, it) => view.setBigUint64(at, BigInt(it), true) },
     ipxr_flag: { size: 1, of: flagOf, get: (view, at) => view.getUint8(at) === 1, put: (view, at, it) => view.setUint8(at, Number(it)) },

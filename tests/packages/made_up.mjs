@@ -194,7 +194,8 @@ part("line", 1500, (turn) => {
 // ---- The edge, cables and fates ----
 
 const edge = new ipxr.Edge(PORTS[0]);
-const rule = () => ({ permits: chance(2), what: 1 + chance(5), way: 1 + chance(2), names: chance(3), type: chance(6), socket: socket(), from: 0x10,
+const rule = () => ({ permits: chance(2), what: 1 + chance(5), way: 1 + chance(2), names: chance(3), type: chance(6), socket: socket(),
+    from: 0x10,
     to: 0x10 * chance(20), name: `S${chance(4)}` });
 part("edge", 800, () => {
     const given = packet();
@@ -203,7 +204,8 @@ part("edge", 800, () => {
     add(tried(() => edge.writeServices("020000000009", several(3, service))));
 });
 
-const [kinds, loops, pace, twins, asks] = [new ipxr.Kinds(), [new ipxr.Loop(), new ipxr.Loop()], new ipxr.Pace(), new ipxr.Twins(), new ipxr.Asks()];
+const [kinds, loops, pace, twins, asks] = [new ipxr.Kinds(), [new ipxr.Loop(), new ipxr.Loop()], new ipxr.Pace(), new ipxr.Twins(),
+    new ipxr.Asks()];
 const asked = Array.from({ length: 3 }, () => new ipxr.Asked());
 part("cable", 800, (turn) => {
     const [hash, of, kind, k, now] = [chance(99), node(), chance(6), chance(3), 1 + turn * 40_000_000];
@@ -239,15 +241,18 @@ part("counts", 1, () => {
 // ---- A configuration and a plan ----
 
 const LINES = ["network 10 1 1424 dosbox 2130", "clients 40 8", "trust 192.168.0.0/16 10.0.0.0/8", "extend 4545 451", "rate 800 50 300",
-    "network 20 1 1500 # of several", "link tap ipx0 raw", "link qemu-udp 127.0.0.1:5000 127.0.0.1:5001 raw", "internal 99 node 02:00:00:00:00:07",
+    "network 20 1 1500 # of several", "link tap ipx0 raw", "link qemu-udp 127.0.0.1:5000 127.0.0.1:5001 raw",
+        "internal 99 node 02:00:00:00:00:07",
     "permit type 4", "deny service 4 FILES* in", "route 30 2 3 via 020000000005", "service 4 FILES 30.020000000005.451 2 via 020000000005",
-    "link interface eth0 auto", "adopt no", "line 512", "nodes by-address", "network 30 1 1500 tap ipx1 snap", "what", "", "link tap ipx0 raw"];
+    "link interface eth0 auto", "adopt no", "line 512", "nodes by-address", "network 30 1 1500 tap ipx1 snap", "what", "",
+        "link tap ipx0 raw"];
 part("settings", 400, () => {
     const words = pick(LINES).split(" ");
     if (chance(2)) words[chance(words.length)] = pick(["0", "FFFF", "raw", "65536", "x", "192.168.0.0/16", "020000000005"]);
     const asking = words.join(" ");
     const { expected, said: told } = ipxr.settingsLine(asking, { hasCards: chance(3) > 0, isBelowTunnel: chance(2) === 1 });
-    add(expected, told.read, told.kind, told.bits, told.network.number, told.network.node, told.link.carrier, told.link.name, told.link.local.port,
+    add(expected, told.read, told.kind, told.bits, told.network.number, told.network.node, told.link.carrier, told.link.name,
+        told.link.local.port,
         told.numbers, told.rule.what, told.rule.name, told.route.via, told.service.service.name, told.service.line);
     const word = words[chance(words.length)];
     add(ipxr.settingsSocket(word), ipxr.settingsHexadecimal(word, 8), ipxr.settingsNode(word), ipxr.settingsRange(word)?.first);
@@ -264,18 +269,24 @@ part("configuration", 1, () => {
     const own = configuration.internal();
     add(configuration.unlinked(), own?.line, own?.number, own?.node);
     for (const it of configuration.links()) {
-        add(it.line, it.networkLine, it.port, it.number, it.cost, it.longest, it.isOfSeveral, it.carrier.number, it.carrier.name, it.clients, it.ofAddress,
-            it.rate, it.share, it.household, it.kilobits, it.sockets, it.trusted.map((range) => [range.first, range.bits]), it.nodesByAddress, it.adopts);
+        add(it.line, it.networkLine, it.port, it.number, it.cost, it.longest, it.isOfSeveral, it.carrier.number, it.carrier.name,
+            it.clients, it.ofAddress,
+            it.rate, it.share, it.household, it.kilobits, it.sockets, it.trusted.map((range) => [range.first, range.bits]),
+                it.nodesByAddress, it.adopts);
         add(it.rules.map((rule_of) => [rule_of.permits, rule_of.what, rule_of.type, rule_of.name]),
-            it.staticRoutes.map((way) => [way.line, way.route.network, way.via]), it.staticServices.map((way) => [way.line, way.service.name]));
+            it.staticRoutes.map((way) => [way.line, way.route.network, way.via]), it.staticServices.map((way) => [way.line,
+                way.service.name]));
     }
 });
-const planned = () => Array.from({ length: chance(5) }, (_, k) => ({ network: 0x10 * (1 + k), carrier: chance(4), frames: chance(3), udpPort: 2130 + chance(2),
-    number: chance(3), port: chance(2), clients: chance(2), sockets: chance(2), node: node(), hasNode: chance(3) > 0, isOfSeveral: chance(3) === 0,
+const planned = () => Array.from({ length: chance(5) }, (_, k) => ({ network: 0x10 * (1 + k), carrier: chance(4), frames: chance(3),
+    udpPort: 2130 + chance(2),
+    number: chance(3), port: chance(2), clients: chance(2), sockets: chance(2), node: node(), hasNode: chance(3) > 0,
+        isOfSeveral: chance(3) === 0,
     isFirst: chance(2) === 1 }));
 part("plan", 400, () => {
     const { staysRouter, origins, fates } = ipxr.plan(planned(), planned());
     const none = (it) => (it === ipxr.NO_ONE ? null : it);
-    add(staysRouter, origins.map((it) => [none(it.was), it.cable, it.tunnel, it.isKept, it.isAsBefore, it.hasOtherClients, it.hasOtherSockets]));
+    add(staysRouter, origins.map((it) => [none(it.was), it.cable, it.tunnel, it.isKept, it.isAsBefore, it.hasOtherClients,
+        it.hasOtherSockets]));
     add(fates.map((it) => [none(it.becomes), it.isClosed, it.endsTunnel]));
 });

@@ -185,7 +185,8 @@ handing = ipxr.KeyedTunnel(**SETTING, remembered=4, remembered_share=2)
 
 def keyed_turn(_):
     of = place()
-    values = {"place": of, "node": keyed(of), "former": keyed(of), "current": cookie(of), "previous": cookie(of), "is_trusted": chance(9) == 0}
+    values = {"place": of, "node": keyed(of), "former": keyed(of), "current": cookie(of), "previous": cookie(of),
+        "is_trusted": chance(9) == 0}
     values["may_register"] = chance(4) > 0
     tunnel_turn(handing, packed(raw.ipxr_keyed_sender, "the sender", values), datagram(keyed(of), of))
     add([[it.place, it.node, it.seconds_left] for it in [*handing.clients(), *handing.waiters()]])
@@ -339,7 +340,8 @@ def cable_turn(turn):
         asked[k].ask(asks, now, chance(1000))
     else:
         asked[k].answer()
-    add(ipxr.choose_node(is_tunnel=chance(2) == 1, is_of_several=chance(2) == 1, said=of if chance(2) else None, card=node(), hashed=hashed))
+    add(ipxr.choose_node(is_tunnel=chance(2) == 1, is_of_several=chance(2) == 1, said=of if chance(2) else None, card=node(),
+        hashed=hashed))
 
 
 counts = ipxr.Counts()
@@ -388,7 +390,8 @@ def settings_turn(_):
         it.service.line)
     word = words[chance(len(words))]
     found = settings.settings_range(word)
-    add(settings.settings_socket(word) or 0, settings.settings_hexadecimal(word, 8), settings.settings_node(word), found and bytes(found.first))
+    add(settings.settings_socket(word) or 0, settings.settings_hexadecimal(word, 8), settings.settings_node(word),
+        found and bytes(found.first))
     at = settings.settings_word(asking, chance(4))
     add(at and at[0], settings.settings_link_words(it.link))
     plain_host = settings.setting_host(four=bytes([10, 0, 0, chance(9)]), port=chance(65536))

@@ -1,14 +1,19 @@
 // Uses what the package has: tsc takes it.
 import {
-    addressText, AddressUse, Asked, Asks, chooseNode, ClientUse, Configuration, Counts, Course, Drop, Edge, extend, Fair, Fault, Frame, HouseholdLimits,
-    IpxrError, isDrop, KeyedTunnel, Keys, kindOf, Kinds, Limits, LimitsLink, Line, LineAddress, LineRank, LinkKind, load, Loop, Lost, Meter, Moment, Names,
-    Next, nodeText, NO_ONE, Outcome, Pace, PacketKind, placeText, plan, probe, Probe, Queues, rangesHave, Reader, readFrame, readPacket, readRip, readSap,
-    Rip, Router, RuleOf, Said, Segment, settingsLine, StrangersLimits, toldByLinks, Tunnel, Twins, Verdict, Way, words, writeFrame, writePacket,
+    addressText, AddressUse, Asked, Asks, chooseNode, ClientUse, Configuration, Counts, Course, Drop, Edge, extend, Fair, Fault, Frame,
+        HouseholdLimits,
+    IpxrError, isDrop, KeyedTunnel, Keys, kindOf, Kinds, Limits, LimitsLink, Line, LineAddress, LineRank, LinkKind, load, Loop, Lost,
+        Meter, Moment, Names,
+    Next, nodeText, NO_ONE, Outcome, Pace, PacketKind, placeText, plan, probe, Probe, Queues, rangesHave, Reader, readFrame, readPacket,
+        readRip, readSap,
+    Rip, Router, RuleOf, Said, Segment, settingsLine, StrangersLimits, toldByLinks, Tunnel, Twins, Verdict, Way, words, writeFrame,
+        writePacket,
     writeQuery, writeRip, writeSap,
 } from "ipxr";
 import type { AddressLike, Heard, NodeLike, Port, Rule, Sender } from "ipxr";
 
-const ports: readonly Port[] = [{ network: "10", node: "02:00:00:00:00:01", cost: 1, longest: 576 }, { network: 0x20, node: [0, 0, 0, 0, 0, 2],
+const ports: readonly Port[] = [{ network: "10", node: "02:00:00:00:00:01", cost: 1, longest: 576 }, { network: 0x20, node: [0, 0, 0, 0,
+    0, 2],
     cost: 1, longest: 1500, routes: 9 }];
 const here: AddressLike = "10.020000000001.451";
 const node: NodeLike = Uint8Array.of(2, 0, 0, 0, 0, 1);
@@ -55,8 +60,10 @@ function shares(now: bigint): boolean {
     const limits = new Limits({ link: LimitsLink.TUNNEL, rate: 800, share: 50 });
     limits.set(limits.numbers());
     const [client, address, meter, reader] = [new ClientUse(), new AddressUse(), new Meter(), new Reader(limits)];
-    const verdicts: Verdict[] = [limits.says(PacketKind.PING, client, meter), limits.hands(1, kindOf(new Uint8Array()), client, address, meter, meter),
-        limits.receives(reader, 1, 30), new HouseholdLimits(9).receives(limits, reader, toldByLinks(), 1, 30), new StrangersLimits(9).send(1, meter, meter)];
+    const verdicts: Verdict[] = [limits.says(PacketKind.PING, client, meter), limits.hands(1, kindOf(new Uint8Array()), client, address,
+        meter, meter),
+        limits.receives(reader, 1, 30), new HouseholdLimits(9).receives(limits, reader, toldByLinks(), 1, 30),
+            new StrangersLimits(9).send(1, meter, meter)];
     const [line, end, said] = [new Line(512), new LineAddress(), new Moment()];
     const rank: LineRank = line.room(now, new Queues().take(1, 9), 30, said, end);
     return verdicts.includes(Verdict.PASSES) && rank !== LineRank.FULL && said.nanoseconds > now && fair.says(0, 1n);
@@ -64,7 +71,8 @@ function shares(now: bigint): boolean {
 
 function edges(packet: Uint8Array): Uint8Array | null {
     const edge = new Edge(ports[0]);
-    const rules: Rule[] = [{ permits: 0, what: RuleOf.SERVICES, way: Way.IN, names: Names.ALL, type: 4 }, { permits: 1, what: RuleOf.ROUTES, from: "10",
+    const rules: Rule[] = [{ permits: 0, what: RuleOf.SERVICES, way: Way.IN, names: Names.ALL, type: 4 }, { permits: 1,
+        what: RuleOf.ROUTES, from: "10",
         to: 0x20, way: Way.OUT }];
     return edge.filter(Way.IN, rules, edge.enter(packet) ?? edge.number(packet)) ?? extend("10", ["4545", 2], 0x20, packet);
 }
@@ -75,7 +83,8 @@ function cables(now: bigint): boolean {
     new Pace().moreWait(1, 2, now);
     const own: Uint8Array = chooseNode({ isTunnel: true, hash: now });
     const isShut = probe(0, 1, 1, 1, loop, other) === Probe.THERE && new Twins().hear(own, 1, 1) === null;
-    return isShut && new Kinds().speaks(now, own, Frame.RAW) && rangesHave([{ host: "10.0.0.0", bits: 8 }], [10, 0, 0, 1]) && asked.isDue(asks, now);
+    return isShut && new Kinds().speaks(now, own, Frame.RAW) && rangesHave([{ host: "10.0.0.0", bits: 8 }], [10, 0, 0,
+        1]) && asked.isDue(asks, now);
 }
 
 function fates(): bigint {
@@ -98,7 +107,8 @@ export async function main(packet: Uint8Array): Promise<void> {
     await load();
     const keys = new Keys(new Uint8Array(16));
     try {
-        console.log(router(), heard(keys.sender("10.0.0.1:2130", 1)), keyed(keys), joined(), shares(1n), edges(packet), cables(1n), fates(), configured());
+        console.log(router(), heard(keys.sender("10.0.0.1:2130", 1)), keyed(keys), joined(), shares(1n), edges(packet), cables(1n),
+            fates(), configured());
         console.log(readFrame(writeFrame(Frame.SNAP, node, node, packet) ?? packet)?.kind, readPacket(packet)?.from.socket);
         console.log(readRip(packet)?.routes[0].hops, readSap(packet)?.services[0].name);
     } catch (why) {

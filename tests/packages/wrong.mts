@@ -1,5 +1,6 @@
 // Uses what the package has as it isn't meant: tsc refuses each line that says so, and no other.
-import { AddressUse, Course, Edge, Fair, Keys, Limits, LimitsLink, LinkKind, Meter, readPacket, Router, Said, Segment, Tunnel, Verdict, writeQuery } from "ipxr";
+import { AddressUse, Course, Edge, Fair, Keys, Limits, LimitsLink, LinkKind, Meter, readPacket, Router, Said, Segment, Tunnel, Verdict,
+    writeQuery } from "ipxr";
 
 const tunnel = new Tunnel({ network: "10", node: "020000000001", capacity: 4, share: 2 });
 const segment = new Segment({ network: 0x10, node: "020000000001", links: 2, capacity: 9 });

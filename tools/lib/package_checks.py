@@ -1,7 +1,7 @@
 """One list of calls: whether a package has each call and each number of the headers, and uses it or says why not.
 
-What the packages are written from is read by patterns (package_headers.py). Here a C compiler says what the headers have, so that nothing is
-missed that a pattern doesn't know.
+What the packages are written from is read by patterns (package_headers.py). Here a C compiler says what the headers have, so that nothing
+is missed that a pattern doesn't know.
 """
 import json
 import os
@@ -124,6 +124,8 @@ def modules_in(folder, end, written):
 def calls_file(name):
     """What the headers have, for the test of the raw layer."""
     read = package_headers.Read(INCLUDE)
-    calls = [{"name": it.name, "answer": it.answer,
-              "arguments": [{"name": one.name, "type": one.kind, "isPointer": one.is_pointer} for one in it.arguments]} for it in read.calls]
+    calls = []
+    for it in read.calls:
+        arguments = [{"name": one.name, "type": one.kind, "isPointer": one.is_pointer} for one in it.arguments]
+        calls.append({"name": it.name, "answer": it.answer, "arguments": arguments})
     put(name, json.dumps([calls, read.numbers]))

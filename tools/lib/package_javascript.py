@@ -68,8 +68,8 @@ def names_of_types(folder):
 
 
 def names_of_module(folder):
-    run = subprocess.run(["node", "-e", f"import({json.dumps(f'{folder}/index.mjs')}).then((it) => console.log(Object.keys(it).join(' ')))"],
-                         stdout=subprocess.PIPE, text=True, check=True)
+    asked = f"import({json.dumps(f'{folder}/index.mjs')}).then((it) => console.log(Object.keys(it).join(' ')))"
+    run = subprocess.run(["node", "-e", asked], stdout=subprocess.PIPE, text=True, check=True)
     return {*run.stdout.split()}
 
 
@@ -115,7 +115,8 @@ def test_installed(app):
     packages.plays_made_up("javascript", "node", "made_up.mjs", cwd=app)
     tell("javascript: what isn't meant is refused", packages.runs("node", "odd.mjs", cwd=app))
     package_checks.calls_file(f"{app}/calls.json")
-    tell("javascript: each raw call takes what its header says, and each number is there", packages.runs("node", "raw.mjs", "calls.json", cwd=app))
+    tell("javascript: each raw call takes what its header says, and each number is there",
+         packages.runs("node", "raw.mjs", "calls.json", cwd=app))
     tell("javascript: the server serves two players", packages.runs("python3", f"{TESTS}/players.py", "node", f"{app}/server.mjs"))
     test_program(app)
 

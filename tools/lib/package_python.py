@@ -39,7 +39,8 @@ def make(folder):
 def python():
     """A Python that can build packages, or nothing."""
     asked = f"import {', '.join(NEEDED)}"
-    return next((it for it in PYTHONS if has(it) and subprocess.run([it, "-c", asked], capture_output=True, check=False).returncode == 0), None)
+    there = [it for it in PYTHONS if has(it)]
+    return next((it for it in there if subprocess.run([it, "-c", asked], capture_output=True, check=False).returncode == 0), None)
 
 
 # ---- What is tried where it was made ----
@@ -66,8 +67,10 @@ def installs(own, folder, away):
 
 def test_installed(own, folder, away):
     asked = {**os.environ, "PYTHONPATH": f"{away}/site", "PYTHONDONTWRITEBYTECODE": "1"}
-    for name in (f"{folder}/examples/story.py", f"{folder}/examples/server.py", f"{TESTS}/made_up.py", f"{TESTS}/odd.py", f"{TESTS}/raw_calls.py"):
-        shutil.copy(name, away)
+    for name in ("made_up.py", "odd.py", "raw_calls.py"):
+        shutil.copy(f"{TESTS}/{name}", away)
+    for name in ("story.py", "server.py"):
+        shutil.copy(f"{folder}/examples/{name}", away)
     packages.tells_story("python", own, "story.py", cwd=away, env=asked)
     packages.plays_made_up("python", own, "made_up.py", cwd=away, env=asked)
     tell("python: what isn't meant is refused", packages.runs(own, "odd.py", cwd=away, env=asked))

@@ -1,5 +1,6 @@
 """The parts of the package for Python that are written from the headers: their numbers by groups, and the raw layer, which has each number,
 each struct and each call, over ctypes."""
+import json
 import keyword
 
 HEAD = '"""{}. Written by tools/packages from the headers of the library for C."""\n'
@@ -86,7 +87,7 @@ def shown(call):
 
 def raw(read):
     """The raw layer."""
-    named = "".join(f'{name} = "{number}"\n' if isinstance(number, str) else f"{name} = {number}\n" for name, number in read.numbers.items())
+    named = "".join(f"{name} = {json.dumps(number)}\n" for name, number in read.numbers.items())
     structs = "".join(map(struct, read.structs.values()))
     signatures = "SIGNATURES: dict[str, tuple[Any, tuple[tuple[str, Any], ...]]] = {\n" + "".join(map(signature, read.calls)) + "}\n"
     calls = CALLS.format("".join(map(shown, read.calls)))

@@ -1,5 +1,5 @@
-// A server for DOSBox in Node: node server.mjs 2130, and in each DOSBox IPXNET CONNECT ADDRESS 2130. All players are on one network, where a
-// router answers what programs ask of one. It gives each a node of its own.
+// A server for DOSBox in Node: node server.mjs 2130, and in each DOSBox IPXNET CONNECT ADDRESS 2130. All players are on one network, where
+// a router answers what programs ask of one. It gives each a node of its own.
 import { createSocket } from "node:dgram";
 import { Keys, KeyedTunnel, load, placeText, Router } from "ipxr";
 

@@ -88,7 +88,8 @@ class Limits:
 
     def receives(self, client: Reader, queue: int, size: int) -> Verdict:
         """Whether a client whose address has no limits receives a packet of so many bytes, of somebody who has that queue there."""
-        return Verdict(calls.ipxr_limits_receives(byref(self.state), byref(client.state), byte(queue, "the queue"), long(size, "the bytes")))
+        of = byref(client.state), byte(queue, "the queue"), long(size, "the bytes")
+        return Verdict(calls.ipxr_limits_receives(byref(self.state), *of))
 
     def hears_router(self, client: Reader, queue: int, size: int) -> None:
         """The same client receives a packet of the router: it isn't dropped."""
