@@ -14,8 +14,9 @@ from telling import has, left_out, tell
 
 TESTS = f"{TOP}/tests/packages"
 WRITTEN = ("raw.py", "numbers.py")
-# What builds a package for Python: Debian's packages python3-pip, python3-setuptools and python3-wheel have it.
-NEEDED = ("pip", "setuptools", "wheel")
+# What builds a package for Python: Debian's packages python3-setuptools, python3-wheel and python3-pip have it. (The first wants to be the
+# first.)
+NEEDED = ("setuptools", "wheel", "pip")
 PYTHONS = ("python3", "/usr/bin/python3")
 BUILD = "import setuptools.build_meta as it; it.build_sdist({!r})"
 # Calls that no word of the package makes, and why.
