@@ -86,6 +86,7 @@ def written(folder):
 def build():
     """Puts the file and what belongs to it into a folder."""
     os.makedirs(PARTS, exist_ok=True)
+    os.makedirs(FOLDER, exist_ok=True)
     compiled(PARTS)
     text = written(PARTS)
     with open(MADE, "w", encoding="ascii") as it:
