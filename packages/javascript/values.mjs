@@ -69,16 +69,19 @@ function sizeOf(kind) {
     return NUMBERS[kind]?.size ?? raw.layouts[kind].size;
 }
 
+function getSome(view, at, kind, count) {
+    return Array.from({ length: count }, (_, k) => getOne(view, at + k * sizeOf(kind), kind));
+}
+
 function getField(view, at, [kind, place, count]) {
     if (count === 0) return getOne(view, at + place, kind);
-    if (kind === "uint8_t") return getBytes(view, at + place, count);
-    return Array.from({ length: count }, (_, k) => getOne(view, at + place + k * sizeOf(kind), kind));
+    return kind === "uint8_t" ? getBytes(view, at + place, count) : getSome(view, at + place, kind, count);
 }
 
 function get(view, at, name) {
     const { fields } = raw.layouts[name];
     const { list, count } = fields;
-    if (list && count) return getField(view, at, [list[0], list[1], Math.min(getField(view, at, count), list[2])]);
+    if (list && count) return getSome(view, at + list[1], list[0], Math.min(getField(view, at, count), list[2]));
     return Object.fromEntries(Object.entries(fields).map(([key, field]) => [camel(key), getField(view, at, field)]));
 }
 

@@ -72,9 +72,17 @@ const PORTS = [0x10, 0x20, 0x30].map((it) => ({ network: it, node: "020000000001
 
 const router = new ipxr.Router(PORTS);
 router.start();
+
+// What a neighbour on a port's network tells.
+function told(port, of) {
+    const ends = ["02000000000A", "FFFFFFFFFFFF"].map((it) => ({ network: 0x10 * (1 + port), node: it, socket: of }));
+    return of === 0x453 ? ipxr.writeRip(...ends, 2, several(5, route)) : ipxr.writeSap(...ends, false, several(3, service));
+}
+
 part("router", 600, () => {
     const [what, port] = [chance(12), chance(4)];
-    const calls = [() => router.second(), () => router.portDown(port), () => router.portUp(port)];
+    const calls = [() => router.second(), () => router.portDown(port), () => router.portUp(port),
+        () => router.packet(port, told(port, 0x453)), () => router.packet(port, told(port, 0x452)), () => router.portUp(port)];
     const it = tried(calls[what] ?? (() => router.packet(port, packet())));
     if (typeof it === "number") return add(it);
     add(it.outcome, it.sent.map((one) => [one.port, one.node, one.bytes]));

@@ -115,9 +115,16 @@ router = ipxr.Router(PORTS)
 router.start()
 
 
+def told(port, of):
+    """What a neighbour on a port's network tells."""
+    ends = [(0x10 * (1 + port), it, of) for it in ("02000000000A", "FFFFFFFFFFFF")]
+    return ipxr.write_rip(*ends, 2, several(5, route)) if of == 0x453 else ipxr.write_sap(*ends, several(3, service))
+
+
 def router_turn(_):
     what, port = chance(12), chance(4)
-    calls = [router.second, lambda: router.port_down(port), lambda: router.port_up(port)]
+    calls = [router.second, lambda: router.port_down(port), lambda: router.port_up(port), lambda: router.packet(port, told(port, 0x453)),
+             lambda: router.packet(port, told(port, 0x452)), lambda: router.port_up(port)]
     it = tried(calls[what] if what < len(calls) else lambda: router.packet(port, packet()))
     if isinstance(it, int):
         add(it)

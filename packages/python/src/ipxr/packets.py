@@ -58,7 +58,8 @@ def services_of(services: Sequence[ServiceEntry]) -> tuple[Any, int]:
 def written(call: Callable[[Any, int], int]) -> bytes:
     """What a call wrote into the room that it was lent."""
     room = create_string_buffer(MOST_BYTES)
-    return room.raw[: judged(call(room, MOST_BYTES))]
+    length = judged(call(room, MOST_BYTES))
+    return room.raw[:length]
 
 
 def write_rip(source: AddressLike, to: AddressLike, operation: Rip, routes: Sequence[RouteEntry]) -> bytes:

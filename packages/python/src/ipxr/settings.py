@@ -88,13 +88,15 @@ def setting_link(**values: Any) -> raw.ipxr_setting_link:
 def settings_address_words(host: raw.ipxr_setting_host) -> str:
     """An address with its port as a line has it."""
     room = create_string_buffer(MOST_WORDS)
-    return room.raw[: calls.ipxr_settings_address_words(byref(host), room, MOST_WORDS)].decode("latin-1")
+    length = calls.ipxr_settings_address_words(byref(host), room, MOST_WORDS)
+    return room.raw[:length].decode("latin-1")
 
 
 def settings_link_words(link: raw.ipxr_setting_link) -> str:
     """The words of a link as a line has them; "" where it is no link."""
     room = create_string_buffer(MOST_WORDS)
-    return room.raw[: calls.ipxr_settings_link_words(byref(link), room, MOST_WORDS)].decode("latin-1")
+    length = calls.ipxr_settings_link_words(byref(link), room, MOST_WORDS)
+    return room.raw[:length].decode("latin-1")
 
 
 class Configuration:

@@ -30,7 +30,8 @@ class IpxrError(Exception):
 def words(answer: int) -> str:
     """The words of an outcome, a drop or a fault; of any other number "". """
     word = ctypes.create_string_buffer(WORD)
-    return word.raw[: calls.ipxr_word(answer, word, WORD)].decode("ascii")
+    length = calls.ipxr_word(answer, word, WORD)
+    return word.raw[:length].decode("ascii")
 
 
 def judged(answer: int) -> int:
