@@ -6,6 +6,7 @@ import shutil
 import subprocess
 
 import javascript_raw
+import layout
 import package_checks
 import package_headers
 import packages
@@ -13,6 +14,7 @@ import wasm32
 import wasm_modules
 from c_library import put, text_of
 from libraries import TOP
+from systems import HEADERS
 from telling import has, left_out, say, tell
 
 # The router's own module, which stands alone in pages, too; its place is promised (docs/STABLE.md).
@@ -38,7 +40,7 @@ def make(folder):
         put(f"{folder}/{name}.mjs", code)
         put(f"{folder}/{name}.d.mts", types)
     with open(f"{folder}/libipxr.wasm", "wb") as it:
-        it.write(wasm32.lowered(wasm_modules.module("ipx_c")))
+        it.write(wasm32.lowered(wasm_modules.module("ipx_c", headers=HEADERS)))
     os.chmod(f"{folder}/libipxr.wasm", 0o644)
 
 
@@ -118,7 +120,18 @@ def test_installed(app):
     tell("javascript: each raw call takes what its header says, and each number is there",
          packages.runs("node", "raw.mjs", "calls.json", cwd=app))
     tell("javascript: the server serves two players", packages.runs("python3", f"{TESTS}/players.py", "node", f"{app}/server.mjs"))
+    test_pages(app)
     test_program(app)
+
+
+def test_pages(app):
+    """The same program in a page, in each browser that is there."""
+    for name, words, missing in layout.tool("tools/web").browsers():
+        if None in words or not has(words[0]):
+            left_out(f"javascript: a page in {name}", missing or words[0])
+            continue
+        page = ["node", f"{TESTS}/page.mjs", f"{app}/node_modules/ipxr", f"{app}/story.mjs", *words]
+        tell(f"javascript: in a page in {name} it prints the same", packages.says_kept(packages.STORY, *page))
 
 
 def test_program(app):

@@ -7,10 +7,11 @@ import libraries
 import modules
 import targets
 import wasm32
-from systems import HEADERS
 
 TOP = libraries.TOP
 FOLDER, HOST = f"{TOP}/build/wasm", f"{TOP}/host/wasm"
+# The router's own calls: a page needs no others, and loads less.
+OF_ROUTER = ("ipxr.h",)
 TARGET = targets.TARGETS["wasm64"]
 FLAGS = [f"--target={TARGET.triple}", *TARGET.words, "-O3", "-ffunction-sections", "-fdata-sections"]
 OF_HOST = ["-std=c99", "-Wall", "-Wextra", "-ffreestanding", "-fno-builtin"]
@@ -42,22 +43,23 @@ def host():
     return made
 
 
-def exported(name):
-    """What is called from outside: the program's beginning, or the calls of the headers."""
+def exported(name, headers=OF_ROUTER):
+    """What is called from outside: the program's beginning, or the calls of some headers."""
     if name == "ipxr":
         return ["main"]
     found = [*ROOM]
-    for header in HEADERS:
+    for header in headers:
         with open(f"{TOP}/include/{header}", encoding="utf-8") as it:
             found += re.findall(r"(?m)^IPXR_CALL .*?\b(ipxr_\w+)\(", it.read())
     return sorted(found)
 
 
-def module(name, keeps_names=False):
-    """The module with addresses of 64 bits; with the functions' names for whoever looks where time goes."""
+def module(name, keeps_names=False, headers=OF_ROUTER):
+    """The module with addresses of 64 bits; with the functions' names for whoever looks where time goes. The library has the calls of some
+    headers."""
     os.makedirs(FOLDER, exist_ok=True)
     made, strips = f"{FOLDER}/linked.wasm", "--strip-debug" if keeps_names else "--strip-all"
-    exports = [f"--export={it}" for it in exported(name)]
+    exports = [f"--export={it}" for it in exported(name, headers)]
     tool("ld.lld", *LINKER, "-z", f"stack-size={STACKS[name]}", strips, *exports, f"--allow-undefined-file={HOST}/imports", compiled(name),
         *host(), "-o", made)
     with open(made, "rb") as it:
