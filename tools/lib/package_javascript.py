@@ -111,7 +111,7 @@ def test_installed(app):
     own = f"{app}/node_modules/ipxr"
     for name in os.listdir(f"{own}/examples"):
         shutil.copy(f"{own}/examples/{name}", app)
-    for name in ("made_up.mjs", "odd.mjs", "raw.mjs"):
+    for name in ("made_up.mjs", "odd.mjs", "raw.mjs", "readme.mjs"):
         shutil.copy(f"{TESTS}/{name}", app)
     packages.tells_story("javascript", "node", "story.mjs", cwd=app)
     packages.plays_made_up("javascript", "node", "made_up.mjs", cwd=app)
@@ -120,6 +120,7 @@ def test_installed(app):
     tell("javascript: each raw call takes what its header says, and each number is there",
          packages.runs("node", "raw.mjs", "calls.json", cwd=app))
     tell("javascript: the server serves two players", packages.runs("python3", f"{TESTS}/players.py", "node", f"{app}/server.mjs"))
+    tell("javascript: the lines of README.md run", packages.runs("node", "readme.mjs", f"{own}/README.md", cwd=app))
     test_pages(app)
     test_program(app)
 

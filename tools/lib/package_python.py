@@ -68,7 +68,7 @@ def installs(own, folder, away):
 
 def test_installed(own, folder, away):
     asked = {**os.environ, "PYTHONPATH": f"{away}/site", "PYTHONDONTWRITEBYTECODE": "1"}
-    for name in ("made_up.py", "odd.py", "raw_calls.py"):
+    for name in ("made_up.py", "odd.py", "raw_calls.py", "readme.py"):
         shutil.copy(f"{TESTS}/{name}", away)
     for name in ("story.py", "server.py"):
         shutil.copy(f"{folder}/examples/{name}", away)
@@ -79,6 +79,7 @@ def test_installed(own, folder, away):
     tell("python: each raw call takes what its header says, and each number is there",
          packages.runs(own, "raw_calls.py", "calls.json", cwd=away, env=asked))
     tell("python: the server serves two players", packages.runs(own, f"{TESTS}/players.py", own, f"{away}/server.py", cwd=away, env=asked))
+    tell("python: the lines of README.md run", packages.runs(own, "readme.py", f"{folder}/README.md", cwd=away, env=asked))
     test_types(own, away, asked)
 
 
