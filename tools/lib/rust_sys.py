@@ -151,7 +151,7 @@ const size_t ipxr_rust_layouts[@COUNT@] = {
 """
 LAYOUTS_IN_RUST = """\
 //! Whether Rust lays out each struct as C does. Made of the headers by tools/lib/rust_sys.py: change the headers, and make it again.
-use ipxr::sys::*;
+use ipxr::sys;
 
 const COUNT: usize = @COUNT@;
 
@@ -168,9 +168,9 @@ fn size<S, F>(_field: fn(&S) -> &F) -> usize {
 macro_rules! layouts {
     ($($name:ident: $($field:ident)*;)*) => {
         vec![$(
-            (stringify!($name), size_of::<$name>()),
-            $((concat!(stringify!($name), ", ", stringify!($field)), std::mem::offset_of!($name, $field)),
-              (stringify!($field), size(|it: &$name| &it.$field)),)*
+            (stringify!($name), size_of::<sys::$name>()),
+            $((concat!(stringify!($name), ", ", stringify!($field)), std::mem::offset_of!(sys::$name, $field)),
+              (stringify!($field), size(|it: &sys::$name| &it.$field)),)*
         )*]
     };
 }

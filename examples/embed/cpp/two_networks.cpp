@@ -4,7 +4,7 @@
 
 #include "ipxr.hpp"
 
-template <class Bytes> static std::string hex(const Bytes &bytes)
+static std::string hex(const ipx::Bytes &bytes)
 {
     std::string text;
     for (unsigned byte : bytes) {
@@ -15,19 +15,19 @@ template <class Bytes> static std::string hex(const Bytes &bytes)
     return text;
 }
 
-static std::vector<std::uint8_t> from_hex(const std::string &text)
+static ipx::Bytes from_hex(const std::string &text)
 {
-    std::vector<std::uint8_t> bytes;
+    ipx::Bytes bytes;
     for (std::size_t k = 0; k + 1 < text.size(); k += 2)
         bytes.push_back(static_cast<std::uint8_t>(std::stoul(text.substr(k, 2), nullptr, 16)));
     return bytes;
 }
 
-static void show(ipx::Router &router, const std::string &event, std::int32_t answer)
+static void show(ipx::Router &router, const std::string &event, ipx::Answer answer)
 {
-    std::cout << event << ": " << ipx::word(answer) << "\n";
+    std::cout << event << ": " << ipx::check(answer).words() << "\n";
     for (const ipx::Packet &packet : router.take_sent())
-        std::cout << "out " << unsigned(packet.port) << " " << hex(packet.node) << " " << hex(packet.bytes) << "\n";
+        std::cout << "out " << unsigned(packet.port) << " " << ipx::node_text(packet.node) << " " << hex(packet.bytes) << "\n";
 }
 
 static void receive(ipx::Router &router, const std::string &what, std::uint8_t port, const std::string &text)
@@ -39,17 +39,15 @@ static void show_routes(ipx::Router &router)
 {
     for (const ipxr_route_record &route : router.routes())
         std::printf("route %08X %u %u %u %s %u\n", route.network, route.hops, route.ticks, route.port,
-                    hex(route.node).c_str(), route.age);
+                    ipx::node_text(ipx::node_of(route.node)).c_str(), route.age);
 }
 
 int main()
 {
     std::ios::sync_with_stdio(true);
     try {
-        ipx::Router router({
-            {0x10, {0, 0, 0, 0, 0, 1}, 1, 576, IPXR_NO_LIMIT, IPXR_NO_LIMIT},
-            {0x20, {0, 0, 0, 0, 0, 2}, 1, 576, IPXR_NO_LIMIT, IPXR_NO_LIMIT},
-        });
+        ipx::Router router;
+        ipx::check(router.make({ipx::port(0x10, {{0, 0, 0, 0, 0, 1}}), ipx::port(0x20, {{0, 0, 0, 0, 0, 2}})}));
         show(router, "start", router.start());
         receive(router, "BB advertises network 30", 1,
                 "FFFF0028000100000020FFFFFFFFFFFF0453000000200000000000BB045300020000003000010002");

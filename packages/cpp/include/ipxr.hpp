@@ -14,6 +14,7 @@
 #include "ipxr/fates.hpp"
 #include "ipxr/frames.hpp"
 #include "ipxr/keyed.hpp"
+#include "ipxr/keys.hpp"
 #include "ipxr/limits.hpp"
 #include "ipxr/line.hpp"
 #include "ipxr/packets.hpp"

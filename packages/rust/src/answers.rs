@@ -81,3 +81,20 @@ impl fmt::Display for Fault {
 }
 
 impl core::error::Error for Fault {}
+
+/// The version of the library: its calls stay while the first number does.
+///
+/// ```
+/// assert_eq!(ipxr::version(), ipxr::VERSION);
+/// ```
+pub fn version() -> (u16, u16) {
+    // SAFETY: it takes nothing, and keeps nothing.
+    halves(unsafe { sys::ipxr_version() })
+}
+
+/// The version that this crate is made for.
+pub const VERSION: (u16, u16) = halves(sys::IPXR_VERSION);
+
+const fn halves(version: u32) -> (u16, u16) {
+    ((version >> 16) as u16, (version & 0xFFFF) as u16)
+}

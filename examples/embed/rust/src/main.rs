@@ -1,5 +1,5 @@
 //! Joins two networks, plays a few packets to the router, and prints what it sends; `c/two_networks.c` draws the networks.
-use ipxr::{Fault, Outcome, PortValues, Router, NO_LIMIT};
+use ipxr::{Fault, Node, Outcome, Port, Router};
 
 const PACKETS: [(u8, &str, &str); 5] = [
     (1, "BB advertises network 30", "FFFF0028000100000020FFFFFFFFFFFF0453000000200000000000BB045300020000003000010002"),
@@ -18,21 +18,17 @@ fn from_hex(text: &str) -> Vec<u8> {
     (0..text.len()).step_by(2).map(digits).collect()
 }
 
-fn port(network: u32, node: u8) -> PortValues {
-    let node = [0, 0, 0, 0, 0, node];
-    PortValues { network, node, cost: 1, longest: 576, routes: NO_LIMIT, services: NO_LIMIT }
-}
-
 fn show(router: &mut Router, event: &str, outcome: Outcome) -> Result<(), Fault> {
     println!("{event}: {outcome}");
     for packet in router.take_sent()? {
-        println!("out {} {} {}", packet.port, hex(&packet.node), hex(&packet.bytes));
+        println!("out {} {} {}", packet.port, packet.node, hex(&packet.bytes));
     }
     Ok(())
 }
 
 fn main() -> Result<(), Fault> {
-    let mut router = Router::new(&[port(0x10, 1), port(0x20, 2)])?;
+    let ports = [Port::new(0x10, Node([0, 0, 0, 0, 0, 1])), Port::new(0x20, Node([0, 0, 0, 0, 0, 2]))];
+    let mut router = Router::new(&ports)?;
     let started = router.start()?;
     show(&mut router, "start", started)?;
     for (number, what, bytes) in PACKETS {
@@ -40,7 +36,7 @@ fn main() -> Result<(), Fault> {
         show(&mut router, what, outcome)?;
     }
     for it in router.routes()? {
-        println!("route {:08X} {} {} {} {} {}", it.network, it.hops, it.ticks, it.port, hex(&it.node), it.age);
+        println!("route {} {} {} {} {} {}", it.network, it.hops, it.ticks, it.port, it.neighbour, it.age);
     }
     let passed = router.second()?;
     show(&mut router, "second", passed)?;

@@ -22,6 +22,16 @@ inline std::string word(std::int32_t answer)
     return std::string(text, ipxr_text(answer, text, sizeof text));
 }
 
+/// Whether the library is of the version of these headers, or of a later one that has all their calls.
+///
+/// ```cpp
+/// assert(ipx::has_calls());
+/// ```
+inline bool has_calls()
+{
+    return ipxr_version() / 65536 == IPXR_VERSION / 65536 && ipxr_version() >= IPXR_VERSION;
+}
+
 /// What a call answered: it is true unless the call did nothing, since there was a fault.
 ///
 /// ```cpp

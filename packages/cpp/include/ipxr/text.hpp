@@ -35,6 +35,7 @@ struct View {
     const std::uint8_t *at;
     std::size_t length;
 
+    View() : View(nullptr, 0) {}
     View(const std::uint8_t *bytes, std::size_t count) : at(count > 0 ? bytes : nothing()), length(count) {}
     View(const Bytes &bytes) : View(bytes.data(), bytes.size()) {}
     explicit View(const std::string &text) : View(reinterpret_cast<const std::uint8_t *>(text.data()), text.size()) {}
