@@ -5,7 +5,7 @@ import subprocess
 
 import layout
 
-DOCUMENTS = ["README.md", "CHANGELOG.md", "VERSION", "docs/*.md", ":!docs/man", "docs/pictures", "examples"]
+DOCUMENTS = ["README.md", "CHANGELOG.md", "VERSION", "docs/*.md", ":!docs/man", "docs/pictures", "examples", "packages"]
 SOURCES = ["gateway", "include/heap.c"]
 COMPLETIONS = ["completions"]
 # What stands elsewhere than in the repository: include/ has headers alone, since it is copied to where the system looks for them.

@@ -6,6 +6,7 @@ use core::alloc::{GlobalAlloc, Layout};
 use core::ffi::{c_int, c_void};
 use ipxr::{packets, Address, Node, Outcome, Port, Router};
 
+#[link(name = "c")]
 extern "C" {
     fn malloc(size: usize) -> *mut c_void;
     fn free(block: *mut c_void);
@@ -48,3 +49,7 @@ fn goes_out() -> Result<bool, ipxr::Fault> {
 extern "C" fn main() -> c_int {
     c_int::from(goes_out() != Ok(true))
 }
+
+/// What unwinding would ask for, which the toolchain's `alloc` names: nothing unwinds here.
+#[no_mangle]
+extern "C" fn rust_eh_personality() {}

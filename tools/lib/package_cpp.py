@@ -103,7 +103,7 @@ def compilers(package, to):
     text, count = examples()
     put(f"{to}/examples.cpp", text)
     library = f"{to}/libipxr.o"
-    tell("cpp: the library is compiled", packages.runs(CC, "-O2", "-std=c99", "-c", f"{package}/src/libipxr.c", "-o", library))
+    tell("cpp: the library is compiled", packages.runs(CC, "-O2", "-std=c99", f"-I{package}/include", "-c", f"{package}/src/libipxr.c", "-o", library))
     for compiler in COMPILERS:
         if not has(compiler):
             left_out(f"cpp: {compiler}", compiler)
@@ -111,6 +111,7 @@ def compilers(package, to):
         for standard in STANDARDS:
             with_compiler(compiler, standard, package, to, library, count)
     if has("g++"):
+        alone(package, to)
         words = ["g++", "-std=c++11", *SANITIZED, f"-I{package}/include", f"{to}/examples.cpp", library, "-o", f"{to}/examples"]
         tell("cpp: the examples of the comments under the sanitizers", packages.runs(*words) and packages.runs(f"{to}/examples"))
 
@@ -126,10 +127,16 @@ def with_compiler(compiler, standard, package, to, library, count):
     made = f"{to}/examples.exe"
     is_built = packages.runs(*words, "-Wno-unused-variable", f"{to}/examples.cpp", library, "-o", made)
     tell(f"cpp: {compiler} {standard}: {count} examples of the comments", count > 20 and is_built and packages.runs(made))
+
+
+def alone(package, to):
+    """Whether each header has all that it needs."""
+    lacking = []
     for file in sorted(glob.glob(f"{package}/include/ipxr/*.hpp")):
         put(f"{to}/alone.cpp", f'#include "{file}"\n')
-        if not packages.runs(*words, "-fsyntax-only", f"{to}/alone.cpp"):
-            tell(f"cpp: {compiler} {standard}: {os.path.basename(file)} alone", False)
+        if not packages.runs("g++", "-std=c++11", *STRICT, f"-I{package}/include", "-fsyntax-only", f"{to}/alone.cpp"):
+            lacking.append(file)
+    tell("cpp: each header stands alone", not lacking)
 
 
 def by_cmake(package, to):
