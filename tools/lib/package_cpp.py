@@ -12,7 +12,7 @@ from libraries import TOP
 from systems import HEADERS
 from telling import has, left_out, tell
 
-SOURCES = f"{TOP}/packages/cpp"
+SOURCES, TESTS = f"{TOP}/packages/cpp", f"{TOP}/tests/packages"
 # Calls and numbers that the headers for C++ don't name, and why. All are in the headers of C, which they include.
 LEFT_OUT = {
     r"ipxr_word": "ipxr_text, which is in the header, is the same for a text",
@@ -112,6 +112,7 @@ def compilers(package, to):
             with_compiler(compiler, standard, package, to, library, count)
     if has("g++"):
         alone(package, to)
+        programs(package, to, library)
         words = ["g++", "-std=c++11", *SANITIZED, f"-I{package}/include", f"{to}/examples.cpp", library, "-o", f"{to}/examples"]
         tell("cpp: the examples of the comments under the sanitizers", packages.runs(*words) and packages.runs(f"{to}/examples"))
 
@@ -137,6 +138,17 @@ def alone(package, to):
         if not packages.runs("g++", "-std=c++11", *STRICT, f"-I{package}/include", "-fsyntax-only", f"{to}/alone.cpp"):
             lacking.append(file)
     tell("cpp: each header stands alone", not lacking)
+
+
+def programs(package, to, library):
+    """Made-up events under the sanitizers, and a server."""
+    words, made = ["g++", "-std=c++11", *STRICT, f"-I{package}/include"], f"{to}/program"
+    if packages.runs(*words, *SANITIZED, *sorted(glob.glob(f"{TESTS}/cpp/*.cpp")), library, "-o", made):
+        packages.plays_made_up("cpp", made)
+    else:
+        tell("cpp: the program that makes up events is compiled without a warning", False)
+    is_built = packages.runs(*words, f"{package}/examples/server.cpp", library, "-o", made)
+    tell("cpp: the server serves two players", is_built and packages.runs("python3", f"{TESTS}/players.py", made))
 
 
 def by_cmake(package, to):

@@ -29,15 +29,14 @@ FUNCTION = re.compile(r"(?m)^    pub fn (\w+)\((.*)\)(?: -> (\w+))?;$")
 NUMBER = re.compile(r"(?m)^pub const (IPXR_\w+): (\w+) = (.*);$")
 PROGRAM = """\
 [package]
-name = "story"
+name = "{}"
 version = "1.0.0"
 edition = "2021"
 
 [dependencies]
 ipxr = {{ path = "{}" }}
 """
-# A program without Rust's standard library.
-NO_STD = f"{TOP}/tests/packages/no_std.rs"
+TESTS = f"{TOP}/tests/packages"
 
 
 def make(folder):
@@ -122,31 +121,48 @@ def packed(folder, to):
     return f"{to}/{os.path.basename(archive).removesuffix('.crate')}"
 
 
+class Program:
+    """A program of its own that has the crate."""
+
+    def __init__(self, name, crate, to, environment, more=""):
+        self.folder, self.environment = f"{to}/{name}", environment
+        self.made = f"{environment['CARGO_TARGET_DIR']}/debug/{name}"
+        os.makedirs(f"{self.folder}/src")
+        put(f"{self.folder}/Cargo.toml", PROGRAM.format(name, crate) + more)
+
+    def copy(self, *files):
+        """Its sources, of which the first is its main one."""
+        for it in files:
+            shutil.copy(it, f"{self.folder}/src/{'main.rs' if it == files[0] else os.path.basename(it)}")
+        return self
+
+    def is_built(self, **more):
+        return packages.runs("cargo", "build", "--offline", "--quiet", cwd=self.folder, env={**self.environment, **more})
+
+
 def story(crate, to, environment):
-    """A program that has the crate, and by another compiler too."""
-    os.makedirs(f"{to}/story/src")
-    put(f"{to}/story/Cargo.toml", PROGRAM.format(crate))
-    shutil.copy(f"{crate}/examples/story.rs", f"{to}/story/src/main.rs")
+    """A program that has the crate, and by other compilers too."""
+    program = Program("story", crate, to, environment).copy(f"{crate}/examples/story.rs")
     for compiler, words in (("cc", ""), ("clang", "-O1 -g"), ("tcc", "")):
         if not has(compiler):
             left_out(f"rust: the library by {compiler}", compiler)
             continue
-        asked = {**environment, "CC": compiler, "CFLAGS": words}
-        if packages.runs("cargo", "build", "--offline", "--quiet", cwd=f"{to}/story", env=asked):
-            packages.tells_story(f"rust, the library by {compiler}", f"{environment['CARGO_TARGET_DIR']}/debug/story")
+        if program.is_built(CC=compiler, CFLAGS=words):
+            packages.tells_story(f"rust, the library by {compiler}", program.made)
         else:
             tell(f"rust: a program with the crate is built, the library by {compiler}", False)
 
 
-def no_std(crate, to, environment):
-    """A program without Rust's standard library, over the crate."""
-    os.makedirs(f"{to}/bare/src")
-    text = PROGRAM.format(crate).replace('"story"', '"bare"') + '\n[profile.dev]\npanic = "abort"\n'
-    put(f"{to}/bare/Cargo.toml", text)
-    shutil.copy(NO_STD, f"{to}/bare/src/main.rs")
-    is_built = packages.runs("cargo", "build", "--offline", "--quiet", cwd=f"{to}/bare", env=environment)
-    tell("rust: a program without the standard library routes a packet",
-         is_built and packages.runs(f"{environment['CARGO_TARGET_DIR']}/debug/bare"))
+def others(crate, to, environment):
+    """Made-up events, a server, and a program without Rust's standard library."""
+    program = Program("made_up", crate, to, environment)
+    program.copy(f"{TESTS}/rust/main.rs", *(f"{TESTS}/rust/{it}.rs" for it in ("cables", "lines", "shares", "tunnels")))
+    tell("rust: the program that makes up events is built", program.is_built())
+    packages.plays_made_up("rust", program.made)
+    program = Program("server", crate, to, environment).copy(f"{crate}/examples/server.rs")
+    tell("rust: the server serves two players", program.is_built() and packages.runs("python3", f"{TESTS}/players.py", program.made))
+    program = Program("bare", crate, to, environment, '\n[profile.dev]\npanic = "abort"\n').copy(f"{TESTS}/no_std.rs")
+    tell("rust: a program without the standard library routes a packet", program.is_built() and packages.runs(program.made))
 
 
 def without_file(crate, environment):
@@ -171,7 +187,7 @@ def try_crate(crate, to):
     else:
         left_out("rust: clippy", "cargo-clippy")
     story(crate, to, environment)
-    no_std(crate, to, environment)
+    others(crate, to, environment)
     without_file(crate, environment)
 
 

@@ -87,6 +87,11 @@ impl Loop {
         self.0 > 0
     }
 
+    /// For how many seconds it is shut, unless a probe comes.
+    pub fn seconds_left(&self) -> u8 {
+        self.0
+    }
+
     /// A second passes. Returns whether it opens by that.
     pub fn second(&mut self) -> bool {
         let mut it = sys::ipxr_loop { left: self.0 };

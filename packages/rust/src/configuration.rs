@@ -25,6 +25,24 @@ impl fmt::Display for LineWrong {
 
 impl core::error::Error for LineWrong {}
 
+/// What the next line of a [`Configuration`] says.
+#[derive(Clone, Debug, PartialEq, Eq)]
+pub struct LineRead {
+    /// What its words say, up to the first that is wrong.
+    pub said: sys::ipxr_setting,
+    /// What was expected there, one of `sys::IPXR_EXPECTED_..`, or 0.
+    pub expected: u8,
+    /// What else is said of what is wrong.
+    pub wrong: sys::ipxr_line_wrong,
+}
+
+impl LineRead {
+    /// Whether it is right, or what is wrong.
+    pub fn result(&self) -> Result<(), LineWrong> {
+        if self.expected == 0 && self.wrong.unlinked == 0 { Ok(()) } else { Err(LineWrong { expected: self.expected, wrong: self.wrong }) }
+    }
+}
+
 /// A link, with all that lines say of it and of its network.
 pub type Configured = sys::ipxr_configured;
 
@@ -78,19 +96,19 @@ impl Configuration {
     }
 
     /// Reads the next line; `line` is its number, from 1. `has_cards` is whether this system has TAPs and interfaces.
-    pub fn line(&mut self, text: &str, line: usize, has_cards: bool) -> Result<(), LineWrong> {
+    pub fn line(&mut self, text: &str, line: usize, has_cards: bool) -> LineRead {
         let (mut said, mut wrong) = (sys::ipxr_setting::ZERO, sys::ipxr_line_wrong::ZERO);
         let (bytes, length, has_cards) = (text.as_ptr(), text.len(), has_cards.into());
         // SAFETY: here and below pointers and lengths are those of slices and values that lie apart.
         let expected =
             unsafe { sys::ipxr_configuration_line(&mut *self.all, bytes, length, line, has_cards, &mut said, &mut wrong) };
-        if expected == 0 && wrong.unlinked == 0 { Ok(()) } else { Err(LineWrong { expected, wrong }) }
+        LineRead { said, expected, wrong }
     }
 
     /// Reads all lines of a text up to the first that is wrong, and says its number.
     pub fn lines(&mut self, text: &str, has_cards: bool) -> Result<(), (usize, LineWrong)> {
         for (number, line) in (1..).zip(text.lines()) {
-            self.line(line, number, has_cards).map_err(|it| (number, it))?;
+            self.line(line, number, has_cards).result().map_err(|it| (number, it))?;
         }
         match self.unlinked() {
             None => Ok(()),

@@ -174,6 +174,11 @@ impl Keyed {
         let count = unsafe { sys::ipxr_keyed_waiters(&mut self.handle) };
         all(count, sys::ipxr_keyed_member::ZERO, |k, it| unsafe { sys::ipxr_keyed_waiter(&mut self.handle, k, it) }, Member::of)
     }
+
+    /// The handle, for the calls of [`sys`]. It stays this value's own.
+    pub fn raw(&mut self) -> *mut sys::ipxr_keyed {
+        &mut self.handle
+    }
 }
 
 impl Drop for Keyed {

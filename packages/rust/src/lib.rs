@@ -64,7 +64,7 @@ mod text;
 mod tunnel;
 
 pub use answers::{version, Fault, Outcome, VERSION};
-pub use configuration::{Configuration, Configured, Internal, LineWrong};
+pub use configuration::{Configuration, Configured, Internal, LineRead, LineWrong};
 pub use fair::{Fair, FairSetting, Meter};
 pub use keyed::{Keyed, KeyedSender, KeyedSetting, Member};
 pub use keys::Keys;

@@ -244,6 +244,11 @@ impl Router {
             age: it.age,
         })
     }
+
+    /// The handle, for the calls of [`sys`]. It stays this value's own.
+    pub fn raw(&mut self) -> *mut sys::ipxr {
+        &mut self.handle
+    }
 }
 
 impl Drop for Router {

@@ -161,6 +161,11 @@ impl Segment {
         done(unsafe { sys::ipxr_segment_next_node(&mut self.handle, &destination.raw(), node.0.as_mut_ptr()) })?;
         Ok(node)
     }
+
+    /// The handle, for the calls of [`sys`]. It stays this value's own.
+    pub fn raw(&mut self) -> *mut sys::ipxr_segment {
+        &mut self.handle
+    }
 }
 
 impl Drop for Segment {

@@ -170,6 +170,11 @@ impl Tunnel {
         let read = |k, it: &mut sys::ipxr_client| unsafe { sys::ipxr_tunnel_client(&mut self.handle, k, it) };
         all(count, sys::ipxr_client::ZERO, read, |it| Client { place: Place(it.place), seconds_left: it.seconds_left })
     }
+
+    /// The handle, for the calls of [`sys`]. It stays this value's own.
+    pub fn raw(&mut self) -> *mut sys::ipxr_tunnel {
+        &mut self.handle
+    }
 }
 
 impl Drop for Tunnel {

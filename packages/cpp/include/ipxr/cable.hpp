@@ -63,6 +63,7 @@ class Loop {
 public:
     Loop() : loop() {}
     bool is_shut() const { return loop.left > 0; }
+    std::uint8_t seconds_left() const { return loop.left; }
 
     /// A second passes. Returns whether it opens by that.
     bool second() { return ipxr_loop_second(&loop); }

@@ -9,8 +9,10 @@
 
 namespace ipx {
 
-/// What is wrong with a line: what was expected there, one of IPXR_EXPECTED_.., and where. It is true if nothing is wrong.
+/// What a line says, up to the first word that is wrong; what was expected there, one of IPXR_EXPECTED_.., and where. It is true if nothing is
+/// wrong.
 struct LineRead {
+    ipxr_setting said;
     std::uint8_t expected;
     ipxr_line_wrong wrong;
 
@@ -38,9 +40,8 @@ public:
     LineRead line(const std::string &text, std::size_t number, bool has_cards)
     {
         const View it(text);
-        ipxr_setting said = ipxr_setting();
-        LineRead read = {0, ipxr_line_wrong()};
-        read.expected = ipxr_configuration_line(all.get(), it.at, it.length, number, has_cards, &said, &read.wrong);
+        LineRead read = {ipxr_setting(), 0, ipxr_line_wrong()};
+        read.expected = ipxr_configuration_line(all.get(), it.at, it.length, number, has_cards, &read.said, &read.wrong);
         return read;
     }
 
