@@ -33,6 +33,7 @@ COMPILERS = ("g++", "clang++")
 STANDARDS = ("c++11", "c++20")
 SANITIZED = ["-fsanitize=address,undefined", "-fno-sanitize-recover=all", "-g"]
 EXAMPLE = re.compile(r"(?ms)^/// ```cpp\n(.*?)^/// ```$")
+SHOWN = re.compile(r"(?ms)^```cpp\n(.*?)^```$")
 EXAMPLES = """\
 // The examples of the headers' comments, one function each.
 #undef NDEBUG
@@ -141,8 +142,11 @@ def alone(package, to):
 
 
 def programs(package, to, library):
-    """Made-up events under the sanitizers, and a server."""
+    """What the package's page shows, made-up events under the sanitizers, and a server."""
     words, made = ["g++", "-std=c++11", *STRICT, f"-I{package}/include"], f"{to}/program"
+    shown, = SHOWN.findall(text_of(f"{package}/README.md"))
+    put(f"{to}/shown.cpp", shown)
+    tell("cpp: the program on the package's page", packages.runs(*words, f"{to}/shown.cpp", library, "-o", made) and packages.runs(made))
     if packages.runs(*words, *SANITIZED, *sorted(glob.glob(f"{TESTS}/cpp/*.cpp")), library, "-o", made):
         packages.plays_made_up("cpp", made)
     else:

@@ -73,3 +73,8 @@ pub use router::{Packet, Port, Route, Router, Sent, Service, NO_LIMIT};
 pub use segment::{Link, Segment, SegmentSetting, Station};
 pub use text::{Address, Name, Network, Node, Place, Socket, WrongText};
 pub use tunnel::{extend, Client, Own, Said, Sender, Tunnel, TunnelSetting};
+
+/// The page's examples are tried with those of the documentation.
+#[cfg(doctest)]
+#[doc = include_str!("../README.md")]
+struct Page;
