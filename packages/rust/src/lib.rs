@@ -78,3 +78,12 @@ pub use tunnel::{extend, Client, Own, Said, Sender, Tunnel, TunnelSetting};
 #[cfg(doctest)]
 #[doc = include_str!("../README.md")]
 struct Page;
+
+/// An owner is used by one thread at a time.
+///
+/// ```compile_fail
+/// fn is_shared<T: Sync>() {}
+/// is_shared::<ipxr::Router>();
+/// ```
+#[cfg(doctest)]
+struct NotShared;

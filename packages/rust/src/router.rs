@@ -112,7 +112,7 @@ pub struct Service {
 ///
 /// let mut router = Router::new(&[Port::new(0x10, Node([0, 0, 0, 0, 0, 1])), Port::new(0x20, Node([0, 0, 0, 0, 0, 2]))])?;
 /// router.start()?;
-/// assert_eq!(router.take_sent()?.len(), 4);
+/// assert_eq!(router.take_sent()?.len(), 6);
 /// assert_eq!(router.packet(0, b"no packet")?, Outcome::MALFORMED_SHORT);
 /// assert_eq!(router.second()?, Outcome::TICKED);
 /// # Ok::<(), ipxr::Fault>(())
