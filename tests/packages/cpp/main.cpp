@@ -1,14 +1,25 @@
 // Plays made-up events to whatever the headers have, and prints for each part a sum of all that came of them, as made_up.py does.
 #include "play.hpp"
 
+// What a neighbour on a port's network tells.
+static ipx::Bytes told(Play &play, std::uint8_t port, std::uint16_t socket)
+{
+    const std::uint32_t network = 0x10 * (1u + port);
+    const ipxr_address from = ipx::address(network, {{2, 0, 0, 0, 0, 10}}, socket), to = ipx::address(network, ipx::ALL_NODES, socket);
+    return socket == IPXR_RIP_SOCKET ? ipx::write_rip(from, to, IPXR_RIP_RESPONSE, play.routes()).value
+                                     : ipx::write_sap(from, to, false, play.services()).value;
+}
+
 static void router_turn(Play &play, ipx::Router &router)
 {
     const std::uint32_t what = play.chance(12);
     const std::uint8_t port = play.byte(4);
-    const ipx::Answer outcome = what == 0   ? router.second()
-                                : what == 1 ? router.port_down(port)
-                                : what == 2 ? router.port_up(port)
-                                            : router.packet(port, play.packet());
+    const ipx::Answer outcome = what == 0                ? router.second()
+                                : what == 1              ? router.port_down(port)
+                                : what == 2 || what == 5 ? router.port_up(port)
+                                : what == 3              ? router.packet(port, told(play, port, IPXR_RIP_SOCKET))
+                                : what == 4              ? router.packet(port, told(play, port, IPXR_SAP_SOCKET))
+                                                         : router.packet(port, play.packet());
     if (!outcome)
         return play.add(outcome.number);
     play.add(outcome.number, each(router.take_sent(), [](const ipx::Packet &it) { return list(it.port, it.node, Hex{it.bytes}); }));

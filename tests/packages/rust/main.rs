@@ -190,12 +190,26 @@ pub fn ports() -> [Port; 3] {
     [0x10, 0x20, 0x30].map(|it| Port::new(it, Node([2, 0, 0, 0, 0, 1])))
 }
 
+/// What a neighbour on a port's network tells.
+fn told(play: &mut Play, port: u8, socket: Socket) -> Vec<u8> {
+    let network = Network(0x10 * (1 + u32::from(port)));
+    let from = Address { network, node: Node([2, 0, 0, 0, 0, 10]), socket };
+    let to = Address { network, node: Node::ALL, socket };
+    checked(if socket == Socket::RIP {
+        packets::write_rip(&from, &to, packets::RESPONSE, &play.several(5, Play::route))
+    } else {
+        packets::write_sap(&from, &to, false, &play.several(3, Play::service))
+    })
+}
+
 fn router_turn(play: &mut Play, router: &mut Router) {
     let (what, port) = (play.chance(12), play.byte(4));
     let outcome = match what {
         0 => router.second(),
         1 => router.port_down(port),
-        2 => router.port_up(port),
+        2 | 5 => router.port_up(port),
+        3 => router.packet(port, &told(play, port, Socket::RIP)),
+        4 => router.packet(port, &told(play, port, Socket::SAP)),
         _ => router.packet(port, &play.packet()),
     };
     match outcome {
