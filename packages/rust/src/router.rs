@@ -127,6 +127,8 @@ unsafe impl Send for Router {}
 
 impl Router {
     /// A router of these ports, numbered from 0. It is stopped.
+    ///
+    /// It takes up to [`sys::IPXR_STACK`] bytes of stack, and nothing sees whether they are there: give a thread so many.
     pub fn new(ports: &[Port]) -> Result<Router, Fault> {
         let ports: Vec<_> = ports.iter().map(Port::raw).collect();
         let mut router = Router { handle: sys::ipxr::ZERO };

@@ -1,11 +1,12 @@
 // A configuration and a plan.
 #include "play.hpp"
 
-static const std::vector<std::string> LINES = {"network 10 1 1424 dosbox 2130", "clients 40 8", "trust 192.168.0.0/16 10.0.0.0/8",
-    "extend 4545 451", "rate 800 50 300", "network 20 1 1500 # of several", "link tap ipx0 raw",
-    "link qemu-udp 127.0.0.1:5000 127.0.0.1:5001 raw", "internal 99 node 02:00:00:00:00:07", "permit type 4", "deny service 4 FILES* in",
-    "route 30 2 3 via 020000000005", "service 4 FILES 30.020000000005.451 2 via 020000000005", "link interface eth0 auto", "adopt no",
-    "line 512", "nodes by-address", "network 30 1 1500 tap ipx1 snap", "what", "", "link tap ipx0 raw"};
+static const std::vector<std::string> LINES = {
+    "network 10 1 1424 dosbox 2130", "clients 40 8", "trust 192.168.0.0/16 10.0.0.0/8", "extend 4545 451", "rate 800 50 300",
+    "line 512", "nodes by-address", "network 20 1 1500 # of several", "permit type 4", "deny service 4 FILES* in",
+    "route 30 2 3 via 020000000005", "service 4 FILES 30.020000000005.451 2 via 020000000005", "adopt no", "link tap ipx0 raw",
+    "link qemu-udp 127.0.0.1:5000 127.0.0.1:5001 raw", "internal 99 node 02:00:00:00:00:07", "link interface eth0 auto",
+    "network 30 1 1500 tap ipx1 snap", "what", "", "permit type 4", "link tap ipx0 raw"};
 static const std::vector<std::string> OTHERS = {"0", "FFFF", "raw", "65536", "x", "192.168.0.0/16", "020000000005"};
 
 static std::vector<std::string> split(const std::string &line)

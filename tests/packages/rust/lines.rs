@@ -3,27 +3,28 @@ use crate::{checked, list, name_of, Hex, Play};
 use ipxr::settings::{self, Host};
 use ipxr::{plan, sys, Configuration, Configured, Network, Node, PlanLink};
 
-const LINES: [&str; 21] = [
+const LINES: [&str; 22] = [
     "network 10 1 1424 dosbox 2130",
     "clients 40 8",
     "trust 192.168.0.0/16 10.0.0.0/8",
     "extend 4545 451",
     "rate 800 50 300",
+    "line 512",
+    "nodes by-address",
     "network 20 1 1500 # of several",
-    "link tap ipx0 raw",
-    "link qemu-udp 127.0.0.1:5000 127.0.0.1:5001 raw",
-    "internal 99 node 02:00:00:00:00:07",
     "permit type 4",
     "deny service 4 FILES* in",
     "route 30 2 3 via 020000000005",
     "service 4 FILES 30.020000000005.451 2 via 020000000005",
-    "link interface eth0 auto",
     "adopt no",
-    "line 512",
-    "nodes by-address",
+    "link tap ipx0 raw",
+    "link qemu-udp 127.0.0.1:5000 127.0.0.1:5001 raw",
+    "internal 99 node 02:00:00:00:00:07",
+    "link interface eth0 auto",
     "network 30 1 1500 tap ipx1 snap",
     "what",
     "",
+    "permit type 4",
     "link tap ipx0 raw",
 ];
 
