@@ -124,7 +124,7 @@ static void show_beginning(FILE *file)
 static bool open_status(const char *path)
 {
     if (!has_local())
-        complain("ipxr-gateway: --status: only Linux has a status socket");
+        complain("ipxr-gateway: --status: there is no status socket on this system");
     else if (!status_open(path))
         complain("ipxr-gateway: %s: can't listen there: %s", path, fault_words());
     else

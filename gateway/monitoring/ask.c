@@ -160,7 +160,7 @@ int ask_gateway(int count, char **words)
 {
     question q = {.kind = kind_of(words[1]), .form = "columns", .path = USUAL_STATUS};
     if (!has_local()) {
-        use_fault(words[1], "a configuration: only Linux has a status socket");
+        use_fault(words[1], "a configuration: there is no status socket on this system");
         return WRONG_USE;
     }
     return read_words(&q, count, words) ? ask(&q) : WRONG_USE;

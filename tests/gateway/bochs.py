@@ -9,7 +9,7 @@ from cards import has_taps
 from lab import Client, Gateway, free_ports, is_free, tunnels, until
 from pc import MAC, all_come_back, boot_sector
 from spaces import ip
-from systems import SYSTEM, Windows
+from systems import SYSTEM
 from trying import Counts, begin, can, left_out, tried, tried_inside
 
 FLOPPY = 1474560  # bytes
@@ -105,7 +105,7 @@ def main():
         left_out("a PC in Bochs", why)
         return Counts()
     counts = tried(datagrams)
-    return counts if SYSTEM is Windows else counts + tried_inside(__file__, "a PC in Bochs behind a bridge")
+    return counts + tried_inside(__file__, "a PC in Bochs behind a bridge") if SYSTEM.has_cards else counts
 
 
 if __name__ == "__main__":

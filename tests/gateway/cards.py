@@ -34,7 +34,8 @@ def can_add(*words):
 
 
 def has_cards():
-    return can_add("veth", "peer", "name", "tried1")
+    """Whether the gateway has cards for links, and some can be made."""
+    return SYSTEM.has_cards and can_add("veth", "peer", "name", "tried1")
 
 
 def has_bridges():
@@ -42,11 +43,11 @@ def has_bridges():
 
 
 def has_taps():
-    return can(lambda: os.close(os.open(TUN, os.O_RDWR)))
+    return SYSTEM.has_cards and can(lambda: os.close(os.open(TUN, os.O_RDWR)))
 
 
 def hears_all_frames():
     """Whether a card of several links can hear the frames for other nodes; that it can't is told."""
-    if SYSTEM.name == "aarch64":
-        left_out("cards as one of several links", "qemu-aarch64 doesn't hand on that a card is to hear all frames")
-    return SYSTEM.name != "aarch64"
+    if SYSTEM.is_emulated:
+        left_out("cards as one of several links", f"{SYSTEM.runner[0]} doesn't hand on that a card is to hear all frames")
+    return not SYSTEM.is_emulated

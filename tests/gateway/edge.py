@@ -12,7 +12,7 @@ from frames import FRONTS, Packets, Station, Udp
 from lab import (EVERYONE, GAME, RIP, SAP, Client, Clock, Gateway, address, comes_next, free_ports, packet, reaches, rip_response, sap_response,
                  tunnels, until)
 from spaces import ip
-from systems import SYSTEM, Windows
+from systems import SYSTEM
 from trying import Counts, begin, has_linux, left_out, tried, tried_inside
 
 STATION = bytes.fromhex("020000000AA1")
@@ -363,7 +363,7 @@ def main():
         counts.run(rules_change)
         counts.run(statics_change)
         counts.run(another_number)
-    if SYSTEM is Windows or not os.path.isfile(os.environ.get(CAPTURE, "")):
+    if not SYSTEM.has_cards or not os.path.isfile(os.environ.get(CAPTURE, "")):
         left_out("a capture of a real cable", f"{CAPTURE} names none")
         return counts
     return counts + tried_inside(__file__, "a capture of a real cable")

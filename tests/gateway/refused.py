@@ -190,7 +190,7 @@ def can_give_rights():
     """Whether files can be given rights here, that a program has which the system itself runs."""
     with open("/proc/self/uid_map", encoding="ascii") as it:
         is_root = it.read().split() == ["0", "0", "4294967295"]
-    return is_root and SYSTEM.name == "Linux" and all(map(shutil.which, ("setcap", "setpriv")))
+    return is_root and not SYSTEM.is_emulated and all(map(shutil.which, ("setcap", "setpriv")))
 
 
 def inside():

@@ -1,8 +1,8 @@
 """The systems for which the gateway is built: how it runs here, how it is asked for a report, and how it is told to end.
 
 The environment's GATEWAY_SYSTEM names the one that is tried. Without it, it is this machine's own, and the gateway is the one with the
-sanitizers, where that is built. For 64-bit ARM it runs by qemu-aarch64; for Windows by Wine, behind console.exe, which gives it the orders
-of a console. The programs lie where tools/gateway puts them.
+sanitizers, where that is built. For ARM it runs by qemu-aarch64 or qemu-arm; for Windows by Wine, behind console.exe, which gives it the
+orders of a console. What is for any POSIX system runs on this machine's Linux. The programs lie where tools/gateway puts them.
 """
 import contextlib
 import os
@@ -85,6 +85,9 @@ class Linux:
     """This machine's own. What stands before the program lets it run and take orders, and `quick` lets it run without."""
 
     name = "Linux"
+    has_cards = True  # TAPs and interfaces
+    is_emulated = False  # by an emulator that doesn't hand on all that Linux has
+    calls = {}  # those by which it does what Linux does by others
     program = built("ipxr-gateway-sanitized", "ipxr-gateway")
     delivered = built("ipxr-gateway")
     troubled, fast = built("ipxr-gateway-troubled"), built("ipxr-gateway-fast")
@@ -100,16 +103,59 @@ class Aarch64(Linux):
     """Linux on 64-bit ARM."""
 
     name = "aarch64"
+    is_emulated = True
     program = delivered = built("aarch64/ipxr-gateway")
     troubled, fast = built("aarch64/ipxr-gateway-troubled"), built("aarch64/ipxr-gateway-fast")
     siphash, queues, minutes = built("aarch64/siphash"), built("aarch64/queues"), built("aarch64/minutes")
     runner = quick = ["qemu-aarch64"]
 
 
+class Arm(Linux):
+    """Linux on 32-bit ARM."""
+
+    name = "ARM"
+    is_emulated = True
+    program = delivered = built("arm/ipxr-gateway")
+    troubled, fast = built("arm/ipxr-gateway-troubled"), built("arm/ipxr-gateway-fast")
+    siphash, queues, minutes = built("arm/siphash"), built("arm/queues"), built("arm/minutes")
+    runner = quick = ["qemu-arm"]
+
+
+class I686(Linux):
+    """Linux on 32-bit x86."""
+
+    name = "i686"
+    program = delivered = built("i686/ipxr-gateway")
+    troubled, fast = built("i686/ipxr-gateway-troubled"), built("i686/ipxr-gateway-fast")
+    siphash, queues, minutes = built("i686/siphash"), built("i686/queues"), built("i686/minutes")
+
+
+class Posix(Linux):
+    """Any POSIX system, of which this machine's Linux plays one."""
+
+    name = "POSIX"
+    has_cards = False
+    calls = {"recvmmsg": "recvmsg", "sendmmsg": "sendto", "getrandom": "read"}
+    program = built("posix/ipxr-gateway-sanitized", "posix/ipxr-gateway")
+    delivered = built("posix/ipxr-gateway")
+    troubled, fast = built("posix/ipxr-gateway-troubled"), built("posix/ipxr-gateway-fast")
+    siphash, queues, minutes = built("posix/siphash"), built("posix/queues"), built("posix/minutes")
+
+
+class Musl(Posix):
+    """The same by another C library."""
+
+    name = "POSIX by musl"
+    program = delivered = built("musl/ipxr-gateway")
+    troubled, fast = built("musl/ipxr-gateway-troubled"), built("musl/ipxr-gateway-fast")
+    siphash, queues, minutes = built("musl/siphash"), built("musl/queues"), built("musl/minutes")
+
+
 class Windows:
     """Windows on x86-64."""
 
     name = "Windows"
+    has_cards = False
     program = delivered = built("windows/ipxr-gateway.exe")
     siphash, queues, minutes = built("windows/siphash.exe"), built("windows/queues.exe"), built("windows/minutes.exe")
     quick = ["wine"]
@@ -119,4 +165,5 @@ class Windows:
     ends = (b"c", b"x")
 
 
-SYSTEM = {"": Linux, "aarch64": Aarch64, "windows": Windows}[os.environ.get("GATEWAY_SYSTEM", "")]
+SYSTEMS = {"": Linux, "aarch64": Aarch64, "arm": Arm, "i686": I686, "posix": Posix, "musl": Musl, "windows": Windows}
+SYSTEM = SYSTEMS[os.environ.get("GATEWAY_SYSTEM", "")]

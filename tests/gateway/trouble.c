@@ -100,6 +100,7 @@ WANTS_MEMORY(void *, malloc, NULL, (size_t a), (a))
 WANTS_MEMORY(void *, calloc, NULL, (size_t a, size_t b), (a, b))
 WANTS_MEMORY(void *, realloc, NULL, (void *a, size_t b), (a, b))
 
+TROUBLED(ssize_t, recvmsg, -1, (int a, struct msghdr *b, int c), (a, b, c))
 TROUBLED(int, recvmmsg, -1, (int a, struct mmsghdr *b, unsigned c, int d, struct timespec *e), (a, b, c, d, e))
 
 /* Of datagrams that are sent together the Nth fails, and when those behind the ones before it are tried again, again. */

@@ -14,10 +14,10 @@ from links import STATION, connected, listening
 from orders import is_farewell
 from status import Watched, answer_of, processor_time
 from systems import SYSTEM
-from trying import begin, tried
+from trying import begin, left_out, tried
 
-# Each call, the faults that it gives, and how many times it is let fail: the first time, the second, ..
-CALLS = [
+# Each of Linux' calls, the faults that it gives, and how many times it is let fail: the first time, the second, ..
+OF_LINUX = [
     ("socket", errno.EMFILE, 5),
     ("bind", errno.EADDRINUSE, 4),
     ("getsockname", errno.ENOBUFS, 4),
@@ -44,6 +44,14 @@ CALLS = [
     ("realloc", errno.ENOMEM, 3),
     ("getrandom", errno.ENOSYS, 1),
 ]
+
+
+def call_of(name):
+    """What the system that is tried calls in the place of a call of Linux."""
+    return SYSTEM.calls.get(name, name)
+
+
+CALLS = [(call_of(name), fault, times) for name, fault, times in OF_LINUX]
 
 
 def configuration(card, place):
@@ -226,7 +234,7 @@ def no_room_to_receive():
         a, b = Client(gate.ports[0x10]), Client(gate.ports[0x20])
         station, _ = connected(gate, 0x40, "raw")
         assert reaches(station, a)
-        for name, fault, speaker in (("recvmmsg", errno.ENOMEM, b), ("recv", errno.ENOBUFS, station)):
+        for name, fault, speaker in ((call_of("recvmmsg"), errno.ENOMEM, b), ("recv", errno.ENOBUFS, station)):
             with trouble.fails(name, fault):
                 data = fresh()
                 speaker.say(a.at(), data)
@@ -589,9 +597,14 @@ def who_is_refused():
 
 
 def main():
-    return tried(each_fails, each_fails_for_a_while, a_fifo_cannot_be_opened, cannot_wait, nobody_is_taken, no_room_to_receive,
-                 no_memory_for_a_second, one_is_refused, who_is_silent, who_left, stands_still, who_spoke_meanwhile, each_has_its_turn,
-                 what_was_heard_lately, interrupted, few_strangers, late_answers, who_is_refused, an_hour, full_tables, who_stays)
+    counts = tried(each_fails, each_fails_for_a_while, a_fifo_cannot_be_opened, cannot_wait, nobody_is_taken, no_room_to_receive,
+                   no_memory_for_a_second, who_is_silent, who_left, stands_still, who_spoke_meanwhile, each_has_its_turn,
+                   what_was_heard_lately, interrupted, few_strangers, late_answers, who_is_refused, an_hour, full_tables, who_stays)
+    if call_of("sendmmsg") == "sendmmsg":
+        counts.run(one_is_refused)
+    else:
+        left_out("one of several datagrams that is refused", "this system has no call for several")
+    return counts
 
 
 if __name__ == "__main__":

@@ -265,8 +265,8 @@ def a_dead_pc():
     """A PC whose machine is gone without a word gives way after a minute (here 3 seconds), whether or not something was under way."""
     pair("v0", "v1")
     ways = (False, True)
-    if SYSTEM.name != "Linux":
-        left_out("a PC that is gone while something is under way", "qemu-aarch64 doesn't hand on what Linux knows of a connection")
+    if SYSTEM.is_emulated:
+        left_out("a PC that is gone while something is under way", f"{SYSTEM.runner[0]} doesn't hand on what Linux knows of a connection")
         ways = (False,)
     text = "network 20 1 1490 qemu-tcp listen 0 raw\nnetwork 30 1 1490 interface v0 raw\n"
     with Gateway(text, SYSTEM.troubled, environment={"TROUBLE_HASTE": "20"}) as gate:

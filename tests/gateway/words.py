@@ -31,9 +31,9 @@ def asked(*words, stdin=b"", folder=HERE):
 
 
 def kept(name):
-    """The complaints of a wrong configuration, as they are kept; those of Windows are others where it knows no such link."""
-    own = os.path.join(HERE, f"{name}.windows.out")
-    path = own if SYSTEM is Windows and os.path.exists(own) else os.path.join(HERE, f"{name}.out")
+    """The complaints of a wrong configuration, as they are kept; those of a system without cards are others where it knows no such link."""
+    own = os.path.join(HERE, f"{name}.cardless.out")
+    path = own if not SYSTEM.has_cards and os.path.exists(own) else os.path.join(HERE, f"{name}.out")
     with open(path, encoding="utf-8") as it:
         return it.read()
 
@@ -152,11 +152,11 @@ def what_cannot_be_written():
 
 
 def status_on_windows():
-    """On Windows a status socket is told to be Linux' own."""
+    """On Windows it is told that there is no status socket."""
     status, _, complaint = asked("--status", "status", STDIN, stdin=tunnels(1).encode())
-    assert status == 1 and complaint.endswith("ipxr-gateway: --status: only Linux has a status socket\n"), complaint
+    assert status == 1 and complaint.endswith("ipxr-gateway: --status: there is no status socket on this system\n"), complaint
     status, _, complaint = asked("show")
-    assert status == 64 and "only Linux has a status socket" in complaint, complaint
+    assert status == 64 and "there is no status socket on this system" in complaint, complaint
 
 
 def what_is_right():
@@ -242,7 +242,7 @@ def what_cannot_be_opened():
         assert status == 1 and "line 1: dosbox 127.0.0.1:" in complaint and complaint.endswith(": Address already in use\n")
         with open(capture.name, "rb") as it:
             assert it.read() == b"of another gateway"
-    if SYSTEM is not Windows:
+    if SYSTEM.has_cards:
         status, _, complaint = asked("/dev/stdin", stdin=b"network 20 1 1424 interface lo raw\n")
         assert status == 1 and "line 1: interface lo raw: it isn't Ethernet: " in complaint, complaint
     assert asked("--pcap", os.path.join(BUILD, "no", "file"), "/dev/stdin", stdin=tunnels(1).encode())[0] == 1

@@ -4,11 +4,11 @@
 #include <fcntl.h>
 #include <poll.h>
 #include <pthread.h>
-#include <semaphore.h>
 #include <signal.h>
 #include <unistd.h>
 
 #include "systems/fault.h"
+#include "systems/unix/woken.h"
 
 enum { SECOND = 1000 /* milliseconds */ };
 
@@ -17,7 +17,6 @@ static struct {
     const char *fifo; /* to be opened, or NULL; */
     int fault;        /* and why it couldn't be, or 0 */
     pthread_mutex_t lock;
-    sem_t woken;
     void (*write_on)(writer which);
     writer which;
 } writers[WRITERS];
@@ -38,7 +37,7 @@ static bool begin(writer which, void (*write_on)(writer which))
     sigset_t all, before;
     writers[which].which = which;
     writers[which].write_on = write_on;
-    if ((errno = pthread_mutex_init(&writers[which].lock, NULL)) != 0 || sem_init(&writers[which].woken, 0, 0) != 0)
+    if ((errno = pthread_mutex_init(&writers[which].lock, NULL)) != 0 || !woken_begin(which))
         return false;
     sigfillset(&all);
     pthread_sigmask(SIG_SETMASK, &all, &before);
@@ -75,17 +74,13 @@ void writer_unlock(writer which)
 void writer_wait(writer which)
 {
     writer_unlock(which);
-    while (sem_wait(&writers[which].woken) != 0)
-        ;
+    woken_wait(which);
     writer_lock(which);
 }
 
-/* (once is enough: the thread looks at all that there is) */
 void writer_wake(writer which)
 {
-    int count = 0;
-    if (sem_getvalue(&writers[which].woken, &count) == 0 && count == 0)
-        sem_post(&writers[which].woken);
+    woken_wake(which);
 }
 
 void writer_rest(int milliseconds)

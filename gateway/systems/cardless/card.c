@@ -1,4 +1,4 @@
-/* Windows has no TAPs and no packet sockets of its own: no configuration gets this far with one. */
+/* Neither Windows nor POSIX has TAPs or packet sockets: no configuration gets this far with one. */
 #include "systems/card.h"
 
 #include <errno.h>

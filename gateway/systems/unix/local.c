@@ -12,6 +12,11 @@
 
 #include "systems/sockets.h"
 
+/* (macOS has no such type: there nobody waits who connects) */
+#ifndef SOCK_NONBLOCK
+#define SOCK_NONBLOCK 0
+#endif
+
 /* What the owner and the group may not: nothing; all others: anything. Nobody executes it. */
 enum { WITHHELD = 0117, MOST_WAITING = 16 };
 
@@ -44,11 +49,21 @@ static int closed(int fd)
     return -1;
 }
 
+/* Lets no signal tell that a connection is lost, where the calls that send have no word for that. */
+static int unsignalled(int fd)
+{
+#ifdef SO_NOSIGPIPE
+    int yes = 1;
+    (void)setsockopt(fd, SOL_SOCKET, SO_NOSIGPIPE, &yes, sizeof yes);
+#endif
+    return fd;
+}
+
 /* Connects to a path by a socket of some type. Returns it, or -1. */
 static int connected(const char *path, int type)
 {
     struct sockaddr_un at;
-    int fd = named(path, &at) ? socket(AF_UNIX, type, 0) : -1;
+    int fd = named(path, &at) ? unsignalled(socket(AF_UNIX, type, 0)) : -1;
     if (fd < 0 || connect(fd, (const struct sockaddr *)&at, sizeof at) == 0)
         return fd;
     return closed(fd);

@@ -28,6 +28,16 @@ static kept closed(int fd, kept became)
     return became;
 }
 
+/* Whether a link stood where a file was to be opened. (FreeBSD and NetBSD tell it by faults of their own) */
+static bool is_of_link(int fault)
+{
+#ifdef EFTYPE
+    if (fault == EFTYPE)
+        return true;
+#endif
+    return fault == ELOOP || fault == EMLINK;
+}
+
 kept keeping_read(const char *name, uint8_t *bytes, size_t count)
 {
     char path[PATH_MAX];
@@ -36,7 +46,7 @@ kept keeping_read(const char *name, uint8_t *bytes, size_t count)
         return HAS_NO_FOLDER;
     int fd = open(path, O_RDONLY | O_NONBLOCK | O_CLOEXEC | O_NOFOLLOW);
     if (fd < 0)
-        return errno == ENOENT ? IS_NOT_YET : errno == ELOOP ? IS_ANOTHER : CANT_BE_KEPT;
+        return errno == ENOENT ? IS_NOT_YET : is_of_link(errno) ? IS_ANOTHER : CANT_BE_KEPT;
     if (fstat(fd, &about) != 0)
         return closed(fd, CANT_BE_KEPT);
     if (!S_ISREG(about.st_mode) || about.st_size != (off_t)count)

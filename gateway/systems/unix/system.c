@@ -3,7 +3,6 @@
 #include <errno.h>
 #include <fcntl.h>
 #include <string.h>
-#include <sys/random.h>
 #include <sys/stat.h>
 #include <unistd.h>
 
@@ -32,11 +31,6 @@ bool file_is_fifo(const char *name)
 FILE *text_open(char **text, size_t *length)
 {
     return open_memstream(text, length);
-}
-
-bool system_random(uint8_t *bytes, size_t count)
-{
-    return getrandom(bytes, count, 0) == (ssize_t)count;
 }
 
 const char *fault_words(void)
