@@ -118,6 +118,9 @@ release-test:
 	@tools/library test
 	@tools/library wrong
 	@tools/packages test
+	@tools/gateway test-sources
+	@tools/gateway test-posix
+	@tools/gateway test-arm
 	@tools/page test
 	@release/try root
 
