@@ -1,5 +1,4 @@
 -- Where outsiders speak: routers of other makers, and hosts that advertise networks as routers do.
-pub mod InLockStep
 pub mod PortsOfOutsiders
 pub mod RoutesHaveWays
 pub mod TicksWithOutsiders

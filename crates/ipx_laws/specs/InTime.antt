@@ -25,13 +25,17 @@ Names node network (HeardRip source rip) =
     (source.node ≡ node) × (rip.operation ≡ Response) × (is_among network (map (λ e. e.network) rip.entries) ≡ true)
 Names node network (HeardSap source sap) = ⊥
 
+-- in a step a flight lands on a port, not too late, and what is heard of it there is such
+abbrev pub IsHeardLanding : Internet → (delay : ℕ) → Place → (Heard → Type 0) → Wires → WireStep → Type 0
+IsHeardLanding net delay to Says w (Occurs router event) = ⊥
+IsHeardLanding net delay to Says w (Lands which) =
+    (f : Flight) × (slice_get w.flights which ≡ Some f) × (f.delivery.to ≡ to) × (w.beats ≤ f.sent + delay)
+    × (m : Heard) × (heard_after (ports_of net to.router) (history_of w.histories to.router) to.port f.delivery.bytes ≡ Some m) × Says m
+
 module _ (net : Internet) (most_routes most_services delay : ℕ) where
-  -- in a step a flight lands on a port, not too late, and such a response is heard of it there
+  -- such a response is heard there
   abbrev pub IsHeardFrom : Place → Node → Network → Wires → WireStep → Type 0
-  IsHeardFrom to node network w (Occurs router event) = ⊥
-  IsHeardFrom to node network w (Lands which) =
-      (f : Flight) × (slice_get w.flights which ≡ Some f) × (f.delivery.to ≡ to) × (w.beats ≤ f.sent + delay)
-      × (m : Heard) × (heard_after (ports_of net to.router) (history_of w.histories to.router) to.port f.delivery.bytes ≡ Some m) × Names node network m
+  IsHeardFrom to node network = IsHeardLanding net delay to (Names node network)
 
   -- what a router advertises on a port names that network
   abbrev pub Advertises : Place → Network → Wires → Type 0

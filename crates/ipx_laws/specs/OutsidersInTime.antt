@@ -1,49 +1,28 @@
 -- Outsiders that are heard again and again, in ticks and over wires, and how soon tables are right then.
-use Rattle.std.specs.Prelude.{◌≡◌, ◌⊎◌, ℕ, ◌+◌, ◌*◌, List, [], ◌∷◌, ◌++◌, length, Option, Some, None}
+use Rattle.std.specs.Prelude.{◌≡◌, ℕ, ◌+◌, ◌*◌, List, ◌++◌, length, Option, Some, None}
 use Rattle.ipx_wire.specs.declared.network.Network.{Network}
-use Rattle.ipx_wire.specs.declared.node.Node.{Node}
-use Rattle.ipx_router.specs.Facts.{heard_after}
-use Rattle.ipx_router.specs.Heard.{Heard}
-use Rattle.ipx_router.specs.History.{History, Packet}
 use Rattle.ipx_router.specs.Numbers.{period}
-use Rattle.ipx_internet.specs.Internet.{Internet, Place, ports_of, port_of}
-use Rattle.ipx_internet.specs.Queue.{history_of}
-use Rattle.ipx_internet.specs.Run.{Step, Happens, Settles, Run, stepped}
+use Rattle.ipx_internet.specs.Internet.{Internet, Place, port_of}
+use Rattle.ipx_internet.specs.Run.{Step, Run}
 use Rattle.ipx_internet.specs.Ticks.{ticked}
 use Rattle.ipx_laws.specs.Gone.{most_ticks_gone}
 use Rattle.ipx_laws.specs.InTime.{Names}
 use Rattle.ipx_laws.specs.Least.{Way}
+use Rattle.ipx_laws.specs.Meanwhile.{IsHeardOutside, InTicks}
 use Rattle.ipx_laws.specs.Outsiders.{LeadsByOutsider}
 use Rattle.ipx_laws.specs.Wires.{Wires, WireStep, as_step, beats_of, InBeats}
 
 module _ (net : Internet) where
-  -- in a step a packet comes from outside to a port, and a response of that node is heard of it that names the network
-  abbrev pub IsHeardOutside : Place → Node → Network → List History → Step → Type 0
-  IsHeardOutside to node network histories (Happens router (Packet number bytes)) =
-      (router ≡ to.router) × (number ≡ to.port)
-      × (m : Heard) × (heard_after (ports_of net to.router) (history_of histories to.router) to.port bytes ≡ Some m) × Names node network m
-  IsHeardOutside to node network histories (Happens router event) = ⊥
-  IsHeardOutside to node network histories Settles = ⊥
-
   module _ (most_routes most_services : ℕ) where
     -- ---- in ticks
-
-    -- something is so of one of some steps, or what comes after them is so
-    abbrev pub InSteps : (Run → Step → Type 0) → (Run → Type 0) → Run → List Step → Type 0
-    InSteps Is Later run [] = Later run
-    InSteps Is Later run (step ∷ steps) = Is run step ⊎ InSteps Is Later (stepped net most_routes most_services run step) steps
-
-    -- of one of the steps of some ticks
-    abbrev pub InTicks : (Run → Step → Type 0) → Run → List (List Step) → Type 0
-    InTicks Is run [] = ⊥
-    InTicks Is run (steps ∷ ticks) = InSteps Is (λ next. InTicks Is next ticks) run steps
 
     -- each outsider by which a router's least way leads is heard there in the ticks of any period
     abbrev pub AreOutsidersHeard : (ℕ → List ℕ) → (ours : ℕ) → Network → Run → List (List Step) → Type 0
     AreOutsidersHeard up ours network run ticks =
         (to from : Place) (before within after : List (List Step)) → LeadsByOutsider net up ours network to from
         → ticks ≡ before ++ within ++ after → length within ≡ period
-        → InTicks (λ now step. IsHeardOutside to (port_of net from).node network now.histories step) (ticked net most_routes most_services run before) within
+        → InTicks net most_routes most_services (λ now step. IsHeardOutside net to (Names (port_of net from).node network) now.histories step)
+        (ticked net most_routes most_services run before) within
 
     -- ---- over wires
 
@@ -52,7 +31,7 @@ module _ (net : Internet) where
     AreOutsidersInTime delay window up ours network w beats =
         (to from : Place) (before within after : List (List WireStep)) → LeadsByOutsider net up ours network to from
         → beats ≡ before ++ within ++ after → length within ≡ window
-        → InBeats net most_routes most_services delay (λ now step. IsHeardOutside to (port_of net from).node network now.histories (as_step step))
+        → InBeats net most_routes most_services delay (λ now step. IsHeardOutside net to (Names (port_of net from).node network) now.histories (as_step step))
         (beats_of net most_routes most_services delay w before) within
 
 -- the ticks after which a router is right about a network: those after which every route is of a real way, and a period for each hop of its least way

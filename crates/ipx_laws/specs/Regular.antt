@@ -1,19 +1,17 @@
 -- Hosts that are heard again and again while they announce a service, each with one number of hops, where tables have room.
-use Rattle.std.specs.Prelude.{◌≡◌, ◌⊎◌, ℕ, suc, ◌+◌, ◌-◌, ◌*◌, ◌≤◌, true, List, [], ◌∷◌, ◌++◌, length, Some, slice_get}
+use Rattle.std.specs.Prelude.{◌≡◌, ℕ, suc, ◌+◌, ◌-◌, ◌*◌, ◌≤◌, true, List, ◌++◌, length, Some, slice_get}
 use Rattle.std.specs.List.{AllByRecursion}
 use Rattle.ipx_wire.specs.WriteServices.{entry_of}
 use Rattle.ipx_wire.specs.declared.sap.Sap.TheVariants.{Query, Response}
-use Rattle.ipx_router.specs.Facts.{heard_after}
 use Rattle.ipx_router.specs.Heard.{Heard, HeardRip, HeardSap}
-use Rattle.ipx_router.specs.History.{History, Packet}
+use Rattle.ipx_router.specs.History.{History}
 use Rattle.ipx_router.specs.Numbers.{period}
 use Rattle.ipx_router.specs.Port.{is_up}
-use Rattle.ipx_internet.specs.Internet.{Internet, Place, IsInternet, ports_of, network_of}
-use Rattle.ipx_internet.specs.Queue.{history_of}
-use Rattle.ipx_internet.specs.Run.{Step, Happens, Settles, AreHistories, Run, stepped}
+use Rattle.ipx_internet.specs.Internet.{Internet, Place, IsInternet, network_of}
+use Rattle.ipx_internet.specs.Run.{Step, AreHistories, Run}
 use Rattle.ipx_internet.specs.Ticks.{ticked}
 use Rattle.ipx_laws.specs.Gone.{most_ticks_gone}
-use Rattle.ipx_laws.specs.Meanwhile.{SaysOnly, EachStep}
+use Rattle.ipx_laws.specs.Meanwhile.{SaysOnly, IsHeardOutside, EachStep, InTicks}
 use Rattle.ipx_laws.specs.Servers.{Announcer, Server, at_hops, SaysNoFalse, NamesOnly}
 
 -- a response of that host names the service, with its address and this host's hops
@@ -26,29 +24,14 @@ Announces server host (HeardSap source (Response nearest entries)) =
 module _ (net : Internet) (most_routes most_services : ℕ) (server : Server) where
   -- in a step a router hears it on a port
   abbrev pub IsHeard : Place → Announcer → Run → Step → Type 0
-  IsHeard to host run (Happens router (Packet number bytes)) =
-      (router ≡ to.router) × (number ≡ to.port)
-      × (m : Heard) × (heard_after (ports_of net to.router) (history_of run.histories to.router) to.port bytes ≡ Some m) × Announces server host m
-  IsHeard to host run (Happens router event) = ⊥
-  IsHeard to host run Settles = ⊥
-
-  -- it hears it in one of some steps, or what comes after them is so
-  abbrev pub HeardInSteps : Place → Announcer → (Run → Type 0) → Run → List Step → Type 0
-  HeardInSteps to host Later run [] = Later run
-  HeardInSteps to host Later run (step ∷ steps) =
-      IsHeard to host run step ⊎ HeardInSteps to host Later (stepped net most_routes most_services run step) steps
-
-  -- in one of some ticks
-  abbrev pub HeardInTicks : Place → Announcer → Run → List (List Step) → Type 0
-  HeardInTicks to host run [] = ⊥
-  HeardInTicks to host run (steps ∷ ticks) = HeardInSteps to host (λ next. HeardInTicks to host next ticks) run steps
+  IsHeard to host run step = IsHeardOutside net to (Announces server host) run.histories step
 
   -- each host that announces the service is heard in the ticks of any period, on every port of its network that is up
   abbrev pub AreInTime : (ℕ → List ℕ) → Run → List (List Step) → Type 0
   AreInTime up run ticks =
       (which : ℕ) (host : Announcer) (to : Place) → slice_get server.announcers which ≡ Some host → is_up (up to.router) to.port ≡ true
       → network_of net to ≡ host.network → (before window after : List (List Step)) → ticks ≡ before ++ window ++ after → length window ≡ period
-      → HeardInTicks to host (ticked net most_routes most_services run before) window
+      → InTicks net most_routes most_services (IsHeard to host) (ticked net most_routes most_services run before) window
 
 -- one node on one network says one number of hops
 abbrev pub HaveOneVoice : Server → Type 0

@@ -1,22 +1,20 @@
 -- Over wires: hosts and routers that are heard again and again while hosts announce a service.
-use Rattle.std.specs.Prelude.{◌≡◌, ◌≢◌, ℕ, ◌+◌, ◌-◌, ◌*◌, ◌≤◌, true, List, ◌++◌, length, Some, slice_get}
+use Rattle.std.specs.Prelude.{◌≡◌, ◌≢◌, ℕ, ◌+◌, ◌-◌, ◌*◌, true, List, ◌++◌, length, Some, slice_get}
 use Rattle.ipx_wire.specs.declared.node.Node.{Node}
 use Rattle.ipx_wire.specs.declared.sap.Sap.TheVariants.{Query, Response}
 use Rattle.ipx_wire.specs.declared.sap_entries.SapEntry.{SapEntry}
 use Rattle.ipx_wire.specs.declared.service.Service.{Service}
-use Rattle.ipx_router.specs.Facts.{heard_after}
 use Rattle.ipx_router.specs.Heard.{Heard, HeardRip, HeardSap}
-use Rattle.ipx_router.specs.History.{Packet}
 use Rattle.ipx_router.specs.Port.{is_up}
 use Rattle.ipx_router.specs.Told.{told_services}
-use Rattle.ipx_internet.specs.Internet.{Internet, Place, ports_of, port_of, network_of}
-use Rattle.ipx_internet.specs.Queue.{history_of}
+use Rattle.ipx_internet.specs.Internet.{Internet, Place, port_of, network_of}
 use Rattle.ipx_laws.specs.Announces.{service_of}
-use Rattle.ipx_laws.specs.Meanwhile.{SaysOnly}
+use Rattle.ipx_laws.specs.InTime.{IsHeardLanding}
+use Rattle.ipx_laws.specs.Meanwhile.{SaysOnly, IsHeardOutside}
 use Rattle.ipx_laws.specs.Regular.{Announces, IsListedName}
 use Rattle.ipx_laws.specs.Servers.{Announcer, Server, IsOf, SaysNoFalse, NamesOnly}
 use Rattle.ipx_laws.specs.Tables.{services_of}
-use Rattle.ipx_laws.specs.Wires.{Flight, Wires, WireStep, Occurs, Lands, beats_of, Along, EachBeat, InBeats, EachWireStep, most_beats_gone}
+use Rattle.ipx_laws.specs.Wires.{Wires, WireStep, as_step, beats_of, Along, EachBeat, InBeats, EachWireStep, most_beats_gone}
 
 -- a response from that node, an entry of which names the service
 abbrev pub NamesService : Server → Node → Heard → Type 0
@@ -29,18 +27,11 @@ module _ (net : Internet) (most_routes most_services delay : ℕ) where
   module _ (server : Server) where
     -- in a step a packet comes from outside to a port, and is heard there as that host's that announces the service
     abbrev pub IsHostHeard : Place → Announcer → Wires → WireStep → Type 0
-    IsHostHeard to host w (Occurs router (Packet number bytes)) =
-        (router ≡ to.router) × (number ≡ to.port)
-        × (m : Heard) × (heard_after (ports_of net to.router) (history_of w.histories to.router) to.port bytes ≡ Some m) × Announces server host m
-    IsHostHeard to host w (Occurs router event) = ⊥
-    IsHostHeard to host w (Lands which) = ⊥
+    IsHostHeard to host w step = IsHeardOutside net to (Announces server host) w.histories (as_step step)
 
     -- in a step a flight lands on a port, not too late, and a response is heard of it there that names the service
     abbrev pub IsRouterHeard : Place → Node → Wires → WireStep → Type 0
-    IsRouterHeard to node w (Occurs router event) = ⊥
-    IsRouterHeard to node w (Lands which) =
-        (f : Flight) × (slice_get w.flights which ≡ Some f) × (f.delivery.to ≡ to) × (w.beats ≤ f.sent + delay)
-        × (m : Heard) × (heard_after (ports_of net to.router) (history_of w.histories to.router) to.port f.delivery.bytes ≡ Some m) × NamesService server node m
+    IsRouterHeard to node = IsHeardLanding net delay to (NamesService server node)
 
     -- what a router advertises on a port names the service
     abbrev pub AdvertisesService : Place → Wires → Type 0

@@ -32,8 +32,8 @@ use Rattle.ipx_internet.proofs.examples.Words.{network, node, port_on, at}
 use Rattle.ipx_internet.proofs.packets.SentOnOrReply.{Layouts}
 use Rattle.ipx_internet.proofs.ticks.TickCanBeHad.{sound_run, can_be_busy}
 use Rattle.ipx_laws.specs.InTime.{AreQuick}
-use Rattle.ipx_laws.specs.Meanwhile.{LeavesPorts, SaysOnly, EachTick}
-use Rattle.ipx_laws.specs.Regular.{IsListedName, IsServiceSetting, most_ticks_known, IsHeard, HeardInTicks, AreInTime}
+use Rattle.ipx_laws.specs.Meanwhile.{LeavesPorts, SaysOnly, EachTick, InTicks}
+use Rattle.ipx_laws.specs.Regular.{IsListedName, IsServiceSetting, most_ticks_known, IsHeard, AreInTime}
 use Rattle.ipx_laws.specs.Servers.{Announcer, NamesOnly, at_hops, known_of, SaysNoFalse}
 use Rattle.ipx_laws.specs.Tables.{services_of}
 use Rattle.ipx_laws.specs.Ups.{ups}
@@ -134,8 +134,11 @@ module _ (laws : Layouts) where
             absurd (true≢false (sym none))
       ]
 
+  abbrev IsHeardIn : Place → Announcer → Run → List (List Step) → Type 0
+  IsHeardIn to announcer = InTicks segment 8 8 (IsHeard segment 8 8 (server 0x10) to announcer)
+
   heard_in : (window after : List (List Step)) → length window ≡ period → AllByRecursion IsOne (window ++ after) → (run : Run) → IsKept run
-      → HeardInTicks segment 8 8 (server 0x10) (at 0 0) host run window
+      → IsHeardIn (at 0 0) host run window
   heard_in [] after minute ones run kept = absurd (omega (arith, minute))
   heard_in (steps ∷ window) after minute ones run kept = grind (arith, segment, server, at, heard_first)
 
@@ -159,8 +162,8 @@ module _ (laws : Layouts) where
       let both = goes_on before (window ++ after) start begins
       (subst (λ (ts : List (List Step)). EachTick segment 8 8 (IsBusyTick segment 8 8) start ts) all busy)
       (subst (λ (ts : List (List Step)). AllByRecursion IsOne ts) all ones) in
-      subst (λ (p : Place). HeardInTicks segment 8 8 (server 0x10) p other (ticked segment 8 8 start before) window) (sym place)
-      (subst (λ (h : Announcer). HeardInTicks segment 8 8 (server 0x10) (at 0 0) h (ticked segment 8 8 start before) window) (sym is_host)
+      subst (λ (p : Place). IsHeardIn p other (ticked segment 8 8 start before) window) (sym place)
+      (subst (λ (h : Announcer). IsHeardIn (at 0 0) h (ticked segment 8 8 start before) window) (sym is_host)
       (heard_in window after minute both.1 (ticked segment 8 8 start before) both.0))
 
   -- ---- as many as one likes

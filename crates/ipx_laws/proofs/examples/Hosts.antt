@@ -31,8 +31,8 @@ use Rattle.ipx_internet.proofs.examples.Waiting.{segment}
 use Rattle.ipx_internet.proofs.examples.Words.{network, node, port_on, at}
 use Rattle.ipx_internet.proofs.lists.FoundInAList.{it_is}
 use Rattle.ipx_laws.specs.Announces.{AsksApart, service_of}
-use Rattle.ipx_laws.specs.Meanwhile.{message_of, LeavesPorts, SaysOnly}
-use Rattle.ipx_laws.specs.Regular.{HasRoomFor, HaveOneVoice, IsListedName, HeardInTicks}
+use Rattle.ipx_laws.specs.Meanwhile.{message_of, LeavesPorts, SaysOnly, InTicks}
+use Rattle.ipx_laws.specs.Regular.{HasRoomFor, HaveOneVoice, IsListedName, IsHeard}
 use Rattle.ipx_laws.specs.Servers.{Announcer, NamesOnly, Server, at_hops, IsAnnouncedOn, IsSilentOf, SaysAsAnnounced, IsForHere, SaysNoFalse, IsServed, announced, passed_on, IsAway, beside}
 use Rattle.ipx_laws.specs.Ups.{ups}
 use Rattle.ipx_laws.proofs.examples.Meanwhile.{are_bytes}
@@ -150,7 +150,7 @@ pub names_it : SaysOnly (NamesOnly (IsListedName names)) (Happens 0 (Packet 0 (s
 unfolding header_bytes address_bytes network_bytes service_bytes name_field packet_of header_at address_at items network_at entry_bytes entry_at rip_of sap_of sap_entry_at name_of
 names_it = ((λ name same. it_is (λ (n : List ℕ). IsListedName names (4, n)) name (0x46 ∷ []) same (0, refl)), tt)
 
-pub is_heard : HeardInTicks segment 8 8 (server 0x10) (at 0 0) (record { network = network 0x10; node = node 0xAA; hops = 1 }) start (tick 0 (said 0x10) ∷ [])
+pub is_heard : InTicks segment 8 8 (IsHeard segment 8 8 (server 0x10) (at 0 0) (record { network = network 0x10; node = node 0xAA; hops = 1 })) start (tick 0 (said 0x10) ∷ [])
 unfolding header_bytes address_bytes network_bytes service_bytes name_field packet_of header_at address_at items network_at entry_bytes entry_at rip_of sap_of sap_entry_at name_of
 is_heard = inr (inl (refl, refl, HeardSap (own_services (port_on 0x10 0xAA)) (Response false (entry_of (at_hops (server 0x10) 1) ∷ [])), refl, (refl, 0, refl)))
 

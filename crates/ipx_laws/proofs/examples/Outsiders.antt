@@ -30,13 +30,13 @@ use Rattle.ipx_internet.specs.Ticks.{seconds_of}
 use Rattle.ipx_internet.proofs.examples.Words.{network, node, port_on, at}
 use Rattle.ipx_internet.proofs.lists.FoundInAList.{it_is}
 use Rattle.ipx_laws.specs.Apart.{HasRoomBeside}
-use Rattle.ipx_laws.specs.InTime.{seconds_in, AreQuick, AreHeardInTime}
+use Rattle.ipx_laws.specs.InTime.{Names, seconds_in, AreQuick, AreHeardInTime}
 use Rattle.ipx_laws.specs.Least.{Way, AreCheap, FifteenSuffice, least_route, way_of}
-use Rattle.ipx_laws.specs.Meanwhile.{message_of, LeavesPorts}
+use Rattle.ipx_laws.specs.Meanwhile.{message_of, LeavesPorts, IsHeardOutside}
 use Rattle.ipx_laws.specs.Servers.{IsForHere}
 use Rattle.ipx_laws.specs.Real.{IsReal, next, farther}
 use Rattle.ipx_laws.specs.Outsiders.{ups_with, AreStopped, IsTrueOf, own_network, real_route, IsTrueAndLeast, IsOfOutsider, IsFromOutsider, MayComeTo, SaysTruly, IsSettingWith}
-use Rattle.ipx_laws.specs.OutsidersInTime.{IsHeardOutside, AreOutsidersInTime}
+use Rattle.ipx_laws.specs.OutsidersInTime.{AreOutsidersInTime}
 use Rattle.ipx_laws.specs.Tables.{route_of}
 use Rattle.ipx_laws.specs.Ups.{ups}
 use Rattle.ipx_laws.specs.Wires.{WireStep, Occurs, as_step, still, beats_of, IsBeat, EachWireStep, InBeats}
@@ -245,7 +245,7 @@ in_time from to n before within after on_from on_to other same parts wide = absu
 -- the outsider is, on 10h
 abbrev Heard_at : Place → Place → List (List WireStep) → List (List WireStep) → Type 0
 Heard_at to from before within =
-    InBeats internet 8 8 0 (λ now step. IsHeardOutside internet to (port_of internet from).node (network 0x77) now.histories (as_step step))
+    InBeats internet 8 8 0 (λ now step. IsHeardOutside internet to (Names (port_of internet from).node (network 0x77)) now.histories (as_step step))
     (beats_of internet 8 8 0 (still histories) before) within
 
 by_ports : (r p s q : ℕ) → p < length (ports_of internet r) → q < length (ports_of internet s) → r < 1 → 1 ≤ s

@@ -3,31 +3,35 @@ use Rattle.std.proofs.Common.{◌≡◌, refl, sym, ap, ◌∙◌, subst, ℕ, �
 use Rattle.std.specs.List.{AllByRecursion}
 use Rattle.ipx_wire.specs.Crossed.{is_among}
 use Rattle.ipx_wire.specs.declared.network.Network.{Network}
+use Rattle.ipx_router.specs.Heard.{Heard}
 use Rattle.ipx_router.specs.History.{History}
 use Rattle.ipx_router.specs.Numbers.{period}
-use Rattle.ipx_internet.specs.Internet.{Internet, IsInternet, NodesDiffer}
+use Rattle.ipx_internet.specs.BusyTick.{IsBusyTick}
+use Rattle.ipx_internet.specs.Internet.{Internet, IsInternet, NodesDiffer, port_of}
 use Rattle.ipx_internet.specs.Run.{Step, AreHistories, Run, forgotten, run_of}
 use Rattle.ipx_internet.specs.Ticks.{ticked}
 use Rattle.ipx_internet.proofs.packets.SentOnOrReply.{Layouts}
 use Rattle.ipx_laws.specs.Apart.{IsRealApart, HasRoomBeside}
 use Rattle.ipx_laws.specs.Gone.{most_ticks_gone}
-use Rattle.ipx_laws.specs.InTime.{AreHeardInTime, beats_right}
+use Rattle.ipx_laws.specs.InTime.{Names, AreHeardInTime, beats_right}
 use Rattle.ipx_laws.specs.Least.{Way, AreCheap, FifteenSuffice, least_route}
-use Rattle.ipx_laws.specs.Meanwhile.{LeavesPorts, EachStep, AreBusyTicks, AreTicksOfHosts}
+use Rattle.ipx_laws.specs.Meanwhile.{LeavesPorts, IsHeardOutside, EachStep, AreBusyTicks, AreTicksOfHosts}
 use Rattle.ipx_laws.specs.Setting.{ComesToRest}
 use Rattle.ipx_laws.specs.Outsiders.{ups_with, AreStopped, IsTrueOf, IsTrueAndLeast, SaysTruly}
-use Rattle.ipx_laws.specs.OutsidersInTime.{AreOutsidersHeard, ticks_right_with}
+use Rattle.ipx_laws.specs.OutsidersInTime.{AreOutsidersHeard, AreOutsidersInTime, ticks_right_with}
 use Rattle.ipx_laws.specs.Tables.{routes_of, IsRight}
 use Rattle.ipx_laws.specs.Ups.{ups}
-use Rattle.ipx_laws.specs.Wires.{Wires, WireStep, still, wires_of, beats_of, Along, AreBeats, EachWireStep}
-use Rattle.ipx_laws.proofs.outsiders.InLockStep.{steps_behind, tick_behind, busy_front, quick_in_ticks, outsiders_in_ticks}
+use Rattle.ipx_laws.specs.Wires.{Wires, WireStep, as_step, still, wires_of, beats_of, Along, AreBeats, EachWireStep}
 use Rattle.ipx_laws.proofs.outsiders.PortsOfOutsiders.{with_within, ours_up}
 use Rattle.ipx_laws.proofs.tables.Given.{Given, given_of}
+use Rattle.ipx_laws.proofs.tables.TablesAreRight.{parts_of as ticks_parts}
 use Rattle.ipx_laws.proofs.ticks.AfterRest.{Kept, kept_after}
 use Rattle.ipx_laws.proofs.wires.HeardInLockStep.{in_time}
-use Rattle.ipx_laws.proofs.wires.LockStep.{as_beat, as_beats, as_many, beats_say, are_beats, Follows, same_histories, steps_follow, follows_still, ticks_follow, same_last}
+use Rattle.ipx_laws.proofs.wires.LockStep.{as_beat, as_beats, as_many, beat_more, beats_more, beats_say, are_beats, Follows, same_histories, steps_follow, follows_still, ticks_follow, heard_outside, same_last}
+use Rattle.ipx_laws.proofs.wires.PartsInLockStep.{part_so}
 use Rattle.ipx_laws.proofs.wires.PartsOfBeats.{along_prefix}
 use Rattle.ipx_laws.proofs.wires.RealOnWires.{held_real}
+use Rattle.ipx_laws.proofs.wires.RegularInLockStep.{quick}
 use Rattle.ipx_laws.proofs.wires.RightOnWires.{right_at, right_in}
 
 module _ (net : Internet) (laws : Layouts) (is : IsInternet net) (most_routes most_services ours : ℕ) (foreign : List Network) (run : Run) (first : List Step)
@@ -95,6 +99,15 @@ module _ (net : Internet) (laws : Layouts) (is : IsInternet net) (most_routes mo
           leave = hosts.1;
         })
 
+    outsiders_in_ticks : AreOutsidersHeard net most_routes most_services up ours network begun ticks
+        → AreOutsidersInTime net most_routes most_services 0 period up ours network (still begun.histories) beats
+    outsiders_in_ticks heard to from before within_them after leads parts wide =
+        let Says : Heard → Type 0 = Names (port_of net from).node network in
+        part_so net most_routes most_services (λ now step. IsHeardOutside net to Says now.histories step)
+        (λ now step. IsHeardOutside net to Says now.histories (as_step step)) (heard_outside net most_routes most_services to Says)
+        begun (still begun.histories) ticks busy (follows_still net most_routes most_services begun rest.2) before within_them after parts
+        (λ front inside behind whole long. heard to from front inside behind leads whole (long ∙ wide))
+
     long_enough : (o : Option Way) → ticks_right_with o ≤ length ticks → 0 + beats_right 0 period o ≤ length beats
     long_enough None long = let many = same in omega (arith, long, many)
     long_enough (Some way) long = let many = same in omega (arith, long, many)
@@ -116,13 +129,13 @@ module _ (net : Internet) (laws : Layouts) (is : IsInternet net) (most_routes mo
       all_parts : beats ≡ front_beats ++ one_beat ∷ []
       all_parts =
           ap (λ (ts : List (List Step)). as_beats net most_routes most_services begun (still begun.histories) ts) parts
-          ∙ tick_behind net most_routes most_services begun (still begun.histories) front (steps ++ more)
+          ∙ beats_more net most_routes most_services begun (still begun.histories) front ((steps ++ more) ∷ [])
 
       follows_then : Follows net most_routes most_services then_run then_wires
       follows_then =
           ticks_follow net most_routes most_services begun (still begun.histories) front
-          (busy_front net most_routes most_services begun front ((steps ++ more) ∷ [])
-          (subst (λ (ts : List (List Step)). AreBusyTicks net most_routes most_services begun ts) parts busy))
+          (ticks_parts net most_routes most_services (IsBusyTick net most_routes most_services) begun front ((steps ++ more) ∷ [])
+          (subst (λ (ts : List (List Step)). AreBusyTicks net most_routes most_services begun ts) parts busy)).0
           (follows_still net most_routes most_services begun rest.2)
 
       long_then : (o : Option Way) → ticks_right_with o ≤ length front → 0 + beats_right 0 period o ≤ length front_beats
@@ -140,23 +153,18 @@ module _ (net : Internet) (laws : Layouts) (is : IsInternet net) (most_routes mo
           (along_prefix net most_routes most_services 0 (λ now. IsRight net most_routes now.histories up router network) then_wires
           (as_beat net most_routes most_services then_run then_wires steps) _
           (subst (λ (ss : List WireStep). Along net most_routes most_services 0 (λ now. IsRight net most_routes now.histories up router network) then_wires ss)
-          (steps_behind net most_routes most_services then_run then_wires steps more)
+          (beat_more net most_routes most_services then_run then_wires steps more)
           (right_in 0 0 given period ours begun.histories kept.sound.are stay stopped_then [] tt (inl refl) beats all_beats leave
           (beats_say net most_routes most_services (SaysTruly net up ours foreign (IsTrueAndLeast net up network)) begun (still begun.histories) ticks say)
-          (quick_in_ticks net most_routes most_services begun (still begun.histories) ticks busy) heard_in_ticks
-          (outsiders_in_ticks net most_routes most_services up ours network begun (still begun.histories) ticks busy
-          (follows_still net most_routes most_services begun rest.2) heard)
+          (quick net most_routes most_services begun (still begun.histories) ticks busy) heard_in_ticks (outsiders_in_ticks heard)
           router within mine front_beats (one_beat ∷ []) all_parts (long_then (least_route net up router network) long) one_beat [] refl)))
 
     pub table_right : EachStep (SaysTruly net up ours foreign (IsTrueAndLeast net up network)) ticks
         → AreOutsidersHeard net most_routes most_services up ours network begun ticks → ticks_right_with (least_route net up router network) ≤ length ticks
         → IsRight net most_routes last up router network
     table_right say heard long =
-        let follows = follows_still net most_routes most_services begun rest.2 in
         subst (λ (hs : List History). IsRight net most_routes hs up router network) same_end
         (right_at 0 0 given period ours begun.histories kept.sound.are stay stopped_then [] tt (inl refl) beats all_beats leave
         (beats_say net most_routes most_services (SaysTruly net up ours foreign (IsTrueAndLeast net up network)) begun (still begun.histories) ticks say)
-        (quick_in_ticks net most_routes most_services begun (still begun.histories) ticks busy)
-        heard_in_ticks
-        (outsiders_in_ticks net most_routes most_services up ours network begun (still begun.histories) ticks busy follows heard)
+        (quick net most_routes most_services begun (still begun.histories) ticks busy) heard_in_ticks (outsiders_in_ticks heard)
         router within mine beats [] (sym (append-nil beats)) (long_enough (least_route net up router network) long))

@@ -19,7 +19,7 @@ use Rattle.ipx_internet.specs.BusyTick.{IsBusyTick}
 use Rattle.ipx_internet.proofs.deliveries.QueueOfARun.{events, deliveries}
 use Rattle.ipx_internet.proofs.packets.SentOnOrReply.{Layouts}
 use Rattle.ipx_internet.proofs.trees.RunIsALog.{router_there}
-use Rattle.ipx_laws.specs.Meanwhile.{LeavesPorts, EachTick}
+use Rattle.ipx_laws.specs.Meanwhile.{LeavesPorts, EachTick, InSteps, InTicks}
 use Rattle.ipx_laws.specs.Ups.{ups}
 use Rattle.ipx_laws.proofs.lists.SomeElement.{AnyIs, any_in_front, any_behind}
 use Rattle.ipx_laws.proofs.records.RecordsGrowOld.{passed}
@@ -86,13 +86,11 @@ module _ (net : Internet) (laws : Layouts) (is : IsInternet net) (most_routes mo
   HandsOut run (Happens router event) = ⊥
   HandsOut run Settles = (d : Delivery) × (rest : List Delivery) × ((forgotten run).queue ≡ d ∷ rest) × Names d × Held run
 
-  abbrev pub HandedIn : (Run → Type 0) → Run → List Step → Type 0
-  HandedIn Later run [] = Later run
-  HandedIn Later run (step ∷ steps) = HandsOut run step ⊎ HandedIn Later (stepped net most_routes most_services run step) steps
+  abbrev HandedIn : (Run → Type 0) → Run → List Step → Type 0
+  HandedIn = InSteps net most_routes most_services HandsOut
 
   abbrev pub HandedInTicks : Run → List (List Step) → Type 0
-  HandedInTicks run [] = ⊥
-  HandedInTicks run (steps ∷ ticks) = HandedIn (λ next. HandedInTicks next ticks) run steps
+  HandedInTicks = InTicks net most_routes most_services HandsOut
 
   runs : (histories : List History) → Remain histories → running (history_of histories from.router) ≡ true
   runs histories stay = runs_there net laws is most_routes most_services up histories stay from on

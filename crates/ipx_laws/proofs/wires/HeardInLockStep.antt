@@ -1,6 +1,6 @@
 -- In lock step, what a router has all the time of a minute lands in that minute where it is heard. So routers are heard in time: each hears in any
 -- minute of the networks that a router beside it advertises all the time of that minute.
-use Rattle.std.proofs.Common.{◌≡◌, ◌≢◌, refl, sym, ap, ap₂, ◌∙◌, subst, ℕ, ◌+◌, ◌-◌, ◌≤◌, ◌==◌, Bool, true, if◌then◌else◌, List, [], ◌∷◌, ◌++◌, length, map, flat_map, Some, slice_get, inl, inr, arith}
+use Rattle.std.proofs.Common.{◌≡◌, ◌≢◌, refl, sym, ap, ap₂, ◌∙◌, subst, ℕ, ◌+◌, ◌-◌, ◌≤◌, ◌==◌, Bool, true, if◌then◌else◌, List, [], ◌∷◌, ◌++◌, length, map, flat_map, Some, slice_get, arith}
 use Rattle.std.proofs.lemmas.Bool.{eq-eqb, eqb-true}
 use Rattle.ipx_wire.specs.Crossed.{is_among}
 use Rattle.ipx_wire.specs.Rip.{IsEntry}
@@ -31,13 +31,13 @@ use Rattle.ipx_internet.proofs.packets.SentOnOrReply.{Layouts}
 use Rattle.ipx_internet.proofs.places.OneReceiverOfANode.{ports_at, port_is}
 use Rattle.ipx_laws.specs.InTime.{IsHeardFrom, Advertises, AreHeardInTime}
 use Rattle.ipx_laws.specs.Meanwhile.{EachTick}
-use Rattle.ipx_laws.specs.Wires.{Flight, Wires, WireStep, Lands, beaten, wired, wires_of, beats_of, Along, EachBeat, InSteps, InBeats}
+use Rattle.ipx_laws.specs.Wires.{Flight, Wires, WireStep, Lands, beaten, wired, wires_of, beats_of, Along, EachBeat, InBeats}
 use Rattle.ipx_laws.proofs.lists.SomeElement.{AnyIs, any_then, any_passes, passes_any, any-map, any_mapped, number_any}
 use Rattle.ipx_laws.proofs.losses.WordsThatWait.{no_way, IsWordFor, word_waits}
 use Rattle.ipx_laws.proofs.packets.PagesAreHeard.{heard_page}
 use Rattle.ipx_laws.proofs.tables.SaysItsLeastWay.{Tells, second_tells}
-use Rattle.ipx_laws.proofs.ticks.SaidInAMinute.{Stay, is_place, runs_there, HasAlong, HandedIn, HandedInTicks, said_once}
-use Rattle.ipx_laws.proofs.wires.LockStep.{as_wire, as_beat, as_beats, as_many, Follows, first_waits, same_histories, step_follows, tick_follows}
+use Rattle.ipx_laws.proofs.ticks.SaidInAMinute.{Stay, is_place, runs_there, HasAlong, HandsOut, said_once}
+use Rattle.ipx_laws.proofs.wires.LockStep.{as_wire, as_beat, as_beats, as_many, Follows, first_waits, same_histories, step_follows, tick_follows, ticks_so}
 use Rattle.ipx_laws.proofs.wires.PartsInLockStep.{Goes, middle_of, middle_goes}
 
 -- what a router has, that its neighbours hear as it lands
@@ -49,11 +49,8 @@ module _ (net : Internet) (laws : Layouts) (is : IsInternet net) (most_routes mo
     (IsHeard : Wires → WireStep → Type 0)
     (hears : (w : Wires) → Stay net laws is most_routes most_services up w.histories → (which : ℕ) (f : Flight) → slice_get w.flights which ≡ Some f
     → w.beats ≤ f.sent + 0 → Word f.delivery → IsHeard w (Lands which)) where
-  abbrev Handed : (Run → Type 0) → Run → List Step → Type 0
-  Handed = HandedIn net laws is most_routes most_services up from on Has Word says
-
-  abbrev HandedAtAll : Run → List (List Step) → Type 0
-  HandedAtAll = HandedInTicks net laws is most_routes most_services up from on Has Word says
+  abbrev HandsIt : Run → Step → Type 0
+  HandsIt = HandsOut net laws is most_routes most_services up from on Has Word says
 
   abbrev HasIt : Run → List Step → Type 0
   HasIt = HasAlong net laws is most_routes most_services up from on Has Word says
@@ -66,38 +63,17 @@ module _ (net : Internet) (laws : Layouts) (is : IsInternet net) (most_routes mo
 
   -- ---- what is handed out lands
 
-  steps_heard : (Later : Run → Type 0) (After : Wires → Type 0) (run : Run) (w : Wires) (steps : List Step) → Follows net most_routes most_services run w
-      → (Later (run_of net most_routes most_services run steps) → After (wires_of net most_routes most_services 0 w (as_beat net most_routes most_services run w steps)))
-      → Handed Later run steps → InSteps net most_routes most_services 0 IsHeard After w (as_beat net most_routes most_services run w steps)
-  steps_heard Later After run w [] follows so later = so later
-  steps_heard Later After run w (Happens k event ∷ steps) follows so (inl none) = absurd none
-  steps_heard Later After run w (Settles ∷ steps) follows so (inl (d, rest, first, word, kept)) =
+  lands_so : (run : Run) (w : Wires) (step : Step) → Follows net most_routes most_services run w → HandsIt run step
+      → IsHeard w (as_wire net most_routes most_services run w step)
+  lands_so run w (Happens k event) follows none = absurd none
+  lands_so run w Settles follows (d, rest, first, word, kept) =
       let queue : follows.queue ≡ d ∷ rest = sym (ap (λ (q : Queued). q.queue) follows.same) ∙ first in
       let waits = first_waits net most_routes most_services w d rest follows.landed
       (subst (λ (ds : List Delivery). w.flights ≡ follows.landed ++ map (λ q. record { delivery = q; sent = w.beats }) ds) queue follows.flights) in
       let f : Flight = record { delivery = d; sent = w.beats } in
       let stay = subst (Stay net laws is most_routes most_services up) (sym (same_histories net most_routes most_services run w follows)) kept.stay in
-      inl (hears w stay (length w.flights - length (forgotten run).queue) f
-      (subst (λ (ds : List Delivery). slice_get w.flights (length w.flights - length ds) ≡ Some f) (sym first) waits) (omega arith) word)
-  steps_heard Later After run w (Happens k event ∷ steps) follows so (inr later) =
-      let step = Happens k event in
-      let x = as_wire net most_routes most_services run w step in
-      inr (steps_heard Later After (stepped net most_routes most_services run step) (wired net most_routes most_services 0 w x) steps
-      (step_follows net most_routes most_services run w step follows) so later)
-  steps_heard Later After run w (Settles ∷ steps) follows so (inr later) =
-      let x = as_wire net most_routes most_services run w Settles in
-      inr (steps_heard Later After (stepped net most_routes most_services run Settles) (wired net most_routes most_services 0 w x) steps
-      (step_follows net most_routes most_services run w Settles follows) so later)
-
-  ticks_heard : (run : Run) (w : Wires) (ticks : List (List Step)) → Busy run ticks → Follows net most_routes most_services run w → HandedAtAll run ticks
-      → InBeats net most_routes most_services 0 IsHeard w (as_beats net most_routes most_services run w ticks)
-  ticks_heard run w [] busy follows handed = handed
-  ticks_heard run w (steps ∷ ticks) busy follows handed =
-      let next = run_of net most_routes most_services run steps in
-      let now = beaten (wires_of net most_routes most_services 0 w (as_beat net most_routes most_services run w steps)) in
-      steps_heard (λ last. HandedAtAll last ticks)
-      (λ last. InBeats net most_routes most_services 0 IsHeard (beaten last) (as_beats net most_routes most_services next now ticks))
-      run w steps follows (λ later. ticks_heard next now ticks busy.1 (tick_follows net most_routes most_services run w steps busy.0 follows) later) handed
+      hears w stay (length w.flights - length (forgotten run).queue) f
+      (subst (λ (ds : List Delivery). slice_get w.flights (length w.flights - length ds) ≡ Some f) (sym first) waits) (omega arith) word
 
   -- ---- what is advertised is had
 
@@ -134,7 +110,7 @@ module _ (net : Internet) (laws : Layouts) (is : IsInternet net) (most_routes mo
       let many = ap length middle.same ∙ wide in
       let as_long = as_many net most_routes most_services next now middle.inside in
       subst (λ (beats : List (List WireStep)). InBeats net most_routes most_services 0 IsHeard now beats) middle.same
-      (ticks_heard next now middle.inside inside.busy inside.follows
+      (ticks_so net most_routes most_services HandsIt IsHeard lands_so next now middle.inside inside.busy inside.follows
       (said_once net laws is most_routes most_services up from on Has Word says next middle.inside inside.kept (omega (arith, many, as_long)) inside.busy inside.leave
       (ticks_has next now middle.inside inside.busy inside.follows
       (subst (λ (beats : List (List WireStep)). EachBeat net most_routes most_services 0 (Along net most_routes most_services 0 Advertised) now beats)

@@ -32,8 +32,8 @@ use Rattle.ipx_laws.specs.Apart.{TellsOnlyOf}
 use Rattle.ipx_laws.specs.Gone.{most_ticks_gone}
 use Rattle.ipx_laws.specs.InTime.{Names, IsHeardFrom, seconds_in}
 use Rattle.ipx_laws.specs.Least.{Way}
+use Rattle.ipx_laws.specs.Meanwhile.{IsHeardOutside}
 use Rattle.ipx_laws.specs.Outsiders.{IsOfOutsider, IsFromOutsider}
-use Rattle.ipx_laws.specs.OutsidersInTime.{IsHeardOutside}
 use Rattle.ipx_laws.specs.Wires.{Flight, Wires, WireStep, Occurs, Lands, as_step, beaten, occurs, lands, wired, wires_of, beats_of, Along, EachBeat, IsBeat, most_beats_gone, InSteps, InBeats}
 use Rattle.ipx_laws.proofs.packets.RoutesOrSilence.{TellsApart, IsOwnPage, none_of_foreign, own_heard, near_in, foreign_offer}
 use Rattle.ipx_laws.proofs.packets.SentOnSaysTheSame.{heard_message}
@@ -277,7 +277,7 @@ module _ (delay slack : ℕ) (given : Given) (hops : ℕ) (few : hops ≤ 15) (s
   abbrev pub IsHeardOf : ℕ → Place → Wires → WireStep → Type 0
   IsHeardOf port f now step =
       IsHeardFrom net most_routes most_services delay (here port) (port_of net f).node network now step
-      ⊎ IsHeardOutside net (here port) (port_of net f).node network now.histories (as_step step)
+      ⊎ IsHeardOutside net (here port) (Names (port_of net f).node network) now.histories (as_step step)
 
   -- one by which the least way leads
   abbrev HeardBy : Wires → WireStep → Place → Type 0
@@ -316,7 +316,7 @@ module _ (delay slack : ℕ) (given : Given) (hops : ℕ) (few : hops ≤ 15) (s
     HeardNow router event f = HeardBy now (Occurs router event) f
 
     -- where nobody is
-    unheard : (router : ℕ) (event : Event) → ((port : ℕ) (node : Node) → IsHeardOutside net (here port) node network now.histories (Happens router event) → ⊥)
+    unheard : (router : ℕ) (event : Event) → ((port : ℕ) (node : Node) → IsHeardOutside net (here port) (Names node network) now.histories (Happens router event) → ⊥)
         → (After : Place → Type 0) (f : Place) → HeardNow router event f ⊎ After f → After f
     unheard router event none After f (inr later) = later
     unheard router event none After f (inl (port, source, inl lands)) = absurd lands

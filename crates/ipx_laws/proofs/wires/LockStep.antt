@@ -1,22 +1,23 @@
 -- Lock step is an instance of wires: a busy tick is a beat with no delay, in which what is handed out lands.
-use Rattle.std.proofs.Common.{◌≡◌, refl, sym, ap, ap₂, ◌∙◌, subst, ℕ, suc, ◌+◌, ◌-◌, ◌≤◌, nat_le, true, List, [], ◌∷◌, ◌++◌, length, map, flat_map, Some, None, slice_get, arith, append_assoc, append-nil}
+use Rattle.std.proofs.Common.{◌≡◌, refl, sym, ap, ap₂, ◌∙◌, subst, ℕ, suc, ◌+◌, ◌-◌, ◌≤◌, nat_le, true, List, [], ◌∷◌, ◌++◌, length, map, flat_map, Some, None, slice_get, inl, inr, arith, append_assoc, append-nil}
 use Rattle.std.specs.List.{AllByRecursion}
 use Rattle.std.proofs.lemmas.Bool.{le-leb}
 use Rattle.std.proofs.lemmas.List.{map-append, length-append, length-map}
 use Rattle.ipx_wire.specs.declared.network.Network.{Network}
 use Rattle.ipx_wire.specs.declared.service.Service.{Service}
+use Rattle.ipx_router.specs.Heard.{Heard}
 use Rattle.ipx_router.specs.History.{Event, History, Packet}
 use Rattle.ipx_internet.specs.BusyTick.{IsBusyTick}
-use Rattle.ipx_internet.specs.Internet.{Internet, ports_of}
+use Rattle.ipx_internet.specs.Internet.{Internet, Place, ports_of}
 use Rattle.ipx_internet.specs.Queue.{Delivery, Queued, deliveries_of, history_of, sends_at, queued, settled_one}
 use Rattle.ipx_internet.specs.Run.{Step, Happens, Settles, Run, Waiting, forgotten, stepped, run_of}
 use Rattle.ipx_internet.specs.Ticks.{seconds_of, ticked}
 use Rattle.ipx_internet.proofs.deliveries.QueueOfARun.{events, deliveries}
 use Rattle.ipx_laws.specs.Announces.{IsAccepted, IsSaid, IsAnnounced}
 use Rattle.ipx_laws.specs.Gone.{IsGone}
-use Rattle.ipx_laws.specs.Meanwhile.{EachStep, StaysGone, EachTick}
+use Rattle.ipx_laws.specs.Meanwhile.{IsHeardOutside, EachStep, StaysGone, EachTick, InSteps, InTicks}
 use Rattle.ipx_laws.specs.WireAnnounces.{WasSaid, WasAnnounced}
-use Rattle.ipx_laws.specs.Wires.{Flight, Wires, WireStep, Occurs, Lands, as_step, still, beaten, occurs, lands, wired, wires_of, beats_of, Along, KeepGone, AreBeats, EachWireStep}
+use Rattle.ipx_laws.specs.Wires.{Flight, Wires, WireStep, Occurs, Lands, as_step, still, beaten, occurs, lands, wired, wires_of, beats_of, Along, InSteps as InWireSteps, InBeats, KeepGone, AreBeats, EachWireStep}
 use Rattle.ipx_laws.proofs.lists.FirstAndRest.{first_of, rest_of, none_first}
 use Rattle.ipx_laws.proofs.tables.TablesAreRight.{parts_of as ticks_parts}
 use Rattle.ipx_laws.proofs.ticks.AfterEachStep.{AfterEach}
@@ -240,6 +241,35 @@ module _ (net : Internet) (most_routes most_services : ℕ) where
   ticks_follow run w [] busy follows = follows
   ticks_follow run w (steps ∷ ticks) busy follows =
       ticks_follow (by run steps) (beaten (wires w (as_beat run w steps))) ticks busy.1 (tick_follows run w steps busy.0 follows)
+
+  -- ---- what is so of one of the steps
+
+  -- what is heard from outside in a step of a tick is heard in that of the beat
+  pub heard_outside : (to : Place) (Says : Heard → Type 0) (run : Run) (w : Wires) (step : Step) → Follows run w
+      → IsHeardOutside net to Says run.histories step → IsHeardOutside net to Says w.histories (as_step (as_wire run w step))
+  heard_outside to Says run w step follows heard =
+      subst (IsHeardOutside net to Says w.histories) (sym (as_it_was run w step))
+      (subst (λ (hs : List History). IsHeardOutside net to Says hs step) (sym (same_histories run w follows)) heard)
+
+  module _ (Is : Run → Step → Type 0) (So : Wires → WireStep → Type 0)
+      (so : (run : Run) (w : Wires) (step : Step) → Follows run w → Is run step → So w (as_wire run w step)) where
+    steps_so : (Later : Run → Type 0) (After : Wires → Type 0) (run : Run) (w : Wires) (steps : List Step) → Follows run w
+        → (Later (by run steps) → After (wires w (as_beat run w steps))) → InSteps net most_routes most_services Is Later run steps
+        → InWireSteps net most_routes most_services 0 So After w (as_beat run w steps)
+    steps_so Later After run w [] follows next later = next later
+    steps_so Later After run w (step ∷ steps) follows next (inl now) = inl (so run w step follows now)
+    steps_so Later After run w (step ∷ steps) follows next (inr later) =
+        inr (steps_so Later After (one run step) (wire w (as_wire run w step)) steps (step_follows run w step follows) next later)
+
+    pub ticks_so : (run : Run) (w : Wires) (ticks : List (List Step)) → EachTick net most_routes most_services (IsBusyTick net most_routes most_services) run ticks
+        → Follows run w → InTicks net most_routes most_services Is run ticks → InBeats net most_routes most_services 0 So w (as_beats run w ticks)
+    ticks_so run w [] busy follows none = none
+    ticks_so run w (steps ∷ ticks) busy follows found =
+        let next = by run steps in
+        let now = beaten (wires w (as_beat run w steps)) in
+        steps_so (λ last. InTicks net most_routes most_services Is last ticks)
+        (λ last. InBeats net most_routes most_services 0 So (beaten last) (as_beats next now ticks))
+        run w steps follows (λ later. ticks_so next now ticks busy.1 (tick_follows run w steps busy.0 follows) later) found
 
   -- what is so of routers all along a beat is so after each step of the tick
   pub after_each : (Is : List History → Type 0) (run : Run) (w : Wires) (steps : List Step) → Follows run w

@@ -18,55 +18,24 @@ use Rattle.ipx_router.proofs.lists.EachElement.{all_before, all_behind}
 use Rattle.ipx_internet.specs.BusyTick.{IsBusyTick}
 use Rattle.ipx_internet.specs.Internet.{Internet, Place, IsInternet, NodesDiffer, ports_of, port_of, network_of}
 use Rattle.ipx_internet.specs.Queue.{Delivery, deliveries_of, history_of, sends_at}
-use Rattle.ipx_internet.specs.Run.{Step, AreHistories, Run, stepped, run_of}
-use Rattle.ipx_internet.specs.Ticks.{seconds_of, ticked}
+use Rattle.ipx_internet.specs.Run.{Step, AreHistories, Run, run_of}
+use Rattle.ipx_internet.specs.Ticks.{seconds_of}
 use Rattle.ipx_internet.proofs.packets.SentOnOrReply.{Layouts}
 use Rattle.ipx_internet.proofs.places.OneReceiverOfANode.{port_is}
 use Rattle.ipx_laws.specs.Announces.{service_of}
 use Rattle.ipx_laws.specs.InTime.{seconds_in, AreQuick}
 use Rattle.ipx_laws.specs.Meanwhile.{SaysOnly, EachTick}
-use Rattle.ipx_laws.specs.Regular.{IsHeard, HeardInSteps, HeardInTicks, AreInTime, IsListedName, AreRegular}
-use Rattle.ipx_laws.specs.Servers.{Announcer, Server, IsOf, SaysNoFalse, NamesOnly}
+use Rattle.ipx_laws.specs.Regular.{Announces, IsHeard, AreInTime, IsListedName, AreRegular}
+use Rattle.ipx_laws.specs.Servers.{Server, IsOf, SaysNoFalse, NamesOnly}
 use Rattle.ipx_laws.specs.WireRegular.{IsHostHeard, IsRouterHeard, AreHostsInTime, AreRoutersInTime, AreRegularBeats}
-use Rattle.ipx_laws.specs.Wires.{Flight, Wires, WireStep, Lands, as_step, beaten, wired, wires_of, beats_of, InSteps, InBeats}
+use Rattle.ipx_laws.specs.Wires.{Flight, Wires, WireStep, Lands, as_step, beaten, wires_of}
 use Rattle.ipx_laws.proofs.lists.SomeElement.{AnyIs, number_any}
 use Rattle.ipx_laws.proofs.packets.PagesAreHeard.{heard_services}
 use Rattle.ipx_laws.proofs.services.ServiceIsTold.{AnyService, NamesTo, waits_for, second_says}
 use Rattle.ipx_laws.proofs.ticks.SaidInAMinute.{Stay, is_place, runs_there}
 use Rattle.ipx_laws.proofs.wires.HeardInLockStep.{heard_in_time}
-use Rattle.ipx_laws.proofs.wires.LockStep.{as_wire, as_beat, as_beats, as_many, beats_say, same_steps, Follows, same_histories, step_follows, tick_follows}
-use Rattle.ipx_laws.proofs.wires.PartsInLockStep.{Goes, middle_of, middle_goes}
-
--- ---- hosts
-
-module _ (net : Internet) (most_routes most_services : ℕ) (server : Server) (to : Place) (host : Announcer) where
-  -- what is heard in a step of a tick is heard in that of the beat
-  host_now : (run : Run) (w : Wires) (step : Step) → Follows net most_routes most_services run w
-      → IsHeard net most_routes most_services server to host run step
-      → IsHostHeard net most_routes most_services 0 server to host w (as_wire net most_routes most_services run w step)
-  host_now run w step follows heard = grind (arith, same_histories)
-
-  host_steps : (Later : Run → Type 0) (After : Wires → Type 0) (run : Run) (w : Wires) (steps : List Step) → Follows net most_routes most_services run w
-      → (Later (run_of net most_routes most_services run steps) → After (wires_of net most_routes most_services 0 w (as_beat net most_routes most_services run w steps)))
-      → HeardInSteps net most_routes most_services server to host Later run steps
-      → InSteps net most_routes most_services 0 (IsHostHeard net most_routes most_services 0 server to host) After w (as_beat net most_routes most_services run w steps)
-  host_steps Later After run w [] follows so later = so later
-  host_steps Later After run w (step ∷ steps) follows so (inl now) = inl (host_now run w step follows now)
-  host_steps Later After run w (step ∷ steps) follows so (inr later) =
-      inr (host_steps Later After (stepped net most_routes most_services run step)
-      (wired net most_routes most_services 0 w (as_wire net most_routes most_services run w step)) steps (step_follows net most_routes most_services run w step follows) so later)
-
-  host_ticks : (run : Run) (w : Wires) (ticks : List (List Step)) → EachTick net most_routes most_services (IsBusyTick net most_routes most_services) run ticks
-      → Follows net most_routes most_services run w → HeardInTicks net most_routes most_services server to host run ticks
-      → InBeats net most_routes most_services 0 (IsHostHeard net most_routes most_services 0 server to host) w (as_beats net most_routes most_services run w ticks)
-  host_ticks run w [] busy follows heard = heard
-  host_ticks run w (steps ∷ ticks) busy follows heard =
-      let next = run_of net most_routes most_services run steps in
-      let now = beaten (wires_of net most_routes most_services 0 w (as_beat net most_routes most_services run w steps)) in
-      host_steps (λ last. HeardInTicks net most_routes most_services server to host last ticks)
-      (λ last. InBeats net most_routes most_services 0 (IsHostHeard net most_routes most_services 0 server to host) (beaten last)
-      (as_beats net most_routes most_services next now ticks)) run w steps follows
-      (λ later. host_ticks next now ticks busy.1 (tick_follows net most_routes most_services run w steps busy.0 follows) later) heard
+use Rattle.ipx_laws.proofs.wires.LockStep.{as_beat, as_beats, beats_say, same_steps, heard_outside}
+use Rattle.ipx_laws.proofs.wires.PartsInLockStep.{part_so, Goes}
 
 -- ---- routers
 
@@ -153,15 +122,9 @@ module _ (net : Internet) (laws : Layouts) (is : IsInternet net) (most_routes mo
 
   hosts_in_time : AreInTime net most_routes most_services server up run ticks → AreHostsInTime net most_routes most_services 0 server period up w beats
   hosts_in_time in_time which host to listed on on_network before within later parts wide =
-      let now = beats_of net most_routes most_services 0 w before in
-      let middle = middle_of net most_routes most_services run w ticks before within later parts in
-      let next = ticked net most_routes most_services run middle.front in
-      let inside = middle_goes net laws is most_routes most_services up run w ticks before within middle goes in
-      let many = ap length middle.same ∙ wide in
-      let as_long = as_many net most_routes most_services next now middle.inside in
-      subst (λ (bs : List (List WireStep)). InBeats net most_routes most_services 0 (IsHostHeard net most_routes most_services 0 server to host) now bs) middle.same
-      (host_ticks net most_routes most_services server to host next now middle.inside inside.busy inside.follows
-      (in_time which host to listed on on_network middle.front middle.inside middle.later middle.whole (omega (arith, many, as_long))))
+      part_so net most_routes most_services (IsHeard net most_routes most_services server to host) (IsHostHeard net most_routes most_services 0 server to host)
+      (heard_outside net most_routes most_services to (Announces server host)) run w ticks goes.busy goes.follows before within later parts
+      (λ front inside behind whole long. in_time which host to listed on on_network front inside behind whole (long ∙ wide))
 
   pub regular : (names : List (ℕ × List ℕ)) → AreRegular net most_routes most_services server names up run ticks
       → AreRegularBeats net most_routes most_services 0 server period names up w beats

@@ -18,11 +18,11 @@ use Rattle.ipx_internet.specs.Run.{AreHistories}
 use Rattle.ipx_internet.proofs.lists.EachElement.{all_of, all_then, all_mapped}
 use Rattle.ipx_internet.proofs.trees.RunIsALog.{router_there}
 use Rattle.ipx_laws.specs.Gone.{most_ticks_gone}
-use Rattle.ipx_laws.specs.InTime.{Advertises, IsHeardFrom, AreHeardInTime, beats_right, seconds_in, AreQuick}
+use Rattle.ipx_laws.specs.InTime.{Names, Advertises, IsHeardFrom, AreHeardInTime, beats_right, seconds_in, AreQuick}
 use Rattle.ipx_laws.specs.Least.{Way, least_route, way_of}
-use Rattle.ipx_laws.specs.Meanwhile.{LeavesPorts}
+use Rattle.ipx_laws.specs.Meanwhile.{LeavesPorts, IsHeardOutside}
 use Rattle.ipx_laws.specs.Outsiders.{AreStopped, SaysTruly, LeadsByOutsider}
-use Rattle.ipx_laws.specs.OutsidersInTime.{IsHeardOutside, AreOutsidersInTime}
+use Rattle.ipx_laws.specs.OutsidersInTime.{AreOutsidersInTime}
 use Rattle.ipx_laws.specs.Ups.{ups}
 use Rattle.ipx_laws.specs.Wires.{Flight, Wires, WireStep, as_step, flying, beats_of, Along, EachBeat, IsBeat, AreBeats, EachWireStep, InBeats, most_beats_gone, most_beats_flying}
 use Rattle.ipx_laws.proofs.tables.Given.{Given}
@@ -346,7 +346,7 @@ module _ (delay slack : ℕ) (given : Given) where
               (at behind) cut.inside (heard_router port f source theirs)
           | inr outsider ↦
               in_beats_so net most_routes most_services delay
-              (λ now step. IsHeardOutside net (record { router = x; port = port }) (port_of net f).node network now.histories (as_step step)) (IsHeard port f)
+              (λ now step. IsHeardOutside net (record { router = x; port = port }) (Names (port_of net f).node network) now.histories (as_step step)) (IsHeard port f)
               (λ v step outside. inr outside) (at behind) cut.inside
               (outsiders (record { router = x; port = port }) f behind cut.inside rest (leads port f source outsider)
               (parts ∙ ap (λ (f : List (List WireStep)). f ++ rest) cut.same) cut.wide)

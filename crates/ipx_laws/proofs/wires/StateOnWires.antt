@@ -24,7 +24,7 @@ use Rattle.ipx_internet.proofs.places.OneReceiverOfANode.{same_number}
 use Rattle.ipx_laws.specs.Apart.{AreOf, TellsOnlyOf}
 use Rattle.ipx_laws.specs.Gone.{most_ticks_gone}
 use Rattle.ipx_laws.specs.InTime.{Names}
-use Rattle.ipx_laws.specs.OutsidersInTime.{IsHeardOutside}
+use Rattle.ipx_laws.specs.Meanwhile.{IsHeardOutside}
 use Rattle.ipx_laws.proofs.lists.SomeElement.{AnyIs, any_and_all, any_then, any_passes, any_mapped, the_one}
 use Rattle.ipx_laws.proofs.records.BestIsKept.{second_keeps}
 use Rattle.ipx_laws.proofs.tables.Given.{Given, FineOf}
@@ -161,7 +161,7 @@ module _ (given : Given) (x : ℕ) (w : Wants given x) where
 
   -- no event of another router is heard here
   pub not_here : (histories : List History) (router : ℕ) (event : Event) → x ≢ router → (port : ℕ) (node : Node)
-      → IsHeardOutside net (record { router = x; port = port }) node network histories (Happens router event) → ⊥
+      → IsHeardOutside net (record { router = x; port = port }) (Names node network) histories (Happens router event) → ⊥
   not_here histories router (Packet number bytes) off port node heard = off (sym heard.0)
   not_here histories router Second off port node heard = heard
   not_here histories router Start off port node heard = heard
