@@ -5,6 +5,7 @@ pub mod EarlyFlights
 pub mod FineOnWires
 pub mod GoneOnWires
 pub mod HeardInLockStep
+pub mod HeardInAWindow
 pub mod HeardOnWires
 pub mod HeardInBeats
 pub mod HomeOrOnward

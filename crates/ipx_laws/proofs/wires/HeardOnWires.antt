@@ -1,9 +1,9 @@
 -- A router has the route of its least way after beats in which all neighbours were heard by which that way leads, where these were right; and at
 -- each moment of the beat that follows.
-use Rattle.std.proofs.Common.{◌≡◌, ◌≢◌, refl, sym, ap, ◌∙◌, subst, ◌⊎◌, ℕ, suc, ◌+◌, ◌-◌, ◌<◌, ◌≤◌, nat_le, Bool, true, false, if◌then◌else◌, List, [], ◌∷◌, ◌++◌, length, map, Option, None, Some, slice_get, inl, inr, arith, append-nil, get_or-set_same, get_or-set_other}
+use Rattle.std.proofs.Common.{◌≡◌, refl, sym, ap, ◌∙◌, subst, ◌⊎◌, ℕ, ◌+◌, ◌-◌, ◌<◌, ◌≤◌, true, List, [], ◌∷◌, ◌++◌, length, map, Option, None, Some, inl, inr, arith, append-nil}
 use Rattle.std.specs.List.{AllByRecursion}
 use Rattle.std.proofs.Math.Nat.{mul-le-mul_left}
-use Rattle.std.proofs.lemmas.Bool.{cases_eq, leb-true, leb-false, both_ways}
+use Rattle.std.proofs.lemmas.Bool.{both_ways}
 use Rattle.ipx_table.specs.Alive.{lifetime}
 use Rattle.ipx_table.specs.Facts.{Fact}
 use Rattle.ipx_wire.specs.Crossed.{is_among}
@@ -24,17 +24,17 @@ use Rattle.ipx_router.proofs.tables.HeldWasOffered.{came_in, heard_up}
 use Rattle.ipx_router.proofs.tables.OffersOfAMessage.{facts_from-more}
 use Rattle.ipx_internet.specs.Internet.{Place, ports_of, port_of}
 use Rattle.ipx_internet.specs.Queue.{history_of}
-use Rattle.ipx_internet.specs.Run.{Happens, IsStep}
+use Rattle.ipx_internet.specs.Run.{Happens}
 use Rattle.ipx_internet.specs.Ticks.{seconds_of}
 use Rattle.ipx_internet.proofs.lists.EachElement.{all_then}
 use Rattle.ipx_internet.proofs.lists.FoundInAList.{nothing, it_is}
 use Rattle.ipx_laws.specs.Apart.{TellsOnlyOf}
 use Rattle.ipx_laws.specs.Gone.{most_ticks_gone}
-use Rattle.ipx_laws.specs.InTime.{Names, IsHeardFrom, seconds_in}
+use Rattle.ipx_laws.specs.InTime.{Names, seconds_in}
 use Rattle.ipx_laws.specs.Least.{Way}
-use Rattle.ipx_laws.specs.Meanwhile.{IsHeardOutside}
+use Rattle.ipx_laws.specs.Meanwhile.{LeavesPorts}
 use Rattle.ipx_laws.specs.Outsiders.{IsOfOutsider, IsFromOutsider}
-use Rattle.ipx_laws.specs.Wires.{Flight, Wires, WireStep, Occurs, Lands, as_step, beaten, occurs, lands, wired, wires_of, beats_of, Along, EachBeat, IsBeat, most_beats_gone, InSteps, InBeats}
+use Rattle.ipx_laws.specs.Wires.{Flight, Wires, WireStep, as_step, beats_of, Along, EachBeat, IsBeat, most_beats_gone, InBeats}
 use Rattle.ipx_laws.proofs.packets.RoutesOrSilence.{TellsApart, IsOwnPage, none_of_foreign, own_heard, near_in, foreign_offer}
 use Rattle.ipx_laws.proofs.packets.SentOnSaysTheSame.{heard_message}
 use Rattle.ipx_laws.proofs.tables.Given.{Given}
@@ -43,13 +43,12 @@ use Rattle.ipx_laws.proofs.tables.LeastRouteSurvives.{foreign_keep}
 use Rattle.ipx_laws.proofs.tables.LeastWays.{IsNeighbour}
 use Rattle.ipx_laws.proofs.tables.NoRouteIsBetter.{there_where_up}
 use Rattle.ipx_laws.proofs.tables.SaysWhatItKnows.{Wants, SourceOf}
-use Rattle.ipx_laws.proofs.ticks.EventOfOneRouter.{own_seconds}
 use Rattle.ipx_laws.proofs.ticks.RealOrSoonEnded.{Reaches}
-use Rattle.ipx_laws.proofs.ticks.TickAfterTick.{second_there}
-use Rattle.ipx_laws.proofs.wires.BeatAfterBeat.{StepArises, along_first, found_at, step_goes, beat_goes, more_seconds}
+use Rattle.ipx_laws.proofs.wires.BeatAfterBeat.{Keeps}
 use Rattle.ipx_laws.proofs.wires.EarlyFlights.{early_soon}
+use Rattle.ipx_laws.proofs.wires.HeardInAWindow.{IsHeardAt, IsHeardOf, Takes, Tracks, window_has, beat_has}
 use Rattle.ipx_laws.proofs.wires.SpokenOnWires.{true_taken, Told, Speaks, Flies, Lasts, Arises, Good, IsAOutsiders, FromOutside, Goes, Such, keeps}
-use Rattle.ipx_laws.proofs.wires.StateOnWires.{IsEntry, named_any, never_names, not_here, Missing, StateAt, passes_by, second_own, entries_heard}
+use Rattle.ipx_laws.proofs.wires.StateOnWires.{IsEntry, named_any, never_names, Missing, StateAt, passes_by, second_own, entries_heard}
 use Rattle.ipx_laws.proofs.wires.WordsOnWires.{StrangeOf, truth_of, Lasting, HasIt, Fit, Extra, as_in_ticks, extras}
 
 module _ (delay slack : ℕ) (given : Given) (hops : ℕ) (few : hops ≤ 15) (start : ℕ) (long : slack + most_beats_gone delay ≤ start) (x : ℕ) (w : Wants given x)
@@ -83,17 +82,29 @@ module _ (delay slack : ℕ) (given : Given) (hops : ℕ) (few : hops ≤ 15) (s
   abbrev TheirsAt : Place → List ℕ → Type 0
   TheirsAt = IsAOutsiders delay slack net laws is most_routes most_services up foreign ours (StrangeOf given) (truth_of given) F X
 
-  abbrev pub GoesOn : ℕ → (ℕ → ℕ) → Wires → Type 0
+  abbrev AllLast : ℕ → ℕ → History → Type 0
+  AllLast = Lasts delay slack net laws is most_routes most_services up foreign ours (StrangeOf given) (truth_of given) F X
+
+  abbrev AllFly : Flight → Type 0
+  AllFly = Flies delay slack net laws is most_routes most_services up foreign ours (StrangeOf given) (truth_of given) F X
+
+  abbrev Rises : ℕ → List History → ℕ → Event → Type 0
+  Rises = Arises delay slack net laws is most_routes most_services up foreign ours (StrangeOf given) (truth_of given) F X
+
+  abbrev GoodOnes : List History → Type 0
+  GoodOnes = Good delay slack net laws is most_routes most_services up foreign ours (StrangeOf given) (truth_of given) F X
+
+  abbrev Outside : ℕ → Event → Type 0
+  Outside = FromOutside delay slack net laws is most_routes most_services up foreign ours (StrangeOf given) (truth_of given) F X
+
+  abbrev GoesOn : ℕ → (ℕ → ℕ) → Wires → Type 0
   GoesOn = Goes delay slack net laws is most_routes most_services up foreign ours (StrangeOf given) (truth_of given) F X
 
-  abbrev pub SuchBeat : Wires → List WireStep → Type 0
+  abbrev SuchBeat : Wires → List WireStep → Type 0
   SuchBeat = Such delay slack net laws is most_routes most_services up foreign ours (StrangeOf given) (truth_of given) F X
 
-  abbrev Step_arises : Wires → WireStep → Type 0
-  Step_arises =
-      StepArises net laws is most_routes most_services delay (Lasts delay slack net laws is most_routes most_services up foreign ours (StrangeOf given) (truth_of given) F X)
-      (Flies delay slack net laws is most_routes most_services up foreign ours (StrangeOf given) (truth_of given) F X) (Arises delay slack net laws is most_routes most_services up foreign ours (StrangeOf given) (truth_of given) F X)
-      (Good delay slack net laws is most_routes most_services up foreign ours (StrangeOf given) (truth_of given) F X)
+  kept : Keeps net laws is most_routes most_services delay AllLast AllFly Rises GoodOnes
+  kept = keeps delay slack net laws is most_routes most_services up foreign ours (StrangeOf given) (truth_of given) F X (extras delay slack given hops few start long ours)
 
   -- ---- a packet
 
@@ -268,329 +279,98 @@ module _ (delay slack : ℕ) (given : Given) (hops : ℕ) (few : hops ≤ 15) (s
         subst (λ (fs : List (Fact RouteOffer)). StateAt given x w top After fs) (sym (facts_from-more (route_facts_of ports) [] history (Packet number bytes)))
         (by_heard heard_now refl)
 
-  -- ---- one step
+  -- ---- a neighbour is heard, on a port: another router of ours, of which a packet lands, or an outsider
 
-  abbrev At : ℕ → (Place → Type 0) → Wires → Type 0
-  At top Late now = StateAt given x w top Late (facts_of (history_of now.histories x))
+  abbrev Says : ℕ × Place → Heard → Type 0
+  Says s = Names (port_of net s.1).node network
 
-  -- a neighbour is heard on a port: another router of ours, of which a packet lands, or an outsider
-  abbrev pub IsHeardOf : ℕ → Place → Wires → WireStep → Type 0
-  IsHeardOf port f now step =
-      IsHeardFrom net most_routes most_services delay (here port) (port_of net f).node network now step
-      ⊎ IsHeardOutside net (here port) (Names (port_of net f).node network) now.histories (as_step step)
+  -- it is one by which the least way leads
+  abbrev ByIts : (ℕ × Place → Type 0) → Place → Type 0
+  ByIts Late f = (port : ℕ) × Source port f × Late (port, f)
 
-  -- one by which the least way leads
-  abbrev HeardBy : Wires → WireStep → Place → Type 0
-  HeardBy now step f = (port : ℕ) × Source port f × IsHeardOf port f now step
+  abbrev State : ℕ → (ℕ × Place → Type 0) → History → Type 0
+  State top Late history = StateAt given x w top (ByIts Late) (facts_of history)
 
-  later_of : {A B : Type 0} → (A → ⊥) → A ⊎ B → B
-  later_of none (inl now) = absurd (none now)
-  later_of none (inr later) = later
+  abbrev IsOf : ℕ → List ℕ → History → ℕ × Place → Type 0
+  IsOf = IsHeardOf net x (ℕ × Place) (λ s. s.0) Says State
 
-  -- no event of another router changes it
-  elsewhere : (top : ℕ) (now : Wires) (router : ℕ) (event : Event) → x ≢ router → (Before After : Place → Type 0) → ((f : Place) → Before f → After f)
-      → At top Before now → At top After (occurs net most_routes most_services delay now router event)
-  elsewhere top now router event off Before After still state =
-      let stays = get_or-set_other now.histories router x (history_of now.histories router ++ event ∷ []) [] off in
-      subst (λ (h : History). StateAt given x w top After (facts_of h)) (sym stays)
-      (passes_by given x w top top Before After (facts_of (history_of now.histories x)) (omega arith) still state)
-
-  module _ (beats : ℕ) (seconds : ℕ → ℕ) (now : Wires) (going : GoesOn beats seconds now) (enough : start + delay ≤ beats) (top : ℕ) where
-    abbrev past : History
-    past = history_of now.histories x
-
-    listed : x < length now.histories
-    listed = let each = going.are.each in omega (arith, each, inside)
-
-    lasted : Lasting delay slack given x beats past
-    lasted = (going.routers x beats inside (omega arith) (omega arith)).0 mine
-
-    -- an event of its own
-    own : (later : ℕ) (event : Event) (After : Place → Type 0) → StateAt given x w later After (facts_of (past ++ event ∷ []))
-        → At later After (occurs net most_routes most_services delay now x event)
-    own later event After state =
-        subst (λ (h : History). StateAt given x w later After (facts_of h)) (sym (get_or-set_same now.histories x (past ++ event ∷ []) [] listed)) state
-
-    -- what is heard of an event from outside
-    abbrev HeardNow : ℕ → Event → Place → Type 0
-    HeardNow router event f = HeardBy now (Occurs router event) f
-
-    -- where nobody is
-    unheard : (router : ℕ) (event : Event) → ((port : ℕ) (node : Node) → IsHeardOutside net (here port) (Names node network) now.histories (Happens router event) → ⊥)
-        → (After : Place → Type 0) (f : Place) → HeardNow router event f ⊎ After f → After f
-    unheard router event none After f (inr later) = later
-    unheard router event none After f (inl (port, source, inl lands)) = absurd lands
-    unheard router event none After f (inl (port, source, inr heard)) = absurd (none port (port_of net f).node heard)
-
-    own_outside : (event : Event) → IsStep net (Happens x event)
-        → FromOutside delay slack net laws is most_routes most_services up foreign ours (StrangeOf given) (truth_of given) F X x event
-        → seconds_of x (Happens x event ∷ []) + top < lifetime → (After : Place → Type 0) → At top (λ f. HeardNow x event f ⊎ After f) now
-        → At (seconds_of x (Happens x event ∷ []) + top) After (occurs net most_routes most_services delay now x event)
-    own_outside Second is_step outside young After state =
-        let one = own_seconds x Second [] in
-        let more : suc top ≡ seconds_of x (Happens x Second ∷ []) + top = omega (arith, one) in
-        subst (λ (n : ℕ). At n After (occurs net most_routes most_services delay now x Second)) more
-        (own (suc top) Second After (second_own given x w top (omega (arith, young, one)) After past
-        (passes_by given x w top top (λ f. HeardNow x Second f ⊎ After f) After (facts_of past) (omega arith) (unheard x Second (λ port node heard. heard) After) state)))
-    own_outside (Packet number bytes) is_step outside young After state =
-        let none = own_seconds x (Packet number bytes) [] in
-        let same : top ≡ seconds_of x (Happens x (Packet number bytes) ∷ []) + top = omega (arith, none) in
-        subst (λ (n : ℕ). At n After (occurs net most_routes most_services delay now x (Packet number bytes))) same
-        (own top (Packet number bytes) After
-        (packet_own top beats beats number bytes (omega arith) enough is_step.1 past lasted (by outside) (λ f. HeardNow x (Packet number bytes) f ⊎ After f) After
-        (HeardNow x (Packet number bytes)) (λ f either. either) heard state))
-      where
-        by : TellsApart foreign bytes ⊎ TheirsAt (here number) bytes → SpeaksOf (here number) bytes beats ⊎ TheirsAt (here number) bytes
-        by (inl apart) = inl (inl (inr apart))
-        by (inr theirs) = inr theirs
-
-        heard : (f : Place) → HeardNow x (Packet number bytes) f
-            → (m : Heard) × (heard_after ports past number bytes ≡ Some m) × Names (port_of net f).node network m × Source number f
-        heard f (port, source, inl lands) = absurd lands
-        heard f (port, source, inr (there, on_it, m, is_heard, names)) = (
-          m,
-          ap (λ (n : ℕ). heard_after ports past n bytes) on_it ∙ is_heard,
-          names,
-          subst (λ (n : ℕ). Source n f) (sym on_it) source,
-        )
-    own_outside Start is_step outside young After state = absurd outside
-    own_outside Stop is_step outside young After state = absurd outside
-    own_outside (PortDown number) is_step outside young After state = absurd outside
-    own_outside (PortUp number) is_step outside young After state = absurd outside
-
-    outside_tracks : (router : ℕ) (event : Event) → IsStep net (Happens router event)
-        → FromOutside delay slack net laws is most_routes most_services up foreign ours (StrangeOf given) (truth_of given) F X router event
-        → seconds_of x (Happens router event ∷ []) + top < lifetime → (After : Place → Type 0) → At top (λ f. HeardNow router event f ⊎ After f) now
-        → At (seconds_of x (Happens router event ∷ []) + top) After (occurs net most_routes most_services delay now router event)
-    outside_tracks router event is_step outside young After state = elim (cases_eq x router) [
-      | inl same ↦
-          subst (λ (k : ℕ). At (seconds_of x (Happens k event ∷ []) + top) After (occurs net most_routes most_services delay now k event)) same
-          (own_outside event (subst (λ (k : ℕ). IsStep net (Happens k event)) (sym same) is_step)
-          (subst (λ (k : ℕ). FromOutside delay slack net laws is most_routes most_services up foreign ours (StrangeOf given) (truth_of given) F X k event) (sym same) outside)
-          (subst (λ (k : ℕ). seconds_of x (Happens k event ∷ []) + top < lifetime) (sym same) young) After
-          (subst (λ (k : ℕ). At top (λ f. HeardNow k event f ⊎ After f) now) (sym same) state))
-      | inr off ↦
-          let none = second_there router x event [] off in
-          let sum : top ≡ seconds_of x (Happens router event ∷ []) + top = omega (arith, none) in
-          subst (λ (n : ℕ). At n After (occurs net most_routes most_services delay now router event)) sum
-          (elsewhere top now router event off (λ f. HeardNow router event f ⊎ After f) After (unheard router event (not_here given x w now.histories router event off) After) state)
-    ]
-
-    -- a flight that lands
-    module _ (which : ℕ) (After : Place → Type 0) (state : At top (λ f. HeardBy now (Lands which) f ⊎ After f) now) where
-      -- it isn't heard from outside
-      lands_from : (f : Place) → HeardBy now (Lands which) f
-          → (port : ℕ) × Source port f × IsHeardFrom net most_routes most_services delay (here port) (port_of net f).node network now (Lands which)
-      lands_from f (port, source, inl lands) = (port, source, lands)
-      lands_from f (port, source, inr none) = absurd none
-
-      module _ (fl : Flight) (found : slice_get now.flights which ≡ Some fl) (flies : Flies delay slack net laws is most_routes most_services up foreign ours (StrangeOf given) (truth_of given) F X fl) where
-        abbrev d_router : ℕ
-        d_router = fl.delivery.to.router
-
-        abbrev arrival : Event
-        arrival = Packet fl.delivery.to.port fl.delivery.bytes
-
-        landed : nat_le now.beats (fl.sent + delay) ≡ true → At top After (occurs net most_routes most_services delay now d_router arrival)
-        landed e = elim (cases_eq x d_router) [
-          | inr off ↦
-              elsewhere top now d_router arrival off (λ f. HeardBy now (Lands which) f ⊎ After f) After (λ f either. later_of (never off f) either) state
-          | inl same ↦
-              let place = subst (λ (k : ℕ). fl.delivery.to.port < length (ports_of net k)) (sym same) flies.delivery.place in
-              subst (λ (k : ℕ). At top After (occurs net most_routes most_services delay now k arrival)) same
-              (own top arrival After
-              (packet_own top beats fl.sent fl.delivery.to.port fl.delivery.bytes timely enough place past lasted
-              (inl (subst (λ (k : ℕ). SpeaksOf (record { router = k; port = fl.delivery.to.port }) fl.delivery.bytes fl.sent) (sym same) flies.speaks))
-              (λ f. HeardBy now (Lands which) f ⊎ After f) After (HeardBy now (Lands which)) (λ f either. either) heard state))
-        ]
-          where
-            same_flight : (f : Flight) → slice_get now.flights which ≡ Some f → f ≡ fl
-            same_flight f it = it_is (λ (k : Flight). k ≡ fl) f fl (sym found ∙ it) refl
-
-            never : x ≢ d_router → (f : Place) → HeardBy now (Lands which) f → ⊥
-            never off f by_it =
-                let (port, source, (k, it, to, soon, m, is_heard, names)) = lands_from f by_it in
-                off (sym (ap (λ (q : Place). q.router) (sym (ap (λ (j : Flight). j.delivery.to) (same_flight k it)) ∙ to)))
-
-            timely : beats ≤ fl.sent + delay
-            timely = let count = going.count in let soon = leb-true now.beats (fl.sent + delay) e in omega (arith, count, soon)
-
-            heard : (f : Place) → HeardBy now (Lands which) f
-                → (m : Heard) × (heard_after ports past fl.delivery.to.port fl.delivery.bytes ≡ Some m) × Names (port_of net f).node network m
-                × Source fl.delivery.to.port f
-            heard f by_it =
-                let (port, source, (k, it, to, soon, m, is_heard, names)) = lands_from f by_it in
-                let flight = same_flight k it in
-                let at_port : fl.delivery.to.port ≡ port = ap (λ (q : Place). q.port) (sym (ap (λ (j : Flight). j.delivery.to) flight) ∙ to) in (
-                  m,
-                  ap (λ (b : List ℕ). heard_after ports past fl.delivery.to.port b) (sym (ap (λ (j : Flight). j.delivery.bytes) flight))
-                      ∙ ap (λ (n : ℕ). heard_after ports past n k.delivery.bytes) at_port ∙ is_heard,
-                  names,
-                  subst (λ (n : ℕ). Source n f) (sym at_port) source,
-                )
-
-        late_one : nat_le now.beats (fl.sent + delay) ≡ false → At top After now
-        late_one e =
-            passes_by given x w top top (λ f. HeardBy now (Lands which) f ⊎ After f) After (facts_of past) (omega arith) (λ f either. later_of (never f) either) state
-          where
-            never : (f : Place) → HeardBy now (Lands which) f → ⊥
-            never f by_it =
-                let (port, source, (k, it, to, soon, m, is_heard, names)) = lands_from f by_it in
-                let same : k ≡ fl = it_is (λ (j : Flight). j ≡ fl) k fl (sym found ∙ it) refl in
-                let sent = ap (λ (j : Flight). j.sent) same in
-                let over = leb-false now.beats (fl.sent + delay) e in
-                omega (arith, soon, sent, over)
-
-        lands_tracks : At top After (lands net most_routes most_services delay now fl)
-        lands_tracks = by (nat_le now.beats (fl.sent + delay)) refl
-          where
-            by : (c : Bool) → nat_le now.beats (fl.sent + delay) ≡ c
-                → At top After (if c then occurs net most_routes most_services delay now d_router arrival else now)
-            by true e = landed e
-            by false e = late_one e
-
-      abbrev found_in : Option Flight → Wires
-      found_in o = elim o [ Some f ↦ lands net most_routes most_services delay now f | None ↦ now ]
-
-      which_tracks : (o : Option Flight) → slice_get now.flights which ≡ o → At top After (found_in o)
-      which_tracks None e =
-          passes_by given x w top top (λ f. HeardBy now (Lands which) f ⊎ After f) After (facts_of past) (omega arith)
-          (λ f either. later_of (λ (heard : HeardBy now (Lands which) f). nothing (sym e ∙ (lands_from f heard).2.1)) either) state
-      which_tracks (Some f) e =
-          lands_tracks f e (found_at (Flies delay slack net laws is most_routes most_services up foreign ours (StrangeOf given) (truth_of given) F X) now.flights which f going.flights e)
-
-    step_tracks : (step : WireStep) → IsStep net (as_step step) → Step_arises now step → seconds_of x (as_step step ∷ []) + top < lifetime → (After : Place → Type 0)
-        → At top (λ f. HeardBy now step f ⊎ After f) now
-        → At (seconds_of x (as_step step ∷ []) + top) After (wired net most_routes most_services delay now step)
-    step_tracks (Occurs router event) is_step arises young After state = outside_tracks router event is_step arises young After state
-    step_tracks (Lands which) is_step arises young After state =
-        let sum : top ≡ seconds_of x (as_step (Lands which) ∷ []) + top = omega arith in
-        subst (λ (n : ℕ). At n After (wired net most_routes most_services delay now (Lands which))) sum
-        (which_tracks which After state (slice_get now.flights which) refl)
-
-  -- ---- steps
-
-  next_goes : (beats : ℕ) (now : Wires) (seconds : ℕ → ℕ) (step : WireStep) (steps : List WireStep) → IsStep net (as_step step) → SuchBeat now (step ∷ steps)
-      → GoesOn beats seconds now
-      → GoesOn beats (λ router. seconds_of router (as_step step ∷ []) + seconds router) (wired net most_routes most_services delay now step)
-  next_goes beats now seconds step steps is_step such going =
-      step_goes net laws is most_routes most_services delay (Lasts delay slack net laws is most_routes most_services up foreign ours (StrangeOf given) (truth_of given) F X)
-      (Flies delay slack net laws is most_routes most_services up foreign ours (StrangeOf given) (truth_of given) F X) (Arises delay slack net laws is most_routes most_services up foreign ours (StrangeOf given) (truth_of given) F X)
-      (Good delay slack net laws is most_routes most_services up foreign ours (StrangeOf given) (truth_of given) F X)
-      (keeps delay slack net laws is most_routes most_services up foreign ours (StrangeOf given) (truth_of given) F X (extras delay slack given hops few start long ours))
-      beats now seconds step is_step such.arise.0 such.good.0
-      (along_first net most_routes most_services delay (λ n. Good delay slack net laws is most_routes most_services up foreign ours (StrangeOf given) (truth_of given) F X n.histories)
-      (wired net most_routes most_services delay now step) steps such.good.1) going
-
-  -- a neighbour is heard in one of the steps, or what comes after them is so
-  abbrev WaitsIn : (Place → ℕ → Wires → Type 0) → Wires → List WireStep → Place → Type 0
-  WaitsIn After now steps f =
-      (port : ℕ) × Source port f × InSteps net most_routes most_services delay (IsHeardOf port f) (After f port) now steps
-
-  steps_track : (beats : ℕ) (enough : start + delay ≤ beats) (steps : List WireStep) (now : Wires) (seconds : ℕ → ℕ) (top : ℕ)
-      → AllByRecursion (λ step. IsStep net (as_step step)) steps → SuchBeat now steps → GoesOn beats seconds now
-      → seconds_of x (map as_step steps) + top < lifetime → (After : Place → ℕ → Wires → Type 0) → At top (WaitsIn After now steps) now
-      → At (seconds_of x (map as_step steps) + top) (λ f. (port : ℕ) × Source port f × After f port (wires_of net most_routes most_services delay now steps))
-      (wires_of net most_routes most_services delay now steps)
-  steps_track beats enough [] now seconds top are such going young After state =
-      passes_by given x w top (seconds_of x [] + top) (WaitsIn After now []) (λ f. (port : ℕ) × Source port f × After f port now) (facts_of (history_of now.histories x)) (omega arith)
-      (λ f waits. waits) state
-  steps_track beats enough (step ∷ steps) now seconds top are such going young After state =
-      let next = wired net most_routes most_services delay now step in
-      let sum = more_seconds net laws is most_routes most_services delay (Lasts delay slack net laws is most_routes most_services up foreign ours (StrangeOf given) (truth_of given) F X)
-      (Flies delay slack net laws is most_routes most_services up foreign ours (StrangeOf given) (truth_of given) F X) (Arises delay slack net laws is most_routes most_services up foreign ours (StrangeOf given) (truth_of given) F X)
-      (Good delay slack net laws is most_routes most_services up foreign ours (StrangeOf given) (truth_of given) F X)
-      (keeps delay slack net laws is most_routes most_services up foreign ours (StrangeOf given) (truth_of given) F X (extras delay slack given hops few start long ours)) step steps x in
-      let now_state = step_tracks beats seconds now going enough top step are.0 such.arise.0 (omega (arith, sum, young)) (WaitsIn After next steps)
-      (passes_by given x w top top (WaitsIn After now (step ∷ steps)) (λ f. HeardBy now step f ⊎ WaitsIn After next steps f) (facts_of (history_of now.histories x)) (omega arith)
-      (λ f waits. parted After now step steps f waits) state) in
-      let later = steps_track beats enough steps next (λ router. seconds_of router (as_step step ∷ []) + seconds router) (seconds_of x (as_step step ∷ []) + top) are.1
-      (record { arise = such.arise.1; good = such.good.1 }) (next_goes beats now seconds step steps are.0 such going) (omega (arith, sum, young)) After now_state in
-      let total : seconds_of x (map as_step steps) + (seconds_of x (as_step step ∷ []) + top) ≡ seconds_of x (map as_step (step ∷ steps)) + top = omega (arith, sum) in
-      subst (λ (n : ℕ). At n (λ f. (port : ℕ) × Source port f × After f port (wires_of net most_routes most_services delay next steps))
-      (wires_of net most_routes most_services delay next steps)) total later
+  packet_taken : (beats sent number : ℕ) (bytes : List ℕ) → beats ≤ sent + delay → start + delay ≤ beats → number < length ports
+      → SpeaksOf (here number) bytes sent ⊎ TheirsAt (here number) bytes → (top : ℕ) (history : History) → Lasting delay slack given x beats history
+      → Takes net x (ℕ × Place) (λ s. s.0) Says State top number bytes history
+  packet_taken beats sent number bytes timely enough place speaks top history lasts Before After split state =
+      packet_own top beats sent number bytes timely enough place history lasts speaks (ByIts Before) (ByIts After) (ByIts (IsOf number bytes history)) parted heard state
     where
-      parted : (After : Place → ℕ → Wires → Type 0) (now : Wires) (step : WireStep) (steps : List WireStep) (f : Place) → WaitsIn After now (step ∷ steps) f
-          → HeardBy now step f ⊎ WaitsIn After (wired net most_routes most_services delay now step) steps f
-      parted After now step steps f (port, source, inl heard) = inl (port, source, heard)
-      parted After now step steps f (port, source, inr later) = inr (port, source, later)
+      parted : (f : Place) → ByIts Before f → ByIts (IsOf number bytes history) f ⊎ ByIts After f
+      parted f (port, source, before) = elim (split (port, f) before) [
+        | inl now ↦ inl (port, source, now)
+        | inr later ↦ inr (port, source, later)
+      ]
 
-  -- once none has still to be heard
-  has_it : (top : ℕ) (now : Wires) → At top (λ f. ⊥) now → HasIt delay slack given x w (history_of now.histories x)
-  has_it top now state = elim state.holds [
-    | inl held ↦ (held.0, held.1, held.2, held.3)
-    | inr missing ↦ absurd missing.1
-  ]
+      heard : (f : Place) → ByIts (IsOf number bytes history) f
+          → (m : Heard) × (heard_after ports history number bytes ≡ Some m) × Names (port_of net f).node network m × Source number f
+      heard f (port, source, (on, m, is_heard, names)) = (m, is_heard, names, subst (λ (n : ℕ). Source n f) (sym on) source)
 
-  -- it stays at each moment, while it is young enough
-  steps_stay : (beats : ℕ) (enough : start + delay ≤ beats) (steps : List WireStep) (now : Wires) (seconds : ℕ → ℕ) (top : ℕ)
-      → AllByRecursion (λ step. IsStep net (as_step step)) steps → SuchBeat now steps → GoesOn beats seconds now
-      → seconds_of x (map as_step steps) + top < lifetime → At top (λ f. ⊥) now
-      → Along net most_routes most_services delay (λ n. HasIt delay slack given x w (history_of n.histories x)) now steps
-  steps_stay beats enough [] now seconds top are such going young state = has_it top now state
-  steps_stay beats enough (step ∷ steps) now seconds top are such going young state =
-      let next = wired net most_routes most_services delay now step in
-      let sum = more_seconds net laws is most_routes most_services delay (Lasts delay slack net laws is most_routes most_services up foreign ours (StrangeOf given) (truth_of given) F X)
-      (Flies delay slack net laws is most_routes most_services up foreign ours (StrangeOf given) (truth_of given) F X) (Arises delay slack net laws is most_routes most_services up foreign ours (StrangeOf given) (truth_of given) F X)
-      (Good delay slack net laws is most_routes most_services up foreign ours (StrangeOf given) (truth_of given) F X)
-      (keeps delay slack net laws is most_routes most_services up foreign ours (StrangeOf given) (truth_of given) F X (extras delay slack given hops few start long ours)) step steps x in (
-        has_it top now state,
-        steps_stay beats enough steps next (λ router. seconds_of router (as_step step ∷ []) + seconds router) (seconds_of x (as_step step ∷ []) + top) are.1
-            (record { arise = such.arise.1; good = such.good.1 }) (next_goes beats now seconds step steps are.0 such going) (omega (arith, sum, young))
-            (step_tracks beats seconds now going enough top step are.0 such.arise.0 (omega (arith, sum, young)) (λ f. ⊥)
-            (passes_by given x w top top (λ f. ⊥) (λ f. HeardBy now step f ⊎ ⊥) (facts_of (history_of now.histories x)) (omega arith) (λ f none. absurd none) state)),
-      )
+  tracks : Tracks net laws is most_routes most_services delay AllLast AllFly Rises GoodOnes x inside (ℕ × Place) (λ s. s.0) Says State (HasIt delay slack given x w)
+      (λ beats. start + delay ≤ beats)
+  tracks = record {
+    has = λ top history state. elim state.holds [
+      | inl held ↦ (held.0, held.1, held.2, held.3)
+      | inr missing ↦ let none = missing.1.2 in absurd none
+    ];
+    passes = λ top Before After history still state.
+        passes_by given x w top top (ByIts Before) (ByIts After) (facts_of history) (omega arith) (λ f before. (before.0, before.1, still (before.0, f) before.2)) state;
+    second = λ top young Late history state. second_own given x w top young (ByIts Late) history state;
+    leaves = λ beats histories event outside. leaves event outside;
+    later = λ beats more longer enough. omega (arith, longer, enough);
+    outside = λ beats enough histories number bytes is_step outside top history lasts.
+        packet_taken beats beats number bytes (omega arith) enough is_step.1 (by_outside beats number bytes outside) top history (lasts.0 mine);
+    landing = λ beats enough f same timely flies top history lasts.
+        packet_taken beats f.sent f.delivery.to.port f.delivery.bytes timely enough
+        (subst (λ (k : ℕ). f.delivery.to.port < length (ports_of net k)) same flies.delivery.place)
+        (inl (subst (λ (k : ℕ). SpeaksOf (record { router = k; port = f.delivery.to.port }) f.delivery.bytes f.sent) same flies.speaks)) top history (lasts.0 mine);
+  }
+    where
+      leaves : (event : Event) → Outside x event → LeavesPorts (Happens x event)
+      leaves Second outside = tt
+      leaves (Packet number bytes) outside = tt
+      leaves Start outside = outside
+      leaves Stop outside = outside
+      leaves (PortDown number) outside = outside
+      leaves (PortUp number) outside = outside
 
-  -- ---- beats
+      by_outside : (beats number : ℕ) (bytes : List ℕ) → TellsApart foreign bytes ⊎ TheirsAt (here number) bytes
+          → SpeaksOf (here number) bytes beats ⊎ TheirsAt (here number) bytes
+      by_outside beats number bytes (inl apart) = inl (inl (inr apart))
+      by_outside beats number bytes (inr theirs) = inr theirs
 
-  abbrev WaitsBeats : Wires → List (List WireStep) → Place → Type 0
-  WaitsBeats now beats f = (port : ℕ) × Source port f × InBeats net most_routes most_services delay (IsHeardOf port f) now beats
+  -- ---- a window in which each of them is heard
 
-  beats_track : (so_far : ℕ) (enough : start + delay ≤ so_far) (beats : List (List WireStep)) (now : Wires) (top : ℕ) → AllByRecursion (IsBeat net) beats
-      → EachBeat net most_routes most_services delay SuchBeat now beats → GoesOn so_far (λ router. 0) now
-      → seconds_in x beats + top < lifetime → At top (WaitsBeats now beats) now
-      → At (seconds_in x beats + top) (λ f. ⊥) (beats_of net most_routes most_services delay now beats)
-  beats_track so_far enough [] now top are such going young state =
-      passes_by given x w top (0 + top) (WaitsBeats now []) (λ f. ⊥) (facts_of (history_of now.histories x)) (omega arith) (λ f waits. waits.2) state
-  beats_track so_far enough (steps ∷ beats) now top are such going young state =
-      let next = beaten (wires_of net most_routes most_services delay now steps) in
-      let total : seconds_in x (steps ∷ beats) ≡ seconds_of x (map as_step steps) + seconds_in x beats = refl in
-      let after = steps_track so_far enough steps now (λ router. 0) top are.0.happens such.0 going (omega (arith, young, total))
-      (λ f port next. InBeats net most_routes most_services delay (IsHeardOf port f) (beaten next) beats) state in
-      let going_on = beat_goes net laws is most_routes most_services delay (Lasts delay slack net laws is most_routes most_services up foreign ours (StrangeOf given) (truth_of given) F X)
-      (Flies delay slack net laws is most_routes most_services up foreign ours (StrangeOf given) (truth_of given) F X) (Arises delay slack net laws is most_routes most_services up foreign ours (StrangeOf given) (truth_of given) F X)
-      (Good delay slack net laws is most_routes most_services up foreign ours (StrangeOf given) (truth_of given) F X)
-      (keeps delay slack net laws is most_routes most_services up foreign ours (StrangeOf given) (truth_of given) F X (extras delay slack given hops few start long ours)) so_far steps now are.0 such.0 going in
-      let sum : seconds_in x beats + (seconds_of x (map as_step steps) + top) ≡ seconds_in x (steps ∷ beats) + top = omega (arith, total) in
-      subst (λ (n : ℕ). At n (λ f. ⊥) (beats_of net most_routes most_services delay next beats)) sum
-      (beats_track (suc so_far) (omega (arith, enough)) beats next (seconds_of x (map as_step steps) + top) are.1 such.1 going_on (omega (arith, young, total)) after)
+  abbrev pub IsHeard : ℕ → Place → Wires → WireStep → Type 0
+  IsHeard port f = IsHeardAt net delay (here port) (Says (port, f))
 
-  -- a window in which each of them is heard
   module _ (so_far : ℕ) (enough : start + delay ≤ so_far) (window : List (List WireStep)) (now : Wires) (are : AllByRecursion (IsBeat net) window)
       (such : EachBeat net most_routes most_services delay SuchBeat now window)
       (going : GoesOn so_far (λ router. 0) now) (quick : seconds_in x window < lifetime)
-      (in_time : (port : ℕ) (f : Place) → Source port f → InBeats net most_routes most_services delay (IsHeardOf port f) now window)
+      (in_time : (port : ℕ) (f : Place) → Source port f → InBeats net most_routes most_services delay (IsHeard port f) now window)
       (first : (port : ℕ) × (f : Place) × Source port f) where
+    begins : State 0 (λ s. InBeats net most_routes most_services delay (IsHeard s.0 s.1) now window) (history_of now.histories x)
+    begins = record {
+      aged = λ h f e right. inr (h.offer.port, right.source, in_time h.offer.port f right.source);
+      holds = inr (first.1, (first.0, first.2, in_time first.0 first.1 first.2));
+    }
+
     abbrev last : Wires
     last = beats_of net most_routes most_services delay now window
 
-    young : seconds_in x window + 0 < lifetime
-    young = omega (arith, quick)
-
-    heard : At (seconds_in x window + 0) (λ f. ⊥) last
-    heard =
-        beats_track so_far enough window now 0 are such going young (record {
-          aged = λ h f e right. inr (h.offer.port, right.source, in_time h.offer.port f right.source);
-          holds = inr (first.1, (first.0, first.2, in_time first.0 first.1 first.2));
-        })
-
     pub window_right : HasIt delay slack given x w (history_of last.histories x)
-    window_right = has_it (seconds_in x window + 0) last heard
+    window_right =
+        window_has net laws is most_routes most_services delay AllLast AllFly Rises GoodOnes x inside (ℕ × Place) (λ s. s.0) Says State (HasIt delay slack given x w)
+        (λ beats. start + delay ≤ beats) tracks kept so_far enough window now are such going quick begins
 
     -- and at each moment of a beat more
     pub beat_right : (steps : List WireStep) → IsBeat net steps → SuchBeat last steps → GoesOn (length window + so_far) (λ router. 0) last
         → seconds_of x (map as_step steps) + seconds_in x window < lifetime
         → Along net most_routes most_services delay (λ n. HasIt delay slack given x w (history_of n.histories x)) last steps
-    beat_right steps beat such_then going_then shorter =
-        steps_stay (length window + so_far) (omega (arith, enough)) steps last (λ router. 0) (seconds_in x window + 0) beat.happens such_then going_then
-        (omega (arith, shorter)) heard
+    beat_right =
+        beat_has net laws is most_routes most_services delay AllLast AllFly Rises GoodOnes x inside (ℕ × Place) (λ s. s.0) Says State (HasIt delay slack given x w)
+        (λ beats. start + delay ≤ beats) tracks kept so_far enough window now are such going quick begins

@@ -43,7 +43,7 @@ use Rattle.ipx_laws.proofs.wires.BeatAfterBeat.{along_all, along_then, beats_go,
 use Rattle.ipx_laws.proofs.wires.HeardInBeats.{any_index, in_beats_so, announces_names}
 use Rattle.ipx_laws.proofs.wires.PartsOfBeats.{parted, window_quick, beat_quick, Begins, beats_more, each_at, along_each, along_both, beats_begin}
 use Rattle.ipx_laws.proofs.wires.ServedOnWires.{ends, nothing_more}
-use Rattle.ipx_laws.proofs.wires.ServiceHeardOnWires.{IsHeardAt, window_right, beat_right}
+use Rattle.ipx_laws.proofs.wires.ServiceHeardOnWires.{IsHeard, window_right, beat_right}
 use Rattle.ipx_laws.proofs.wires.ServicesOnWires.{AnyHistory, AnyWord, Flies, Speaks, Lasts, Arises, Good as GoodHistories, Extras, Goes, AllGood, Such, keeps, such_beats, steps_arise}
 use Rattle.ipx_laws.proofs.wires.WordsOnWires.{all_if}
 
@@ -311,7 +311,7 @@ module _ (delay slack : ℕ) (net : Internet) (laws : Layouts) (is : IsInternet 
         here number = record { router = r; port = number }
 
         abbrev Heard_at : ℕ × Node → Wires → WireStep → Type 0
-        Heard_at = IsHeardAt delay slack sought laws is most_routes room within listed start F
+        Heard_at = IsHeard delay slack sought laws is most_routes room within listed start F
 
         -- neighbours that say it so are heard in a window
         abbrev Neighbours : Type 0
@@ -345,17 +345,13 @@ module _ (delay slack : ℕ) (net : Internet) (laws : Layouts) (is : IsInternet 
         host_heard : (s : ℕ × Node) (host : Announcer) → host.node ≡ s.1 → (w : Wires) (step : WireStep)
             → IsHostHeard net most_routes most_services delay server (here s.0) host w step → Heard_at s w step
         host_heard s host same w (Occurs router (Packet number bytes)) (there, on, m, heard, says) =
-            (there, on, m, heard, subst (λ (n : Node). NamesService server n m) same (announces_names server host m says))
+            inr (there, on, m, heard, subst (λ (n : Node). NamesService server n m) same (announces_names server host m says))
         host_heard s host same w (Occurs router Second) none = absurd none
         host_heard s host same w (Occurs router Start) none = absurd none
         host_heard s host same w (Occurs router Stop) none = absurd none
         host_heard s host same w (Occurs router (PortDown number)) none = absurd none
         host_heard s host same w (Occurs router (PortUp number)) none = absurd none
         host_heard s host same w (Lands which) none = absurd none
-
-        router_heard : (s : ℕ × Node) (w : Wires) (step : WireStep) → IsRouterHeard net most_routes most_services delay server (here s.0) s.1 w step → Heard_at s w step
-        router_heard s w (Occurs router event) none = absurd none
-        router_heard s w (Lands which) heard = heard
 
         module _ (neighbours : Neighbours) (front rest : List (List WireStep)) (parts : beats ≡ front ++ rest) (late : due far ≤ length front) where
           cut : Parts front
@@ -394,7 +390,7 @@ module _ (delay slack : ℕ) (net : Internet) (laws : Layouts) (is : IsInternet 
               (hosts host.which announcer (here s.0) host.listed on refl behind cut.inside rest as_window cut.wide)
           heard s (inr n, on) =
               in_beats_so net most_routes most_services delay (IsRouterHeard net most_routes most_services delay server (here s.0) s.1) (Heard_at s)
-              (router_heard s) (at behind)
+              (λ w step heard. inl heard) (at behind)
               cut.inside (neighbours behind cut.inside rest as_window cut.wide flushed_behind s n)
 
           abbrev then_at : Wires

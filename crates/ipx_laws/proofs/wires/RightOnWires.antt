@@ -32,7 +32,7 @@ use Rattle.ipx_laws.proofs.tables.NoRouteIsBetter.{there_where_up, a_source}
 use Rattle.ipx_laws.proofs.tables.SaysWhatItKnows.{Wants, wants, SourceOf, found_there}
 use Rattle.ipx_laws.proofs.tables.TablesAreRight.{none_on, none_without}
 use Rattle.ipx_laws.proofs.wires.BeatAfterBeat.{along_all, along_then, beats_go, steps_each}
-use Rattle.ipx_laws.proofs.wires.HeardOnWires.{IsHeardOf, window_right, beat_right}
+use Rattle.ipx_laws.proofs.wires.HeardOnWires.{IsHeard as IsHeardThere, window_right, beat_right}
 use Rattle.ipx_laws.proofs.wires.HeardInBeats.{in_beats_so}
 use Rattle.ipx_laws.proofs.wires.PartsOfBeats.{parted, window_quick, beat_quick, Begins, beats_more, each_at, each_then, along_each, along_both, beats_begin}
 use Rattle.ipx_laws.proofs.wires.RealOnWires.{ends, nothing_more}
@@ -337,7 +337,7 @@ module _ (delay slack : ℕ) (given : Given) where
         }
 
         abbrev IsHeard : ℕ → Place → Wires → WireStep → Type 0
-        IsHeard port f = IsHeardOf delay slack given (suc n) most start long x w exact there ours mine port f
+        IsHeard port f = IsHeardThere delay slack given (suc n) most start long x w exact there ours mine port f
 
         heard : (port : ℕ) (f : Place) → SourceOf given x w.v port f → InBeats net most_routes most_services delay (IsHeard port f) (at behind) cut.inside
         heard port f source = elim (cases_lt f.router ours) [

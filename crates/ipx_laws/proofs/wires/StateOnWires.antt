@@ -12,19 +12,17 @@ use Rattle.ipx_wire.specs.declared.rip.Operation.{Operation}
 use Rattle.ipx_wire.specs.declared.rip.RipEntry.{RipEntry}
 use Rattle.ipx_router.specs.Facts.{routes_offered, route_facts, route_facts_of}
 use Rattle.ipx_router.specs.Heard.{Heard, HeardRip, HeardSap}
-use Rattle.ipx_router.specs.History.{Event, History, Start, Stop, Second, Packet, PortDown, PortUp, running}
+use Rattle.ipx_router.specs.History.{History, Second, running}
 use Rattle.ipx_router.specs.Port.{Port}
 use Rattle.ipx_router.specs.Routes.{route_reading, network_order}
 use Rattle.ipx_router.specs.declared.route_offer.RouteOffer.{RouteOffer}
 use Rattle.ipx_router.proofs.bounds.PacketsOfEachEvent.{network_total}
 use Rattle.ipx_router.proofs.tables.OffersOfAMessage.{facts_from-more}
 use Rattle.ipx_internet.specs.Internet.{Place, ports_of, port_of}
-use Rattle.ipx_internet.specs.Run.{Happens}
 use Rattle.ipx_internet.proofs.places.OneReceiverOfANode.{same_number}
 use Rattle.ipx_laws.specs.Apart.{AreOf, TellsOnlyOf}
 use Rattle.ipx_laws.specs.Gone.{most_ticks_gone}
 use Rattle.ipx_laws.specs.InTime.{Names}
-use Rattle.ipx_laws.specs.Meanwhile.{IsHeardOutside}
 use Rattle.ipx_laws.proofs.lists.SomeElement.{AnyIs, any_and_all, any_then, any_passes, any_mapped, the_one}
 use Rattle.ipx_laws.proofs.records.BestIsKept.{second_keeps}
 use Rattle.ipx_laws.proofs.tables.Given.{Given, FineOf}
@@ -156,15 +154,3 @@ module _ (given : Given) (x : ℕ) (w : Wants given x) where
         moves top Before After Now (facts ++ routes_offered ports number (port_of net g).node entries) split
         (entries_keep given x w.v w.off w.least w.wanted most_ticks_gone long_enough number g neighbour (λ h age. age ≤ top) (λ h. omega arith) (λ r. Unit {0})
         (λ h age. Before h) (Missing Before) entries facts all_right state) comes
-
-  -- ---- what is heard from outside
-
-  -- no event of another router is heard here
-  pub not_here : (histories : List History) (router : ℕ) (event : Event) → x ≢ router → (port : ℕ) (node : Node)
-      → IsHeardOutside net (record { router = x; port = port }) (Names node network) histories (Happens router event) → ⊥
-  not_here histories router (Packet number bytes) off port node heard = off (sym heard.0)
-  not_here histories router Second off port node heard = heard
-  not_here histories router Start off port node heard = heard
-  not_here histories router Stop off port node heard = heard
-  not_here histories router (PortDown number) off port node heard = heard
-  not_here histories router (PortUp number) off port node heard = heard
