@@ -30,8 +30,8 @@ pub fn each_path_once()
         → AllByRecursion IsRouter routers → IsBytes bytes → IsPacket bytes p → is_propagated p.header ≡ true → crossed_places < n
         → (((k : ℕ) × (slice_get (paths (tree_to routers n (root from bytes))) k ≡ Some path)) ↔ IsCrossing routers p from path) }
     ensures as_many { (routers : List Router) (from to : Place) (bytes : List ℕ) (p : Parts) (n : ℕ) (ways : List (List Place)) → IsInternet (net_of routers)
-        → AllByRecursion IsRouter routers → IsBytes bytes → IsPacket bytes p → is_propagated p.header ≡ true → crossed_places < n
-        → AreDifferent ways
+        → AllByRecursion IsRouter routers → IsBytes bytes → IsPacket bytes p → is_propagated p.header ≡ true
+        → crossed_places < n → AreDifferent ways
         → ((path : List Place) → (((k : ℕ) × (slice_get ways k ≡ Some path)) ↔ IsCrossing routers p from path × (end_of from path ≡ to)))
         → length (filter (λ c. is_at to c.to) (tree_to routers n (root from bytes))) ≡ length ways }
 {
