@@ -36,6 +36,7 @@ use Rattle.ipx_laws.specs.Regular.{HasRoomFor, HaveOneVoice, IsListedName, IsHea
 use Rattle.ipx_laws.specs.Servers.{Announcer, NamesOnly, Server, at_hops, IsAnnouncedOn, IsSilentOf, SaysAsAnnounced, IsForHere, SaysNoFalse, IsServed, announced, passed_on, IsAway, beside}
 use Rattle.ipx_laws.specs.Ups.{ups}
 use Rattle.ipx_laws.proofs.examples.Meanwhile.{are_bytes}
+use Rattle.ipx_laws.proofs.examples.Ticks.{of_two}
 
 -- ---- a file server at AAh, which the host of that node announces on a network, one hop away
 
@@ -87,14 +88,9 @@ pub is_tick : IsBusyTick segment 8 8 start (tick 0 (said 0x10))
 unfolding header_bytes address_bytes network_bytes service_bytes name_field packet_of header_at address_at items network_at entry_bytes entry_at rip_of sap_of sap_entry_at name_of
 is_tick = record {
   happens = ((omega arith, tt, tt), ((omega arith, omega arith, bytes), ((omega arith, tt, tt), (tt, tt))));
-  each = each;
+  each = of_two (λ router. seconds_of router (tick 0 (said 0x10)) ≡ 1) refl refl;
   quiet = refl;
 }
-  where
-    each : (router : ℕ) → router < 2 → seconds_of router (tick 0 (said 0x10)) ≡ 1
-    each zero within = refl
-    each (suc zero) within = refl
-    each (suc (suc router)) within = absurd (omega (arith, within))
 
 pub leaves : AllByRecursion LeavesPorts (tick 0 (said 0x10))
 leaves = (tt, (tt, (tt, (tt, tt))))

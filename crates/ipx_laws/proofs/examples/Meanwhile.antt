@@ -26,7 +26,7 @@ use Rattle.ipx_internet.proofs.examples.Words.{network, port_on, plain, node}
 use Rattle.ipx_laws.specs.Gone.{IsGone}
 use Rattle.ipx_laws.specs.Meanwhile.{message_of, IsWithoutRoute, SaysOnly, StaysGone, TellsNoRoute, LeavesPorts}
 use Rattle.ipx_laws.specs.Ups.{networks_up}
-use Rattle.ipx_laws.proofs.examples.Ticks.{said, before, networks}
+use Rattle.ipx_laws.proofs.examples.Ticks.{said, before, networks, of_two}
 
 abbrev entry : ℕ → RipEntry
 entry n = record { network = network n; hops = 1; ticks = 2 }
@@ -81,14 +81,9 @@ pub is_tick : IsBusyTick segment 8 8 (begun before) busy
 unfolding header_bytes address_bytes network_bytes packet_of header_at address_at items network_at entry_bytes entry_at rip_of sap_of
 is_tick = record {
   happens = ((omega arith, omega arith, tt), ((omega arith, omega arith, bytes), ((omega arith, tt, tt), ((omega arith, tt, tt), (tt, (tt, (tt, (tt, tt))))))));
-  each = each;
+  each = of_two (λ router. seconds_of router busy ≡ 1) refl refl;
   quiet = refl;
 }
-  where
-    each : (router : ℕ) → router < 2 → seconds_of router busy ≡ 1
-    each zero within = refl
-    each (suc zero) within = refl
-    each (suc (suc router)) within = absurd (omega (arith, within))
 
 -- where neither of the two has a port up on it, nobody has
 gone : (n : ℕ) (histories : List History) → is_among (network n) (networks_up segment histories 0) ≡ false → is_among (network n) (networks_up segment histories 1) ≡ false
@@ -126,14 +121,9 @@ pub is_calm : IsBusyTick segment 8 8 (begun before) calm
 unfolding header_bytes address_bytes network_bytes packet_of header_at address_at items network_at entry_bytes entry_at rip_of sap_of
 is_calm = record {
   happens = ((omega arith, omega arith, talk_bytes), ((omega arith, tt, tt), ((omega arith, tt, tt), (tt, (tt, (tt, (tt, tt)))))));
-  each = each;
+  each = of_two (λ router. seconds_of router calm ≡ 1) refl refl;
   quiet = refl;
 }
-  where
-    each : (router : ℕ) → router < 2 → seconds_of router calm ≡ 1
-    each zero within = refl
-    each (suc zero) within = refl
-    each (suc (suc router)) within = absurd (omega (arith, within))
 
 pub leaves : AllByRecursion LeavesPorts calm
 leaves = (tt, (tt, (tt, (tt, (tt, (tt, (tt, tt)))))))

@@ -43,8 +43,8 @@ use Rattle.ipx_laws.specs.Wires.{WireStep, Occurs, as_step, still, beats_of, IsB
 use Rattle.ipx_laws.proofs.examples.Leasts.{way}
 use Rattle.ipx_laws.proofs.examples.Meanwhile.{are_bytes}
 use Rattle.ipx_laws.proofs.examples.Rights.{is_port}
-use Rattle.ipx_laws.proofs.examples.Ticks.{said}
-use Rattle.ipx_laws.proofs.examples.Timely.{one_window}
+use Rattle.ipx_laws.proofs.examples.Ticks.{said, of_two}
+use Rattle.ipx_laws.proofs.examples.Timely.{one_window, one_is_quick}
 use Rattle.ipx_laws.proofs.outsiders.PortsOfOutsiders.{with_within}
 use Rattle.ipx_laws.proofs.tables.FifteenHopsSuffice.{of_few_routers}
 
@@ -74,31 +74,13 @@ unfolding header_bytes address_bytes network_bytes entry_bytes
 bytes = are_bytes advertised refl
 
 pub is_beat : IsBeat internet beat
-is_beat = record { happens = ((omega arith, omega arith, bytes), ((omega arith, tt, tt), ((omega arith, tt, tt), tt))); each = each }
-  where
-    each : (router : ℕ) → router < 2 → 1 ≤ seconds_of router (map as_step beat)
-    each zero within = omega arith
-    each (suc zero) within = omega arith
-    each (suc (suc router)) within = absurd (omega (arith, within))
+is_beat = record { happens = ((omega arith, omega arith, bytes), ((omega arith, tt, tt), ((omega arith, tt, tt), tt))); each = of_two (λ router. 1 ≤ seconds_of router (map as_step beat)) (omega arith) (omega arith) }
 
 pub leaves : EachWireStep LeavesPorts (beat ∷ [])
 leaves = ((tt, (tt, (tt, tt))), tt)
 
-few_seconds : (router : ℕ) → router < length internet → seconds_in router (beat ∷ []) < lifetime
-few_seconds zero within = omega arith
-few_seconds (suc zero) within = omega arith
-few_seconds (suc (suc router)) within = absurd (omega (arith, within))
-
 pub quick : AreQuick internet 1 (beat ∷ [])
-quick router before [] after there parts short = omega arith
-quick router before (w ∷ []) after there parts short =
-    let (none, whole) = one_window beat before (w ∷ []) after parts refl in
-    subst (λ (ws : List (List WireStep)). seconds_in router ws < lifetime) (sym whole) (few_seconds router there)
-quick router before (w ∷ v ∷ within) after there parts short =
-    let sum = ap length parts in
-    let one = length-append (before ++ w ∷ v ∷ within) after in
-    let two = length-append before (w ∷ v ∷ within) in
-    absurd (omega (arith, sum, one, two))
+quick = one_is_quick internet beat (of_two (λ router. seconds_in router (beat ∷ []) < lifetime) (omega arith) (omega arith))
 
 -- ---- what the outsider says is true, and its least way
 

@@ -37,6 +37,7 @@ use Rattle.ipx_laws.specs.Ups.{ups}
 use Rattle.ipx_laws.proofs.examples.Leasts.{way}
 use Rattle.ipx_laws.proofs.examples.Meanwhile.{are_bytes}
 use Rattle.ipx_laws.proofs.examples.Servers.{announcement, tick}
+use Rattle.ipx_laws.proofs.examples.Ticks.{of_two}
 
 -- ---- histories
 
@@ -148,16 +149,11 @@ unfolding header_bytes address_bytes network_bytes service_bytes name_field pack
 is_busy = (
   record {
     happens = ((omega arith, tt, tt), ((omega arith, omega arith, bytes), ((omega arith, tt, tt), (tt, tt))));
-    each = each;
+    each = of_two (λ router. seconds_of router tick ≡ 1) refl refl;
     quiet = refl;
   },
   tt,
 )
-  where
-    each : (router : ℕ) → router < 2 → seconds_of router tick ≡ 1
-    each zero within = refl
-    each (suc zero) within = refl
-    each (suc (suc router)) within = absurd (omega (arith, within))
 
 pub asks_apart : AllByRecursion (AllByRecursion (SaysOnly AsksApart)) (tick ∷ [])
 unfolding header_bytes address_bytes network_bytes service_bytes name_field packet_of header_at address_at items network_at entry_bytes entry_at rip_of sap_of sap_entry_at name_of

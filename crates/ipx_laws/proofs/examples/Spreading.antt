@@ -31,7 +31,8 @@ use Rattle.ipx_laws.specs.WireRegular.{IsHostHeard, IsRouterHeard, AdvertisesSer
 use Rattle.ipx_laws.specs.Wires.{WireStep, Occurs, Lands, as_step, still, beats_of, Along, EachBeat, IsBeat, EachWireStep, InBeats}
 use Rattle.ipx_laws.proofs.examples.Announcing.{host, the_port}
 use Rattle.ipx_laws.proofs.examples.Hosts.{server, said, names, bytes, says, names_it, the_host}
-use Rattle.ipx_laws.proofs.examples.Timely.{one_window}
+use Rattle.ipx_laws.proofs.examples.Ticks.{of_two}
+use Rattle.ipx_laws.proofs.examples.Timely.{one_window, one_is_quick}
 use Rattle.ipx_laws.proofs.tables.LeastWays.{ups_within}
 
 abbrev histories : List History
@@ -44,32 +45,13 @@ abbrev up : ℕ → List ℕ
 up = ups segment histories
 
 pub is_beat : IsBeat segment beat
-is_beat = record { happens = ((omega arith, omega arith, bytes), ((omega arith, tt, tt), ((omega arith, tt, tt), (tt, tt)))); each = each }
-  where
-    each : (router : ℕ) → router < 2 → 1 ≤ seconds_of router (map as_step beat)
-    each zero within = omega arith
-    each (suc zero) within = omega arith
-    each (suc (suc router)) within = absurd (omega (arith, within))
+is_beat = record { happens = ((omega arith, omega arith, bytes), ((omega arith, tt, tt), ((omega arith, tt, tt), (tt, tt)))); each = of_two (λ router. 1 ≤ seconds_of router (map as_step beat)) (omega arith) (omega arith) }
 
 pub leaves : EachWireStep LeavesPorts (beat ∷ [])
 leaves = ((tt, (tt, (tt, (tt, tt)))), tt)
 
--- both clocks have a second in it
-few_seconds : (router : ℕ) → router < length segment → seconds_in router (beat ∷ []) < lifetime
-few_seconds zero within = omega arith
-few_seconds (suc zero) within = omega arith
-few_seconds (suc (suc router)) within = absurd (omega (arith, within))
-
 pub quick : AreQuick segment 1 (beat ∷ [])
-quick router before [] after there parts short = omega arith
-quick router before (w ∷ []) after there parts short =
-    let (none, whole) = one_window beat before (w ∷ []) after parts refl in
-    subst (λ (ws : List (List WireStep)). seconds_in router ws < lifetime) (sym whole) (few_seconds router there)
-quick router before (w ∷ v ∷ within) after there parts short =
-    let sum = ap length parts in
-    let one = length-append (before ++ w ∷ v ∷ within) after in
-    let two = length-append before (w ∷ v ∷ within) in
-    absurd (omega (arith, sum, one, two))
+quick = one_is_quick segment beat (of_two (λ router. seconds_in router (beat ∷ []) < lifetime) (omega arith) (omega arith))
 
 -- ---- the host is heard
 

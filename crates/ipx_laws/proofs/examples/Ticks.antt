@@ -25,6 +25,12 @@ use Rattle.ipx_laws.specs.Gone.{IsGone}
 use Rattle.ipx_laws.specs.Real.{IsReal, next, led_over}
 use Rattle.ipx_laws.specs.Ups.{ups}
 
+-- what is so of both of two routers
+pub of_two : (Is : ℕ → Type 0) → Is 0 → Is 1 → (router : ℕ) → router < 2 → Is router
+of_two Is first second zero within = first
+of_two Is first second (suc zero) within = second
+of_two Is first second (suc (suc router)) within = absurd (omega (arith, within))
+
 abbrev pub said : ℕ → ℕ → List RipEntry → List ℕ
 said n k entries = rip_packet (own_address (port_on n k)) (everyone (port_on n k)) Response entries
 
@@ -56,30 +62,15 @@ both_have = refl
 -- each has its second, and what the first says of it then is handed out
 pub is_tick : IsTick segment 8 8 (begun before) (a_tick 2 1)
 unfolding header_bytes address_bytes network_bytes packet_of header_at address_at items network_at entry_bytes entry_at rip_of sap_of
-is_tick = record { passes = ((omega arith, refl), ((omega arith, refl), (tt, tt))); each = each; quiet = refl }
-  where
-    each : (router : ℕ) → router < 2 → seconds_of router (a_tick 2 1) ≡ 1
-    each zero within = refl
-    each (suc zero) within = refl
-    each (suc (suc router)) within = absurd (omega (arith, within))
+is_tick = record { passes = ((omega arith, refl), ((omega arith, refl), (tt, tt))); each = of_two (λ router. seconds_of router (a_tick 2 1) ≡ 1) refl refl; quiet = refl }
 
 -- the second router may have its second first
 pub is_order : IsOrder segment (1 ∷ 0 ∷ [])
-is_order = record { there = (omega arith, (omega arith, tt)); once = once }
-  where
-    once : (router : ℕ) → router < 2 → length (filter (λ other. other == router) (1 ∷ 0 ∷ [])) ≡ 1
-    once zero within = refl
-    once (suc zero) within = refl
-    once (suc (suc router)) within = absurd (omega (arith, within))
+is_order = record { there = (omega arith, (omega arith, tt)); once = of_two (λ router. length (filter (λ other. other == router) (1 ∷ 0 ∷ [])) ≡ 1) refl refl }
 
 pub is_tick_too : IsTick segment 8 8 (begun before) (a_tick_by (1 ∷ 0 ∷ []) 1)
 unfolding header_bytes address_bytes network_bytes packet_of header_at address_at items network_at entry_bytes entry_at rip_of sap_of
-is_tick_too = record { passes = ((omega arith, refl), ((omega arith, refl), (tt, tt))); each = each; quiet = refl }
-  where
-    each : (router : ℕ) → router < 2 → seconds_of router (a_tick_by (1 ∷ 0 ∷ []) 1) ≡ 1
-    each zero within = refl
-    each (suc zero) within = refl
-    each (suc (suc router)) within = absurd (omega (arith, within))
+is_tick_too = record { passes = ((omega arith, refl), ((omega arith, refl), (tt, tt))); each = of_two (λ router. seconds_of router (a_tick_by (1 ∷ 0 ∷ []) 1) ≡ 1) refl refl; quiet = refl }
 
 -- where a forged response waits as well, which says that 99h is one hop from the first router, a tick takes one delivery more
 abbrev forged : Run

@@ -13,7 +13,7 @@ use Rattle.ipx_wire.specs.declared.network.Network.{Network}
 use Rattle.ipx_table.specs.Alive.{lifetime}
 use Rattle.ipx_router.specs.History.{History, Start, Second}
 use Rattle.ipx_router.proofs.port_values.PortOfEachNumber.{one_up}
-use Rattle.ipx_internet.specs.Internet.{Place, ports_of, port_of, network_of}
+use Rattle.ipx_internet.specs.Internet.{Internet, Place, ports_of, port_of, network_of}
 use Rattle.ipx_internet.specs.Ticks.{seconds_of}
 use Rattle.ipx_internet.proofs.examples.Waiting.{segment}
 use Rattle.ipx_internet.proofs.examples.Words.{network, at}
@@ -23,6 +23,7 @@ use Rattle.ipx_laws.specs.Least.{Way, least_route, way_of}
 use Rattle.ipx_laws.specs.Tables.{route_of}
 use Rattle.ipx_laws.specs.Ups.{ups}
 use Rattle.ipx_laws.specs.Wires.{WireStep, Occurs, Lands, as_step, still, beats_of, Along, EachBeat, IsBeat, EachWireStep, InBeats}
+use Rattle.ipx_laws.proofs.examples.Ticks.{of_two}
 use Rattle.ipx_laws.proofs.tables.LeastWays.{ups_within}
 
 abbrev history : History
@@ -38,12 +39,7 @@ abbrev up : ℕ → List ℕ
 up = ups segment histories
 
 pub is_beat : IsBeat segment beat
-is_beat = record { happens = ((omega arith, tt, tt), ((omega arith, tt, tt), (tt, (tt, tt)))); each = each }
-  where
-    each : (router : ℕ) → router < 2 → 1 ≤ seconds_of router (map as_step beat)
-    each zero within = omega arith
-    each (suc zero) within = omega arith
-    each (suc (suc router)) within = absurd (omega (arith, within))
+is_beat = record { happens = ((omega arith, tt, tt), ((omega arith, tt, tt), (tt, (tt, tt)))); each = of_two (λ router. 1 ≤ seconds_of router (map as_step beat)) (omega arith) (omega arith) }
 
 pub leaves : EachWireStep LeavesPorts (beat ∷ [])
 leaves = ((tt, (tt, (tt, (tt, tt)))), tt)
@@ -65,22 +61,20 @@ one_window x (b ∷ before) within after parts wide =
     let two = length-append (b ∷ before) within in
     absurd (omega (arith, sum, one, two, wide))
 
--- both clocks have a second in it
-few_seconds : (router : ℕ) → router < length segment → seconds_in router (beat ∷ []) < lifetime
-few_seconds zero within = omega arith
-few_seconds (suc zero) within = omega arith
-few_seconds (suc (suc router)) within = absurd (omega (arith, within))
-
-pub quick : AreQuick segment 1 (beat ∷ [])
-quick router before [] after there parts short = omega arith
-quick router before (w ∷ []) after there parts short =
-    let (none, whole) = one_window beat before (w ∷ []) after parts refl in
-    subst (λ (ws : List (List WireStep)). seconds_in router ws < lifetime) (sym whole) (few_seconds router there)
-quick router before (w ∷ v ∷ within) after there parts short =
+-- nor is one beat long, where each clock has fewer seconds in it than an offer lives
+pub one_is_quick : (net : Internet) (steps : List WireStep) → ((router : ℕ) → router < length net → seconds_in router (steps ∷ []) < lifetime) → AreQuick net 1 (steps ∷ [])
+one_is_quick net steps few router before [] after there parts short = omega arith
+one_is_quick net steps few router before (w ∷ []) after there parts short =
+    let (none, whole) = one_window steps before (w ∷ []) after parts refl in
+    subst (λ (ws : List (List WireStep)). seconds_in router ws < lifetime) (sym whole) (few router there)
+one_is_quick net steps few router before (w ∷ v ∷ within) after there parts short =
     let sum = ap length parts in
     let one = length-append (before ++ w ∷ v ∷ within) after in
     let two = length-append before (w ∷ v ∷ within) in
     absurd (omega (arith, sum, one, two))
+
+pub quick : AreQuick segment 1 (beat ∷ [])
+quick = one_is_quick segment beat (of_two (λ router. seconds_in router (beat ∷ []) < lifetime) (omega arith) (omega arith))
 
 abbrev Heard : Place → Place → Network → List (List WireStep) → List (List WireStep) → Type 0
 Heard from to n before within =

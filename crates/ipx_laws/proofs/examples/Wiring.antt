@@ -19,7 +19,7 @@ use Rattle.ipx_laws.specs.Meanwhile.{IsWithoutRoute, SaysOnly}
 use Rattle.ipx_laws.specs.Ups.{networks_up}
 use Rattle.ipx_laws.specs.Wires.{WireStep, Occurs, Lands, as_step, still, beaten, wires_of, beats_of, KeepGone, IsBeat, AreBeats, EachWireStep}
 use Rattle.ipx_laws.proofs.examples.Meanwhile.{news, may, are_bytes}
-use Rattle.ipx_laws.proofs.examples.Ticks.{before, networks}
+use Rattle.ipx_laws.proofs.examples.Ticks.{before, networks, of_two}
 
 abbrev first : List WireStep
 first = Occurs 1 (PortDown 1) ∷ Occurs 0 (Packet 0 news) ∷ Occurs 1 Second ∷ Occurs 0 Second ∷ []
@@ -40,20 +40,10 @@ bytes = are_bytes news refl
 
 -- each has a second in each
 is_first : IsBeat segment first
-is_first = record { happens = ((omega arith, omega arith, tt), ((omega arith, omega arith, bytes), ((omega arith, tt, tt), ((omega arith, tt, tt), tt)))); each = each }
-  where
-    each : (router : ℕ) → router < 2 → 1 ≤ seconds_of router (map as_step first)
-    each zero within = omega arith
-    each (suc zero) within = omega arith
-    each (suc (suc router)) within = absurd (omega (arith, within))
+is_first = record { happens = ((omega arith, omega arith, tt), ((omega arith, omega arith, bytes), ((omega arith, tt, tt), ((omega arith, tt, tt), tt)))); each = of_two (λ router. 1 ≤ seconds_of router (map as_step first)) (omega arith) (omega arith) }
 
 is_second : IsBeat segment second
-is_second = record { happens = (tt, ((omega arith, tt, tt), ((omega arith, tt, tt), (tt, ((omega arith, tt, tt), tt))))); each = each }
-  where
-    each : (router : ℕ) → router < 2 → 1 ≤ seconds_of router (map as_step second)
-    each zero within = omega arith
-    each (suc zero) within = omega arith
-    each (suc (suc router)) within = absurd (omega (arith, within))
+is_second = record { happens = (tt, ((omega arith, tt, tt), ((omega arith, tt, tt), (tt, ((omega arith, tt, tt), tt))))); each = of_two (λ router. 1 ≤ seconds_of router (map as_step second)) (omega arith) (omega arith) }
 
 pub are_beats : AreBeats segment both
 are_beats = (is_first, (is_second, tt))
