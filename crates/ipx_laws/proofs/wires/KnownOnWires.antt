@@ -41,7 +41,7 @@ use Rattle.ipx_laws.proofs.services.ServiceIsTold.{told_there}
 use Rattle.ipx_laws.proofs.services.SpokenOfAServer.{IsFine, waits_so}
 use Rattle.ipx_laws.proofs.wires.BeatAfterBeat.{along_all, along_then, beats_go, steps_each}
 use Rattle.ipx_laws.proofs.wires.HeardInBeats.{any_index, in_beats_so, announces_names}
-use Rattle.ipx_laws.proofs.wires.PartsOfBeats.{parted, window_quick, beat_quick, Begins, beats_more, each_at, along_each, along_both, beats_begin}
+use Rattle.ipx_laws.proofs.wires.PartsOfBeats.{Cut, cut_of, window_quick, beat_quick, beats_more, along_each, along_both, each_behind, sent_before}
 use Rattle.ipx_laws.proofs.wires.ServedOnWires.{ends, nothing_more}
 use Rattle.ipx_laws.proofs.wires.ServiceHeardOnWires.{IsHeard, window_right, beat_right}
 use Rattle.ipx_laws.proofs.wires.ServicesOnWires.{AnyHistory, AnyWord, Flies, Speaks, Lasts, Arises, Good as GoodHistories, Extras, Goes, AllGood, Such, keeps, such_beats, steps_arise}
@@ -92,20 +92,6 @@ module _ (delay slack : ℕ) (net : Internet) (laws : Layouts) (is : IsInternet 
     reals =
         ends delay slack net laws is most_routes most_services up server L histories are stay deliveries fly over front (part_of (IsBeat net) all)
         (part_of StepsLeave leave) (part_of StepsSay say) (part_of StepsName named)
-
-    -- what flies was sent before
-    sent_before : 1 ≤ length front → Begins net most_routes most_services delay (length front) (at front)
-    sent_before some = by front some
-      where
-        by : (f : List (List WireStep)) → 1 ≤ length f → Begins net most_routes most_services delay (length f) (at f)
-        by [] none = absurd (omega (arith, none))
-        by (steps ∷ more) some =
-            let sum : length (steps ∷ more) + 0 ≡ length (steps ∷ more) = omega arith in
-            subst (λ (n : ℕ). Begins net most_routes most_services delay n (at (steps ∷ more))) sum
-            (beats_begin net most_routes most_services delay 0 (flying histories deliveries) steps more (record {
-              count = refl;
-              stamped = all_mapped (λ f. f.sent ≤ 0) (λ d. record { delivery = d; sent = 0 }) deliveries (all_of (λ d. 0 ≤ 0) (λ d. omega arith) deliveries);
-            }))
 
   beat_is : (front : List (List WireStep)) (steps : List WireStep) (rest : List (List WireStep)) → beats ≡ front ++ steps ∷ rest → IsBeat net steps
   beat_is front steps rest parts = (rest_of front (steps ∷ rest) parts (IsBeat net) all).0
@@ -227,11 +213,8 @@ module _ (delay slack : ℕ) (net : Internet) (laws : Layouts) (is : IsInternet 
         module _ (late : start ≤ length front) where
           good_in : EachBeat net most_routes most_services delay GoodBeat (at front) part
           good_in =
-              each_at net most_routes most_services delay GoodBeat (flying histories deliveries) front part (λ earlier steps later e.
-              let sum = length-append front earlier in
-              moments (front ++ earlier) steps (later ++ rest) (parts ∙ ap (λ (p : List (List WireStep)). front ++ (p ++ rest)) e ∙ ap (λ (p : List
-              (List WireStep)). front ++ p)
-              (append_assoc earlier (steps ∷ later) rest) ∙ sym (append_assoc front earlier (steps ∷ (later ++ rest)))) (omega (arith, late, sum)))
+              each_behind net most_routes most_services delay GoodBeat (flying histories deliveries) beats front part rest parts (λ earlier steps later e longer.
+              moments earlier steps later e (omega (arith, late, longer)))
 
           such_in : EachBeat net most_routes most_services delay SuchOnes (at front) part
           such_in =
@@ -245,7 +228,7 @@ module _ (delay slack : ℕ) (net : Internet) (laws : Layouts) (is : IsInternet 
         stage =
             let real = reals zeroth rest parts in
             let number = real.count in
-            let begins = sent_before zeroth rest parts (omega (arith, count)) in
+            let begins = sent_before net most_routes most_services delay histories deliveries zeroth (omega (arith, count)) in
             record {
               count = omega (arith, number, count);
               are = real.are;
@@ -276,32 +259,6 @@ module _ (delay slack : ℕ) (net : Internet) (laws : Layouts) (is : IsInternet 
             (of_part zeroth before after part (IsBeat net) all) (such_in zeroth before after part (omega (arith, count))) stage)
 
       -- ---- a router of so many hops
-
-      -- a part in which nothing of the time before still flies, and a window
-      record Parts (front : List (List WireStep)) : Type 0 where
-        zeroth : List (List WireStep)
-        before : List (List WireStep)
-        inside : List (List WireStep)
-        same : front ≡ (zeroth ++ before) ++ inside
-        count : length zeroth ≡ start
-        flushed : delay ≤ length before
-        wide : length inside ≡ window
-
-      parts_of : (front : List (List WireStep)) → due far ≤ length front → Parts front
-      parts_of front late =
-          let (zeroth, tail, one, count) = parted start front (omega (arith, late)) in
-          let sum : length front ≡ length zeroth + length tail = ap length one ∙ length-append zeroth tail in
-          let (before, inside, two, flush) = parted (length tail - window) tail (omega arith) in
-          let total : length tail ≡ length before + length inside = ap length two ∙ length-append before inside in
-          record {
-            zeroth = zeroth;
-            before = before;
-            inside = inside;
-            same = one ∙ ap (λ (t : List (List WireStep)). zeroth ++ t) two ∙ sym (append_assoc zeroth before inside);
-            count = count;
-            flushed = omega (arith, late, sum, count, flush);
-            wide = omega (arith, late, sum, count, flush, total);
-          }
 
       module _ (r : ℕ) (within : r < length net) (fewest : IsFewest net up server r far) where
         abbrev sought : Sought
@@ -354,8 +311,8 @@ module _ (delay slack : ℕ) (net : Internet) (laws : Layouts) (is : IsInternet 
         host_heard s host same w (Lands which) none = absurd none
 
         module _ (neighbours : Neighbours) (front rest : List (List WireStep)) (parts : beats ≡ front ++ rest) (late : due far ≤ length front) where
-          cut : Parts front
-          cut = parts_of front late
+          cut : Cut start delay window front
+          cut = cut_of start delay window front (omega (arith, late))
 
           abbrev behind : List (List WireStep)
           behind = cut.zeroth ++ cut.before
@@ -511,19 +468,15 @@ module _ (delay slack : ℕ) (net : Internet) (laws : Layouts) (is : IsInternet 
             (record { router = r; port = s.0 }) node)
             (at before) inside) (sym n.node)
             (routers n.from (record { router = r; port = s.0 }) before inside after link.there link.here (λ same. link.other (sym same)) (sym link.network) whole wide
-            (each_at net most_routes most_services delay (Along net most_routes most_services delay (AdvertisesService net most_routes most_services delay server n.from))
-            (flying histories deliveries) before inside (λ earlier steps later e.
-            let sum = length-append before earlier in
-            let parts = whole ∙ append_assoc before inside after ∙ ap (λ (p : List (List WireStep)). before ++ (p ++ after)) e
-            ∙ ap (λ (p : List (List WireStep)). before ++ p) (append_assoc earlier (steps ∷ later) after) ∙ sym (append_assoc before earlier (steps ∷ (later ++ after))) in
+            (each_behind net most_routes most_services delay (Along net most_routes most_services delay (AdvertisesService net most_routes most_services delay server n.from))
+            (flying histories deliveries) beats before inside after (whole ∙ append_assoc before inside after) (λ earlier steps later e longer.
             along_then net most_routes most_services delay (λ now. Right far reached unlike now × AllFine n.from.router now)
             (AdvertisesService net most_routes most_services delay server n.from)
             (λ now both. advertises s.0 n.less n.from n.more link n.nearer now both.1 (both.0 n.from.router there
             (record { hops = n.less; near = less; fewest = n.nearer })))
-            (at (before ++ earlier)) steps
-            (along_both net most_routes most_services delay (Right far reached unlike) (AllFine n.from.router) (at (before ++ earlier)) steps
-            (moments (before ++ earlier) steps (later ++ after) parts (omega (arith, sum, enough)))
-            (fine_in n.from.router there (before ++ earlier) steps (later ++ after) parts (omega (arith, sum, enough)))))))
+            (at earlier) steps
+            (along_both net most_routes most_services delay (Right far reached unlike) (AllFine n.from.router) (at earlier) steps
+            (moments earlier steps later e (omega (arith, longer, enough))) (fine_in n.from.router there earlier steps later e (omega (arith, longer, enough)))))))
           where
             less : n.less < far
             less = let more = n.more in omega (arith, more)

@@ -1,14 +1,14 @@
 -- Beats in parts: what is so of each of them, of those before and of those behind; how many have ended, and how old what flies is.
-use Rattle.std.proofs.Common.{◌≡◌, refl, sym, ap, subst, ℕ, zero, suc, ◌+◌, ◌<◌, ◌≤◌, nat_le, Bool, true, false, if◌then◌else◌, List, [], ◌∷◌, ◌++◌, length, map, flat_map, Option, None, Some, slice_get, arith, append_assoc, append-nil, length-append, ◌∙◌}
+use Rattle.std.proofs.Common.{◌≡◌, refl, sym, ap, subst, ℕ, zero, suc, ◌+◌, ◌-◌, ◌<◌, ◌≤◌, nat_le, Bool, true, false, if◌then◌else◌, List, [], ◌∷◌, ◌++◌, length, map, flat_map, Option, None, Some, slice_get, arith, append_assoc, append-nil, length-append, ◌∙◌}
 use Rattle.std.specs.List.{AllByRecursion}
 use Rattle.ipx_table.specs.Alive.{lifetime}
-use Rattle.ipx_router.specs.History.{Event, Packet}
+use Rattle.ipx_router.specs.History.{Event, History, Packet}
 use Rattle.ipx_internet.specs.Internet.{Internet}
 use Rattle.ipx_internet.specs.Ticks.{seconds_of}
-use Rattle.ipx_internet.specs.Queue.{deliveries_of, sends_at}
+use Rattle.ipx_internet.specs.Queue.{Delivery, deliveries_of, sends_at}
 use Rattle.ipx_internet.proofs.lists.EachElement.{all_of, all_then, all-append, all_mapped}
 use Rattle.ipx_laws.specs.InTime.{seconds_in, AreQuick}
-use Rattle.ipx_laws.specs.Wires.{as_step, Flight, Wires, WireStep, Occurs, Lands, beaten, occurs, lands, wired, wires_of, beats_of, Along, EachBeat}
+use Rattle.ipx_laws.specs.Wires.{as_step, Flight, Wires, WireStep, Occurs, Lands, flying, beaten, occurs, lands, wired, wires_of, beats_of, Along, EachBeat}
 
 -- a list in two parts, the first of that length
 pub parted : {X : Type 0} (k : ℕ) (xs : List X) → k ≤ length xs → (front : List X) × (back : List X) × (xs ≡ front ++ back) × (length front ≡ k)
@@ -16,6 +16,32 @@ parted zero xs some = ([], xs, refl, refl)
 parted (suc k) [] some = absurd (omega (arith, some))
 parted (suc k) (x ∷ xs) some =
     let (front, back, same, count) = parted k xs (omega (arith, some)) in (x ∷ front, back, ap (λ (ys : List _). x ∷ ys) same, ap suc count)
+
+-- beats up to one, others while which all that flew then comes too late, and a window
+pub record Cut (start delay window : ℕ) (front : List (List WireStep)) : Type 0 where
+  pub zeroth : List (List WireStep)
+  pub before : List (List WireStep)
+  pub inside : List (List WireStep)
+  pub same : front ≡ (zeroth ++ before) ++ inside
+  pub count : length zeroth ≡ start
+  pub flushed : delay ≤ length before
+  pub wide : length inside ≡ window
+
+pub cut_of : (start delay window : ℕ) (front : List (List WireStep)) → start + delay + window ≤ length front → Cut start delay window front
+cut_of start delay window front late =
+    let (zeroth, tail, one, count) = parted start front (omega (arith, late)) in
+    let sum : length front ≡ length zeroth + length tail = ap length one ∙ length-append zeroth tail in
+    let (before, inside, two, flush) = parted (length tail - window) tail (omega arith) in
+    let total : length tail ≡ length before + length inside = ap length two ∙ length-append before inside in
+    record {
+      zeroth = zeroth;
+      before = before;
+      inside = inside;
+      same = one ∙ ap (λ (t : List (List WireStep)). zeroth ++ t) two ∙ sym (append_assoc zeroth before inside);
+      count = count;
+      flushed = omega (arith, late, sum, count, flush);
+      wide = omega (arith, late, sum, count, flush, total);
+    }
 
 module _ (net : Internet) (most_routes most_services delay : ℕ) where
   abbrev by : Wires → List (List WireStep) → Wires
@@ -47,6 +73,17 @@ module _ (net : Internet) (most_routes most_services delay : ℕ) where
         (each_at Is w (front ++ steps ∷ []) rest (λ earlier next later e.
         subst (λ (f : List (List WireStep)). Is (by w f) next) (sym (append_assoc front (steps ∷ []) earlier)) (so (steps ∷ earlier) next later (ap (λ r. steps ∷ r) e)))),
   )
+
+  -- what is so of each that as many others come before is so of each of a part
+  pub each_behind : (Is : Wires → List WireStep → Type 0) (w : Wires) (beats front part rest : List (List WireStep)) → beats ≡ front ++ (part ++ rest)
+      → ((earlier : List (List WireStep)) (steps : List WireStep) (later : List (List WireStep)) → beats ≡ earlier ++ steps ∷ later → length front ≤ length earlier
+      → Is (by w earlier) steps)
+      → Each Is (by w front) part
+  each_behind Is w beats front part rest parts so =
+      each_at Is w front part (λ earlier steps later e.
+      let sum = length-append front earlier in
+      so (front ++ earlier) steps (later ++ rest) (parts ∙ ap (λ (p : List (List WireStep)). front ++ (p ++ rest)) e ∙ ap (λ (p : List (List WireStep)). front ++ p)
+      (append_assoc earlier (steps ∷ later) rest) ∙ sym (append_assoc front earlier (steps ∷ (later ++ rest)))) (omega (arith, sum)))
 
   -- and says something else
   pub each_then : (Is So : Wires → List WireStep → Type 0) → ((w : Wires) (steps : List WireStep) → Is w steps → So w steps) → (w : Wires)
@@ -141,6 +178,18 @@ module _ (net : Internet) (most_routes most_services delay : ℕ) where
       (beats_begin (suc beats) next more rest (record {
         count = ap suc after.count;
         stamped = all_then (λ f. f.sent ≤ beats) (λ f. f.sent ≤ suc beats) (λ f less. omega (arith, less)) _ after.stamped;
+      }))
+
+  -- so it is behind any beats, whatever flew at first
+  pub sent_before : (histories : List History) (deliveries : List Delivery) (front : List (List WireStep)) → 1 ≤ length front
+      → Begins (length front) (by (flying histories deliveries) front)
+  sent_before histories deliveries [] none = absurd (omega (arith, none))
+  sent_before histories deliveries (steps ∷ more) some =
+      let sum : length (steps ∷ more) + 0 ≡ length (steps ∷ more) = omega arith in
+      subst (λ (n : ℕ). Begins n (by (flying histories deliveries) (steps ∷ more))) sum
+      (beats_begin 0 (flying histories deliveries) steps more (record {
+        count = refl;
+        stamped = all_mapped (λ f. f.sent ≤ 0) (λ d. record { delivery = d; sent = 0 }) deliveries (all_of (λ d. 0 ≤ 0) (λ d. omega arith) deliveries);
       }))
 
 -- ---- how long they are by a clock

@@ -34,7 +34,7 @@ use Rattle.ipx_laws.proofs.tables.TablesAreRight.{none_on, none_without}
 use Rattle.ipx_laws.proofs.wires.BeatAfterBeat.{along_all, along_then, beats_go, steps_each}
 use Rattle.ipx_laws.proofs.wires.HeardOnWires.{IsHeard as IsHeardThere, window_right, beat_right}
 use Rattle.ipx_laws.proofs.wires.HeardInBeats.{in_beats_so}
-use Rattle.ipx_laws.proofs.wires.PartsOfBeats.{parted, window_quick, beat_quick, Begins, beats_more, each_at, each_then, along_each, along_both, beats_begin}
+use Rattle.ipx_laws.proofs.wires.PartsOfBeats.{Cut, cut_of, window_quick, beat_quick, beats_more, each_then, along_each, along_both, each_behind, sent_before}
 use Rattle.ipx_laws.proofs.wires.RealOnWires.{ends, nothing_more}
 use Rattle.ipx_laws.proofs.wires.SpokenOnWires.{AnyHistory, AnyEntry, Flies, Speaks, Lasts, Arises, Good, Goes, AllGood, Such, keeps, such_beats, steps_arise, comes_then, Told}
 use Rattle.ipx_laws.proofs.wires.WordsOnWires.{StrangeOf, truth_of, Lasting, HasIt, Fit, Extra, as_in_ticks, extras, advertises, a_hop, routes_in}
@@ -110,21 +110,6 @@ module _ (delay slack : ℕ) (given : Given) where
       reals =
           ends delay slack net laws is most_routes most_services up foreign ours (StrangeOf given) (truth_of given) histories are stay stopped deliveries fly over front (part_of (IsBeat net) all)
           (part_of StepsLeave leave) (part_of StepsSay say)
-
-      -- what flies was sent before
-      sent_before : 1 ≤ length front → Begins net most_routes most_services delay (length front) (at front)
-      sent_before some = by front some
-        where
-          by : (f : List (List WireStep)) → 1 ≤ length f → Begins net most_routes most_services delay (length f) (at f)
-          by [] none = absurd (omega (arith, none))
-          by (steps ∷ more) some =
-              let sum : length (steps ∷ more) + 0 ≡ length (steps ∷ more) = omega arith in
-              subst (λ (n : ℕ). Begins net most_routes most_services delay n (at (steps ∷ more))) sum
-              (beats_begin net most_routes most_services delay 0 (flying histories deliveries) steps more (record {
-                count = refl;
-                stamped =
-                    all_mapped (λ f. f.sent ≤ 0) (λ d. record { delivery = d; sent = 0 }) deliveries (all_of (λ d. 0 ≤ 0) (λ d. omega arith) deliveries);
-              }))
 
     -- ---- where those of fewer hops are right
 
@@ -202,10 +187,8 @@ module _ (delay slack : ℕ) (given : Given) where
         module _ (late : start ≤ length front) where
           good_in : EachBeat net most_routes most_services delay GoodBeat (at front) part
           good_in =
-              each_at net most_routes most_services delay GoodBeat (flying histories deliveries) front part (λ earlier steps later e.
-              let sum = length-append front earlier in
-              moments (front ++ earlier) steps (later ++ rest) (parts ∙ ap (λ (p : List (List WireStep)). front ++ (p ++ rest)) e ∙ ap (λ (p : List (List WireStep)). front ++ p)
-              (append_assoc earlier (steps ∷ later) rest) ∙ sym (append_assoc front earlier (steps ∷ (later ++ rest)))) (omega (arith, late, sum)))
+              each_behind net most_routes most_services delay GoodBeat (flying histories deliveries) beats front part rest parts (λ earlier steps later e longer.
+              moments earlier steps later e (omega (arith, late, longer)))
 
           such_in : EachBeat net most_routes most_services delay SuchBeat (at front) part
           such_in =
@@ -218,7 +201,7 @@ module _ (delay slack : ℕ) (given : Given) where
         stage =
             let real = reals zeroth rest parts in
             let number = real.count in
-            let begins = sent_before zeroth rest parts (omega (arith, count)) in
+            let begins = sent_before net most_routes most_services delay histories deliveries zeroth (omega (arith, count)) in
             record {
               count = omega (arith, number, count);
               are = real.are;
@@ -251,37 +234,10 @@ module _ (delay slack : ℕ) (given : Given) where
 
       -- ---- one hop more
 
-      -- a part in which nothing of the time before still flies, and a window
-      record Parts (front : List (List WireStep)) : Type 0 where
-        zeroth : List (List WireStep)
-        before : List (List WireStep)
-        inside : List (List WireStep)
-        same : front ≡ (zeroth ++ before) ++ inside
-        count : length zeroth ≡ start
-        flushed : delay ≤ length before
-        wide : length inside ≡ window
-
-      parts_of : (front : List (List WireStep)) → steps_right_from (suc n) ≤ length front → Parts front
-      parts_of front late =
-          let step : suc n * (window + delay) ≡ window + delay + n * (window + delay) = omega arith in
-          let (zeroth, tail, one, count) = parted start front (omega (arith, late, step)) in
-          let sum : length front ≡ length zeroth + length tail = ap length one ∙ length-append zeroth tail in
-          let (before, inside, two, flush) = parted (length tail - window) tail (omega arith) in
-          let total : length tail ≡ length before + length inside = ap length two ∙ length-append before inside in
-          record {
-            zeroth = zeroth;
-            before = before;
-            inside = inside;
-            same = one ∙ ap (λ (t : List (List WireStep)). zeroth ++ t) two ∙ sym (append_assoc zeroth before inside);
-            count = count;
-            flushed = omega (arith, late, step, sum, count, flush);
-            wide = omega (arith, late, step, sum, count, flush, total);
-          }
-
       module _ (x : ℕ) (mine : x < ours) (w : Wants given x) (exact : w.v.hops ≡ suc n) (front rest : List (List WireStep)) (parts : beats ≡ front ++ rest)
           (late : steps_right_from (suc n) ≤ length front) where
-        cut : Parts front
-        cut = parts_of front late
+        cut : Cut start delay window front
+        cut = let more : suc n * (window + delay) ≡ window + delay + n * (window + delay) = omega arith in cut_of start delay window front (omega (arith, late, more))
 
         abbrev behind : List (List WireStep)
         behind = cut.zeroth ++ cut.before
