@@ -246,8 +246,7 @@ module _ (delay slack : ℕ) (net : Internet) (laws : Layouts) (is : IsInternet 
             speaks f before (inl waits) =
                 inl (waits_so net up server L delay slack (AnyWord f.sent) (Says f.sent) (λ router s any late. absurd (omega (arith, late, before, count)))
                 (suc f.sent) f.delivery.to f.delivery.bytes waits)
-            speaks f before (inr (inl early)) = inr (inl early)
-            speaks f before (inr (inr over_soon)) = inr (inr (record { reply = over_soon.reply; soon = over_soon.soon }))
+            speaks f before (inr soon) = inr soon
 
         going : (before after : List (List WireStep)) → rest ≡ before ++ after → Going (length before + start) (λ router. 0) (at (zeroth ++ before))
         going before after same =

@@ -220,8 +220,7 @@ module _ (delay slack : ℕ) (given : Given) where
                 inl (comes_then net up foreign (Told delay slack net laws is most_routes most_services up foreign ours (StrangeOf given) (truth_of given) AnyHistory AnyEntry f.sent)
                 (Told delay slack net laws is most_routes most_services up foreign ours (StrangeOf given) (truth_of given) F X f.sent)
                 (λ from e both. (both.0, λ late. absurd (omega (arith, late, before, count)))) f.delivery.to f.delivery.bytes comes)
-            speaks f before (inr (inl early)) = inr (inl early)
-            speaks f before (inr (inr over_soon)) = inr (inr (record { reply = over_soon.reply; soon = over_soon.soon }))
+            speaks f before (inr soon) = inr soon
 
         going : (before after : List (List WireStep)) → rest ≡ before ++ after → GoesOn (length before + start) (λ router. 0) (at (zeroth ++ before))
         going before after same =

@@ -43,7 +43,7 @@ use Rattle.ipx_laws.proofs.services.ServedOrSoonEnded.{Fine, ServicesAged, Endur
 use Rattle.ipx_laws.proofs.services.SpokenByARouter.{second_spoken, packet_spoken}
 use Rattle.ipx_laws.proofs.services.SpokenOfAServer.{at, Silent, Names, told_asks, Waits, IsSpoken, ServiceSaid, host_waits, spoken_waits}
 use Rattle.ipx_laws.proofs.wires.BeatAfterBeat.{Happening, Leaves, Sends, Keeps, Going, AreSuch, StepsArise}
-use Rattle.ipx_laws.proofs.wires.EarlyFlights.{IsEarly, early_soon, early_onward, early_first}
+use Rattle.ipx_laws.proofs.wires.EarlyFlights.{IsEarly, early_soon, early_onward, early_first, IsOver, IsSoon, soon_comes, soon_sent}
 
 -- any history, and any word
 abbrev pub AnyHistory : ℕ → History → Type 0
@@ -69,13 +69,8 @@ module _ (delay slack : ℕ) (net : Internet) (laws : Layouts) (is : IsInternet 
   abbrev pub WaitsSince : ℕ → Place → List ℕ → Type 0
   WaitsSince sent = Waits net up server Listed delay slack (Says sent) (suc sent)
 
-  -- an answer to what flew at first: whatever it says is over soon
-  pub record IsOver (port : Port) (bytes : List ℕ) (sent : ℕ) : Type 0 where
-    pub reply : IsReply port bytes
-    pub soon : delay + suc sent ≤ slack
-
   abbrev pub Speaks : Place → List ℕ → ℕ → Type 0
-  Speaks to bytes sent = WaitsSince sent to bytes ⊎ (IsEarly delay slack bytes sent ⊎ IsOver (port_of net to) bytes sent)
+  Speaks to bytes sent = WaitsSince sent to bytes ⊎ IsSoon delay slack (port_of net to) bytes sent
 
   pub record Flies (f : Flight) : Type 0 where
     pub delivery : IsDelivery net f.delivery
@@ -202,23 +197,12 @@ module _ (delay slack : ℕ) (net : Internet) (laws : Layouts) (is : IsInternet 
         sents (all_both (λ s. IsBytes s.bytes) SpokenNow sents sent_bytes spoken)
 
     -- or sends for what flew at first
-    others_fly : AllByRecursion (λ s. IsEarly delay slack s.bytes beats ⊎ IsOver (port_at (ports_of net router) s.port) s.bytes beats) sents
+    others_fly : AllByRecursion (λ s. IsSoon delay slack (port_at (ports_of net router) s.port) s.bytes beats) sents
         → AllByRecursion Flying (flat_map (deliveries_of net router) sents)
     others_fly others =
-        let ports = ports_of net router in
-        let Other : Sent → Type 0 = λ s. IsEarly delay slack s.bytes beats ⊎ IsOver (port_at ports s.port) s.bytes beats in
-        each_delivery net most_routes most_services Flying (λ s. IsBytes s.bytes × Other s) router
-        (λ s to both there received. record {
-          delivery = record { place = there; bytes = both.0 };
-          speaks = inr (moves (port_at ports s.port) (port_of net to) s.bytes
-              (receives_is net (record { router = router; port = s.port }) s.link to received).network both.1);
-        })
-        sents (all_both (λ s. IsBytes s.bytes) Other sents sent_bytes others)
-      where
-        moves : (a b : Port) (bytes : List ℕ) → b.network ≡ a.network → IsEarly delay slack bytes beats ⊎ IsOver a bytes beats
-            → IsEarly delay slack bytes beats ⊎ IsOver b bytes beats
-        moves a b bytes same (inl early) = inl early
-        moves a b bytes same (inr over) = inr (record { reply = reply_moves a b bytes same over.reply; soon = over.soon })
+        all_then (λ d. IsDelivery net d × IsSoon delay slack (port_of net d.to) d.bytes beats) Flying (λ d both. record { delivery = both.0; speaks = inr both.1 })
+        (flat_map (deliveries_of net router) sents)
+        (soon_comes delay slack net laws is most_routes most_services beats histories place.are router event place.on place.of_bytes others)
 
   module _ (extras : Extras) where
     abbrev SaidNow : ℕ → ℕ → ℕ → Service → Type 0
@@ -280,24 +264,12 @@ module _ (delay slack : ℕ) (net : Internet) (laws : Layouts) (is : IsInternet 
           (all_told beats beats router before (omega arith) old (place.good router place.within))
           (all_news beats beats router (services_in router before) now (omega arith) new (fit_now histories router (Packet d.to.port d.bytes) place)))
 
-      module _ (soon : delay + suc beats ≤ slack) where
-        -- what is sent for what flew at first, if what is sent on of it is early
-        early_sends : ((s : Sent) → IsOnward (port_at ports d.to.port) d.bytes s.bytes → IsEarly delay slack s.bytes beats)
-            → SendsIt beats histories router (Packet d.to.port d.bytes)
-        early_sends early old new = others_fly beats histories router (Packet d.to.port d.bytes) place (by heard_now refl)
-          where
-            Other : Sent → Type 0
-            Other s = IsEarly delay slack s.bytes beats ⊎ IsOver (port_at ports s.port) s.bytes beats
-
-            by : (o : Option Heard) → heard_now ≡ o → AllByRecursion Other here
-            by None e =
-                all_then (λ s. IsOnward (port_at ports d.to.port) d.bytes s.bytes) Other (λ s onward. inl (early s onward)) here
-                (unsaid laws ports (ports_at net is router) most_routes most_services before (place.are.on_ports router) (place.are.of_bytes router) d.to.port d.bytes
-                delivery.place delivery.bytes e)
-            by (Some m) e =
-                all_then (λ s. IsReply (port_at ports s.port) s.bytes) Other (λ s reply. inr (record { reply = reply; soon = soon })) here
-                (all_reply laws ports (ports_at net is router) most_routes most_services before (place.are.on_ports router) (place.are.of_bytes router) d.to.port d.bytes
-                delivery.place delivery.bytes m e)
+      -- what is sent for what flew at first, if what is sent on of it is early
+      early_sends : delay + suc beats ≤ slack → ((s : Sent) → IsOnward (port_at ports d.to.port) d.bytes s.bytes → IsEarly delay slack s.bytes beats)
+          → SendsIt beats histories router (Packet d.to.port d.bytes)
+      early_sends soon early old new =
+          others_fly beats histories router (Packet d.to.port d.bytes) place
+          (soon_sent delay slack net laws is most_routes most_services beats histories place.are router d.to.port d.bytes delivery.place delivery.bytes soon early)
 
       -- for an answer nothing is told but changes
       over_sends : IsReply (port_of net d.to) d.bytes → SendsIt beats histories router (Packet d.to.port d.bytes)

@@ -50,7 +50,7 @@ use Rattle.ipx_laws.proofs.services.SpokenOfAServer.{here_stays}
 use Rattle.ipx_laws.proofs.ticks.RealOrSoonEnded.{Reaches, Comes, RouteSaid, Endures, at_begin, second_endures, RouteOldBy, heard_endures, packet_endures, soon_endures, routes_said, changes_said}
 use Rattle.ipx_laws.proofs.ticks.TickAfterTick.{all_come, second_spoken, packet_spoken}
 use Rattle.ipx_laws.proofs.wires.BeatAfterBeat.{Happening, Leaves, Sends, Keeps, Going, AreSuch, StepsArise}
-use Rattle.ipx_laws.proofs.wires.EarlyFlights.{IsEarly, early_soon, early_onward, early_first}
+use Rattle.ipx_laws.proofs.wires.EarlyFlights.{IsEarly, early_soon, early_onward, early_first, IsOver, IsSoon, soon_comes, soon_sent}
 
 -- a page of entries of which something follows
 own_page_then : (P Q : RipEntry → Type 0) → ((e : RipEntry) → P e → Q e) → (port : Port) (bytes : List ℕ) → IsOwnPage P port bytes → IsOwnPage Q port bytes
@@ -125,13 +125,8 @@ module _ (delay slack : ℕ) (net : Internet) (laws : Layouts) (is : IsInternet 
 
   -- ---- what flies
 
-  -- an answer to what flew at first: whatever it says is over soon
-  pub record IsOver (port : Port) (bytes : List ℕ) (sent : ℕ) : Type 0 where
-    pub reply : IsReply port bytes
-    pub soon : delay + suc sent ≤ slack
-
   abbrev pub Speaks : Place → List ℕ → ℕ → Type 0
-  Speaks to bytes sent = Comes net up foreign (Told sent) to bytes ⊎ (IsEarly delay slack bytes sent ⊎ IsOver (port_of net to) bytes sent)
+  Speaks to bytes sent = Comes net up foreign (Told sent) to bytes ⊎ IsSoon delay slack (port_of net to) bytes sent
 
   pub record Flies (f : Flight) : Type 0 where
     pub delivery : IsDelivery net f.delivery
@@ -218,26 +213,12 @@ module _ (delay slack : ℕ) (net : Internet) (laws : Layouts) (is : IsInternet 
         (all_come net laws is most_routes most_services up foreign (Told beats) histories place.are router event place.on place.of_bytes spoken)
 
     -- or sends for what flew at first
-    others_fly : AllByRecursion (λ s. IsEarly delay slack s.bytes beats ⊎ IsOver (port_at (ports_of net router) s.port) s.bytes beats) sents
+    others_fly : AllByRecursion (λ s. IsSoon delay slack (port_at (ports_of net router) s.port) s.bytes beats) sents
         → AllByRecursion Flying (flat_map (deliveries_of net router) sents)
     others_fly others =
-        let ports = ports_of net router in
-        let Other : Sent → Type 0 = λ s. IsEarly delay slack s.bytes beats ⊎ IsOver (port_at ports s.port) s.bytes beats in
-        let bytes = laws.bytes ports most_routes most_services past event (ports_at net is router)
-        (all-append (IsOnPort ports) past (event ∷ []) (place.are.on_ports router) (place.on, tt))
-        (all-append IsOfBytes past (event ∷ []) (place.are.of_bytes router) (place.of_bytes, tt)) in
-        each_delivery net most_routes most_services Flying (λ s. IsBytes s.bytes × Other s) router
-        (λ s to both there received. record {
-          delivery = record { place = there; bytes = both.0 };
-          speaks = inr (moves (port_at ports s.port) (port_of net to) s.bytes
-              (receives_is net (record { router = router; port = s.port }) s.link to received).network both.1);
-        })
-        sents (all_both (λ s. IsBytes s.bytes) Other sents bytes others)
-      where
-        moves : (a b : Port) (bytes : List ℕ) → b.network ≡ a.network → IsEarly delay slack bytes beats ⊎ IsOver a bytes beats
-            → IsEarly delay slack bytes beats ⊎ IsOver b bytes beats
-        moves a b bytes same (inl early) = inl early
-        moves a b bytes same (inr over) = inr (record { reply = reply_moves a b bytes same over.reply; soon = over.soon })
+        all_then (λ d. IsDelivery net d × IsSoon delay slack (port_of net d.to) d.bytes beats) Flying (λ d both. record { delivery = both.0; speaks = inr both.1 })
+        (flat_map (deliveries_of net router) sents)
+        (soon_comes delay slack net laws is most_routes most_services beats histories place.are router event place.on place.of_bytes others)
 
   module _ (extras : Extras) where
     all_told : (beats had router : ℕ) (history : History) → beats ≤ had → Ours router had history → Fit router history → (j : ℕ)
@@ -305,24 +286,12 @@ module _ (delay slack : ℕ) (net : Internet) (laws : Layouts) (is : IsInternet 
           (λ m e silent. all_told beats beats router before (omega arith) (old mine) fit d.to.port)
           (all_news beats beats beats router before now (omega arith) (omega arith) (old mine) (new mine) fit fit_then))
 
-      module _ (soon : delay + suc beats ≤ slack) where
-        -- what is sent for what flew at first, if what is sent on of it is early
-        early_sends : ((s : Sent) → IsOnward (port_at ports d.to.port) d.bytes s.bytes → IsEarly delay slack s.bytes beats)
-            → SendsIt beats histories router (Packet d.to.port d.bytes)
-        early_sends early old new = others_fly beats histories router (Packet d.to.port d.bytes) place (by heard_now refl)
-          where
-            Other : Sent → Type 0
-            Other s = IsEarly delay slack s.bytes beats ⊎ IsOver (port_at ports s.port) s.bytes beats
-
-            by : (o : Option Heard) → heard_now ≡ o → AllByRecursion Other here
-            by None e =
-                all_then (λ s. IsOnward (port_at ports d.to.port) d.bytes s.bytes) Other (λ s onward. inl (early s onward)) here
-                (unsaid laws ports (ports_at net is router) most_routes most_services before (place.are.on_ports router) (place.are.of_bytes router) d.to.port d.bytes
-                delivery.place delivery.bytes e)
-            by (Some m) e =
-                all_then (λ s. IsReply (port_at ports s.port) s.bytes) Other (λ s reply. inr (record { reply = reply; soon = soon })) here
-                (all_reply laws ports (ports_at net is router) most_routes most_services before (place.are.on_ports router) (place.are.of_bytes router) d.to.port d.bytes
-                delivery.place delivery.bytes m e)
+      -- what is sent for what flew at first, if what is sent on of it is early
+      early_sends : delay + suc beats ≤ slack → ((s : Sent) → IsOnward (port_at ports d.to.port) d.bytes s.bytes → IsEarly delay slack s.bytes beats)
+          → SendsIt beats histories router (Packet d.to.port d.bytes)
+      early_sends soon early old new =
+          others_fly beats histories router (Packet d.to.port d.bytes) place
+          (soon_sent delay slack net laws is most_routes most_services beats histories place.are router d.to.port d.bytes delivery.place delivery.bytes soon early)
 
       -- for a response nothing is told but changes, if what is sent on of it is spoken too
       response_sends : ((s : Sent) → IsOnward (port_at ports d.to.port) d.bytes s.bytes → TellsApart foreign s.bytes)
