@@ -54,6 +54,8 @@ KINDS = {
     "s390x": Kind(["s390x-linux-gnu-gcc", "-O1", "-static"], ["qemu-s390x"]),
     "windows": Kind(["x86_64-w64-mingw32-gcc", "-O1"], ["wine"]),
 }
+# Where real DOSBox' come to the server: one of 64 bits, one of 32, and one with the highest byte first.
+WITH_DOSBOX = ("gcc", "arm", "mips")
 
 
 class Right:
@@ -94,6 +96,10 @@ def serve(name, kind, folder):
     made = f"{folder}/server.exe"
     is_built = succeeds(*kind.compiler, f"-I{FOLDER}", f"{FOLDER}/server.c", f"{folder}/libipxr.o", "-o", made)
     tell(f"{name}: the server serves two players", is_built and ends("python3", "tests/library/server.py", *kind.runner, made))
+    if name in WITH_DOSBOX and has("dosbox"):
+        tell(f"{name}: two real DOSBox' meet at the server", is_built and ends("python3", "tests/library/boxes.py", *kind.runner, made))
+    elif name in WITH_DOSBOX:
+        left_out(f"{name}: two real DOSBox'", "dosbox")
 
 
 def vectors(name, kind, right):
