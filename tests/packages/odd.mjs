@@ -83,6 +83,14 @@ assert.notEqual(ipxr.extend("10", Array(2500).fill(1).concat(2), "20",
 const loop = new ipxr.Loop();
 assert.throws(() => ipxr.probe(0, 1, 1, 1, loop, loop), TypeError);
 
+const nearest = ipxr.writeSap("10.020000000001.452", "10.0200000000AA.4003", true,
+    [{ name: "FILES", address: "30.020000000009.451", type: 4, hops: 3 }]);
+assert.deepEqual([edge.isNeedless(3, nearest), edge.isNeedless(4, nearest)], [true, false]);
+const configuration = new ipxr.Configuration();
+assert.deepEqual([configuration.unlinked(), configuration.line("network 20 1 1500").expected, configuration.unlinked()], [0, 0, 1]);
+assert.equal(configuration.line("link tap ipx0 raw").expected, 0);
+assert.deepEqual([configuration.unlinked(), configuration.internal(), configuration.links().length], [0, null, 1]);
+
 // ---- The hash of Keys, by the first vectors of its authors ----
 
 const key = [0x0706050403020100n, 0x0f0e0d0c0b0a0908n];

@@ -82,6 +82,14 @@ loop = ipxr.Loop()
 refuses(ValueError, ipxr.probe, 0, 1, 1, 1, loop, loop)
 assert ipxr.words(-1) and ipxr.words(99) == ""
 
+nearest = ipxr.write_sap("10.020000000001.452", "10.0200000000AA.4003", [ipxr.ServiceEntry("FILES", "30.020000000009.451", 4, 3)],
+                         nearest=True)
+assert edge.is_needless(3, nearest) and not edge.is_needless(4, nearest)
+configuration = ipxr.Configuration()
+assert configuration.unlinked() is None and configuration.line("network 20 1 1500").expected is None and configuration.unlinked() == 1
+assert configuration.line("link tap ipx0 raw").expected is None
+assert configuration.unlinked() is None and configuration.internal() is None and len(configuration.links()) == 1
+
 # ---- Keys ----
 
 keys = ipxr.Keys(bytes(16))
