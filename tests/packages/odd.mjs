@@ -40,6 +40,7 @@ assert.throws(() => new ipxr.Router([{ network: "10", node: "FFFFFFFFFFFF", cost
 assert.throws(() => new ipxr.Edge({ network: 0x10, node: "020000000001", cost: 1, longest: 5 }).isHeld(new Uint8Array()),
     fault(ipxr.Fault.BAD_LONGEST));
 for (const [it, number] of [[new ipxr.Tunnel(SETTING), ipxr.Fault.NO_TUNNEL],
+    [new ipxr.KeyedTunnel({ ...SETTING, remembered: 4, rememberedShare: 2 }), ipxr.Fault.NO_TUNNEL],
     [new ipxr.Segment({ ...SETTING, links: 2 }), ipxr.Fault.NO_SEGMENT]]) {
     it.free();
     it.free();
@@ -91,6 +92,39 @@ assert.deepEqual([configuration.unlinked(), configuration.line("network 20 1 150
 assert.equal(configuration.line("link tap ipx0 raw").expected, 0);
 assert.deepEqual([configuration.unlinked(), configuration.internal(), configuration.links().length], [0, null, 1]);
 
+// ---- Limits that hold: how much passes at once, and why no more does ----
+
+function passed(call) {
+    for (let count = 0; count < 5000; count++) {
+        const verdict = call();
+        if (verdict !== ipxr.Verdict.PASSES) return [count, verdict];
+    }
+    return [5000, undefined];
+}
+
+const { Verdict } = ipxr;
+const limits = new ipxr.Limits({ link: ipxr.LimitsLink.TUNNEL, rate: 100, share: 20 });
+const household = new ipxr.HouseholdLimits(100);
+const reader = () => new ipxr.Reader(limits);
+const [client, address, read] = [new ipxr.ClientUse(), new ipxr.AddressUse(), reader()];
+const received = passed(() => limits.receives(read, 0, 100));
+assert.ok(received[0] > 0 && received[1] === Verdict.TOO_MUCH_FOR_CLIENT);
+const other = reader();
+for (let k = 0; k < 5; k++) limits.hearsRouter(other, 0, 100);
+assert.equal(passed(() => limits.receives(other, 0, 100))[0], received[0] - 5);
+const frames = new ipxr.Limits({ link: ipxr.LimitsLink.FRAMES, rate: 100, share: 20 });
+const line = new ipxr.Reader(frames);
+assert.equal(passed(() => frames.carries(line, 0, 100, 1))[1], Verdict.TOO_MUCH_FOR_LINK);
+assert.equal(passed(() => limits.answers(1, client, address))[1], Verdict.TOO_MANY_ANSWERS);
+assert.equal(passed(() => limits.routerAnswers(1, client, address))[1], Verdict.TOO_MANY_ANSWERS);
+for (const name of ["receives", "receivesOfRouter"]) {
+    const all = household.receiver();
+    const [count, why] = passed(() => household[name](limits, reader(), all, 0, 100));
+    assert.ok(count > 0 && why === Verdict.TOO_MUCH_FOR_ADDRESS, name);
+}
+const among = new ipxr.Meter();
+assert.equal(passed(() => household.receivesOfOwn(limits, reader(), among, 0, 100))[1], Verdict.TOO_MUCH_FOR_ADDRESS);
+
 // ---- The hash of Keys, by the first vectors of its authors ----
 
 const key = [0x0706050403020100n, 0x0f0e0d0c0b0a0908n];
@@ -107,11 +141,13 @@ assert.equal(keys.cookie("10.0.0.1:2130", 7)[0], 0);
 // ---- Memory is given back ----
 
 const used = () => import("ipxr/raw").then((raw) => raw.memory().length);
-for (let k = 0; k < 200; k++) new ipxr.Tunnel(SETTING).free();
+for (let k = 0; k < 200; k++) new ipxr.KeyedTunnel({ ...SETTING, remembered: 4, rememberedShare: 2 }).free();
 const before = await used();
 for (let k = 0; k < 2000; k++) {
     new ipxr.Tunnel(SETTING).free();
     assert.throws(() => new ipxr.Tunnel({ ...SETTING, capacity: 5000 }));
+    new ipxr.KeyedTunnel({ ...SETTING, remembered: 4, rememberedShare: 2 }).free();
+    new ipxr.Segment({ ...SETTING, links: 2 }).free();
     new ipxr.Configuration().free();
     new ipxr.Reader(new ipxr.Limits({ link: 0, rate: 9, share: 1 })).free();
 }

@@ -90,6 +90,36 @@ assert configuration.unlinked() is None and configuration.line("network 20 1 150
 assert configuration.line("link tap ipx0 raw").expected is None
 assert configuration.unlinked() is None and configuration.internal() is None and len(configuration.links()) == 1
 
+# ---- Limits that hold: how much passes at once, and why no more does ----
+
+
+def passed(call):
+    for count in range(5000):
+        verdict = call()
+        if verdict is not ipxr.Verdict.PASSES:
+            return count, verdict
+    return 5000, None
+
+
+limits, household = ipxr.Limits(ipxr.LimitsLink.TUNNEL, rate=100, share=20), ipxr.HouseholdLimits(100)
+client, address, read, other = ipxr.ClientUse(), ipxr.AddressUse(), ipxr.Reader(limits), ipxr.Reader(limits)
+received = passed(lambda: limits.receives(read, 0, 100))
+assert received[0] > 0 and received[1] is ipxr.Verdict.TOO_MUCH_FOR_CLIENT
+for _ in range(5):
+    limits.hears_router(other, 0, 100)
+assert passed(lambda: limits.receives(other, 0, 100))[0] == received[0] - 5
+frames = ipxr.Limits(ipxr.LimitsLink.FRAMES, rate=100, share=20)
+line = ipxr.Reader(frames)
+assert passed(lambda: frames.carries(line, 0, 100, 1))[1] is ipxr.Verdict.TOO_MUCH_FOR_LINK
+assert passed(lambda: limits.answers(1, client, address))[1] is ipxr.Verdict.TOO_MANY_ANSWERS
+assert passed(lambda: limits.router_answers(1, client, address))[1] is ipxr.Verdict.TOO_MANY_ANSWERS
+receiver, of_router, among = household.receiver(), household.receiver(), ipxr.Meter()
+for call in (lambda: household.receives(limits, ipxr.Reader(limits), receiver, 0, 100),
+             lambda: household.receives_of_router(limits, ipxr.Reader(limits), of_router, 0, 100),
+             lambda: household.receives_of_own(limits, ipxr.Reader(limits), among, 0, 100)):
+    count, why = passed(call)
+    assert count > 0 and why is ipxr.Verdict.TOO_MUCH_FOR_ADDRESS
+
 # ---- Keys ----
 
 keys = ipxr.Keys(bytes(16))
