@@ -21,7 +21,7 @@ from telling import has, left_out, say, tell
 ROUTER = f"{TOP}/examples/embed/web"
 TESTS = f"{TOP}/tests/packages"
 WRITTEN = ("raw.mjs", "numbers.mjs")
-TSC = ["tsc", "--noEmit", "--strict", "--target", "es2020", "--lib", "es2021,dom", "--module", "es2020", "--moduleResolution", "node"]
+TSC = ["tsc", "--noEmit", "--strict", "--target", "es2020", "--lib", "es2021,dom", "--module", "node16", "--moduleResolution", "node16"]
 # The layouts that the router's module has itself, so that it can stand alone.
 LAYOUT = re.compile(r"(?m)^const (\w+) = \{ (.*), size: (\d+) \};|^const (SENT|ROUTE) = \{ (.*) \};")
 OF_ROUTER = {"PORT": "ipxr_port", "SENT": "ipxr_packet_sent", "ROUTE": "ipxr_route_record", "SERVICE": "ipxr_service_record",
@@ -140,8 +140,7 @@ def test_program(app):
     if not has("tsc"):
         return
     for name in ("right.mts", "wrong.mts"):
-        text = text_of(f"{TESTS}/{name}").replace('"ipxr"', '"./node_modules/ipxr/index.mjs"')
-        put(f"{app}/{name}", text)
+        shutil.copy(f"{TESTS}/{name}", app)
     tell("javascript: TypeScript takes a program that uses the package", packages.runs(*TSC, "right.mts", cwd=app))
     run = subprocess.run([*TSC, "wrong.mts"], cwd=app, stdout=subprocess.PIPE, text=True, check=False)
     wanted = {k for k, line in enumerate(text_of(f"{TESTS}/wrong.mts").splitlines(), 1) if line.endswith("// wrong")}
