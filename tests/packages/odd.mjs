@@ -125,6 +125,20 @@ for (const name of ["receives", "receivesOfRouter"]) {
 const among = new ipxr.Meter();
 assert.equal(passed(() => household.receivesOfOwn(limits, reader(), among, 0, 100))[1], Verdict.TOO_MUCH_FOR_ADDRESS);
 
+// ---- A narrow line ----
+
+const narrow = new ipxr.Line(8);
+const [to, said] = [new ipxr.LineAddress(), new ipxr.Moment()];
+narrow.join(to);
+const number = narrow.speak(to);
+assert.deepEqual([number > 0, narrow.state().speakers, narrow.letsBeyond(2_000_000_000)], [true, 1, true]);
+for (let k = 0; k < 50; k++) narrow.send(2_000_000_000, number, 1400, ipxr.LineRank.BEYOND, said, to);
+assert.equal(narrow.letsBeyond(2_000_000_000), false);
+for (let k = 0; k < 11; k++) narrow.second(to);
+assert.equal(narrow.state().speakers, 0);
+const [strangers, one, all] = [narrow.strangers(), new ipxr.Meter(), new ipxr.Meter()];
+assert.equal(passed(() => strangers.send(1, one, all))[1], Verdict.TOO_MUCH_FOR_STRANGERS);
+
 // ---- The hash of Keys, by the first vectors of its authors ----
 
 const key = [0x0706050403020100n, 0x0f0e0d0c0b0a0908n];

@@ -120,6 +120,21 @@ for call in (lambda: household.receives(limits, ipxr.Reader(limits), receiver, 0
     count, why = passed(call)
     assert count > 0 and why is ipxr.Verdict.TOO_MUCH_FOR_ADDRESS
 
+# ---- A narrow line ----
+
+narrow, to, said = ipxr.Line(8), ipxr.LineAddress(), ipxr.Moment()
+narrow.join(to)
+number = narrow.speak(to)
+assert number > 0 and narrow.state.speakers == 1 and narrow.lets_beyond(2_000_000_000)
+for _ in range(50):
+    narrow.send(2_000_000_000, number, 1400, ipxr.LineRank.BEYOND, said, to)
+assert not narrow.lets_beyond(2_000_000_000)
+for _ in range(11):
+    narrow.second(to)
+assert narrow.state.speakers == 0
+strangers, one, every = narrow.strangers(), ipxr.Meter(), ipxr.Meter()
+assert passed(lambda: strangers.send(1, one, every))[1] is ipxr.Verdict.TOO_MUCH_FOR_STRANGERS
+
 # ---- Keys ----
 
 keys = ipxr.Keys(bytes(16))
