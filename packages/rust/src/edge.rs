@@ -78,8 +78,8 @@ impl Rule {
         Rule(sys::ipxr_rule { permits, what: sys::IPXR_RULE_SOCKET, socket: socket.0, ..Rule::NONE })
     }
 
-    fn of_nearest(permits: u8, kind: u16) -> Rule {
-        Rule(sys::ipxr_rule { permits, what: sys::IPXR_RULE_NEAREST, r#type: kind, ..Rule::NONE })
+    fn of_nearest(permits: u8) -> Rule {
+        Rule(sys::ipxr_rule { permits, what: sys::IPXR_RULE_NEAREST, ..Rule::NONE })
     }
 
     fn of_routes(permits: u8, way: Way, first: Network, last: Network) -> Rule {
@@ -116,14 +116,14 @@ impl Rule {
         Rule::of_socket(0, socket)
     }
 
-    /// Queries for the nearest service of a type pass that come in; FFFFh is every type.
-    pub fn permit_nearest(kind: u16) -> Rule {
-        Rule::of_nearest(1, kind)
+    /// Queries for the nearest service pass that come in.
+    pub fn permit_nearest() -> Rule {
+        Rule::of_nearest(1)
     }
 
     /// They don't.
-    pub fn deny_nearest(kind: u16) -> Rule {
-        Rule::of_nearest(0, kind)
+    pub fn deny_nearest() -> Rule {
+        Rule::of_nearest(0)
     }
 
     /// Routes to the networks of a range pass.

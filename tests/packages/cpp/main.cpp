@@ -48,5 +48,5 @@ int main()
     play_shares(play);
     play_cables(play);
     play_lines(play);
-    return 0;
+    return see_places() ? 0 : 1;
 }

@@ -191,5 +191,6 @@ void play_tunnels(Play &play);
 void play_shares(Play &play);
 void play_cables(Play &play);
 void play_lines(Play &play);
+bool see_places();
 
 #endif

@@ -44,12 +44,10 @@ inline ipxr_rule rule_of_socket(Does does, std::uint16_t socket)
     return made;
 }
 
-/// For queries for the nearest service of a type that come in; FFFFh is every type.
-inline ipxr_rule rule_of_nearest(Does does, std::uint16_t type)
+/// For queries for the nearest service that come in.
+inline ipxr_rule rule_of_nearest(Does does)
 {
-    ipxr_rule made = of_edges::rule(does, IPXR_RULE_NEAREST);
-    made.type = type;
-    return made;
+    return of_edges::rule(does, IPXR_RULE_NEAREST);
 }
 
 /// For routes to the networks of a range.

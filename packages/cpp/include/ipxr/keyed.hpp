@@ -44,6 +44,7 @@ inline ipxr_keyed_sender keyed_sender(const Place &place, const Node &node, cons
 /// assert(tunnel.hear(ipx::keyed_sender(place, node, cookie, cookie), datagram).value == ipx::Said::Registers);
 /// assert(tunnel.owns().size() == 1); // the answer; his first word, or a ping after seven seconds, makes him a client
 /// assert(tunnel.waiters().size() == 1);
+/// assert(ipx::node_of(ipx::read_packet(tunnel.owns()[0].bytes).value.to.node) == node); // which hands it out
 /// ```
 class Keyed : public Owner<ipxr_keyed, ipxr_keyed_free> {
 public:

@@ -39,14 +39,16 @@ inline ipxr_tunnel_setting tunnel_setting(std::uint32_t network, const Node &nod
 ///
 /// ```cpp
 /// ipx::Tunnel tunnel;
-/// const ipx::Node node = {{0, 0, 0, 0, 0, 1}}, cookie = {{2, 7, 7, 7, 7, 7}}; // yours: a keyed hash of the place and the minute
+/// const ipx::Node node = {{0, 0, 0, 0, 0, 1}};
+/// const ipx::Node cookie = {{2, 7, 7, 7, 7, 7}}, before = {{2, 6, 6, 6, 6, 6}}; // yours: a keyed hash of the place and the minute, and the last
 /// if (!tunnel.make(ipx::tunnel_setting(0x10, node, 64, 16)))
 ///     return;
 /// ipx::Place place;
 /// ipx::read_place("192.168.1.7:2130", place);
 /// ipxr_address nobody = ipxr_address(), registers = ipx::address(0, {}, 2);
 /// ipx::Bytes datagram = ipx::write_packet(nobody, registers, 0, {}).value;
-/// assert(tunnel.hear(ipx::sender(place, cookie, cookie), datagram).value == ipx::Said::Registers);
+/// assert(tunnel.hear(ipx::sender(place, cookie, before), datagram).value == ipx::Said::Registers);
+/// assert(ipx::node_of(ipx::read_packet(tunnel.owns()[1].bytes).value.from.node) == cookie); // the ping, which he answers
 /// for (const ipxr_own &own : tunnel.owns())
 ///     std::printf("send %u bytes to %s\n", unsigned(sizeof own.bytes), ipx::place_text(ipx::node_of(own.place)).c_str());
 /// ```
