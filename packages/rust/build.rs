@@ -1,7 +1,7 @@
 //! Compiles `libipxr/libipxr.c` with the system's compiler of C. Where IPXR_LIB names a folder with `libipxr.a`, that is linked instead.
 //!
-//! Read are CC, CFLAGS and AR, each also as CC_TARGET, with the target's name in it, and as TARGET_CC. Without them the compiler is `cc`, or
-//! for another target the one that Debian's package for it brings.
+//! Read are CC, CFLAGS and AR, each also as CC_TARGET, with the target's name in it, and as TARGET_CC. Without them the compiler is `cc`,
+//! or for another target the one that Debian's package for it brings.
 use std::env;
 use std::ffi::OsStr;
 use std::path::{Path, PathBuf};
@@ -27,7 +27,9 @@ fn main() {
     match env::var_os("IPXR_LIB") {
         Some(folder) => link_ready(&tools, Path::new(&folder)),
         None if Path::new(LIBRARY).is_file() => compile_own(&tools),
-        None => fail("libipxr/libipxr.c is missing: `tools/packages rust` makes the whole package. Or name a folder with libipxr.a in IPXR_LIB."),
+        None => fail(
+            "libipxr/libipxr.c is missing: `tools/packages rust` makes the whole package. Or name a folder with libipxr.a in IPXR_LIB.",
+        ),
     }
 }
 
@@ -66,7 +68,7 @@ impl Tools {
         let prefix = if target == variable("HOST") { None } else { prefix(&target) };
         let named = |tool: &str, own: &str| prefix.as_ref().map_or(own.to_string(), |it| format!("{it}-{tool}"));
         Tools {
-            compiler: split(&compiler.unwrap_or_else(|| named("gcc", if target.contains("windows") { "gcc" } else { "cc" }))),
+            compiler: split(&compiler.unwrap_or_else(|| named("gcc", own_compiler(&target)))),
             words: split(&words.unwrap_or_default()),
             archiver: archiver.unwrap_or_else(|| named("ar", "ar")),
             made: PathBuf::from(variable("OUT_DIR")),
@@ -111,6 +113,17 @@ fn asked(what: &str, target: &str) -> Option<String> {
         println!("cargo:rerun-if-env-changed={name}");
     }
     names.iter().find_map(|it| env::var(it).ok())
+}
+
+/// The compiler for a target whose tools have no prefix.
+fn own_compiler(target: &str) -> &'static str {
+    if target.contains("windows") {
+        "gcc"
+    } else if target.contains("-musl") {
+        "musl-gcc"
+    } else {
+        "cc"
+    }
 }
 
 /// How the tools for another target begin.

@@ -104,7 +104,8 @@ def compilers(package, to):
     text, count = examples()
     put(f"{to}/examples.cpp", text)
     library = f"{to}/libipxr.o"
-    tell("cpp: the library is compiled", packages.runs(CC, "-O2", "-std=c99", f"-I{package}/include", "-c", f"{package}/src/libipxr.c", "-o", library))
+    words = [CC, "-O2", "-std=c99", f"-I{package}/include", "-c", f"{package}/src/libipxr.c", "-o", library]
+    tell("cpp: the library is compiled", packages.runs(*words))
     for compiler in COMPILERS:
         if not has(compiler):
             left_out(f"cpp: {compiler}", compiler)
@@ -168,9 +169,10 @@ def by_cmake(package, to):
         os.makedirs(project)
         put(f"{project}/CMakeLists.txt", text)
         shutil.copy(f"{package}/examples/story.cpp", project)
-        steps = (["cmake", "-S", project, "-B", f"{project}/build", f"-DCMAKE_PREFIX_PATH={prefix}"], ["cmake", "--build", f"{project}/build"])
+        made = f"{project}/build"
+        steps = (["cmake", "-S", project, "-B", made, f"-DCMAKE_PREFIX_PATH={prefix}"], ["cmake", "--build", made])
         if all(packages.runs(*it) for it in steps):
-            packages.tells_story(f"cpp: by CMake, {name}", f"{project}/build/story")
+            packages.tells_story(f"cpp: by CMake, {name}", f"{made}/story")
         else:
             tell(f"cpp: a program by CMake, {name}", False)
     by_pkg_config(f"{prefix}", f"{to}/found/story.cpp", to)

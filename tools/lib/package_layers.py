@@ -12,12 +12,21 @@ from telling import say, tell
 INCLUDE = f"{TOP}/include"
 # What a header gains in the test: each must be missed.
 BEHIND = "/* ---- Words ---- */\n"
-MORE = "/* ---- More ---- */\n\n/* How many more there are. */\n#define IPXR_MORE 5\n\n/* More. */\nIPXR_CALL int32_t ipxr_more(ipxr *router);\n\n"
+MORE = """\
+/* ---- More ---- */
+
+/* How many more there are. */
+#define IPXR_MORE 5
+
+/* More. */
+IPXR_CALL int32_t ipxr_more(ipxr *router);
+
+"""
 
 
 def missing(headers, text, left_out):
-    """What of the headers a text neither names nor leaves out, and what is left out though there is no such thing, or it is named. `left_out`
-    has a reason for each pattern of names."""
+    """What of the headers a text neither names nor leaves out, and what is left out though there is no such thing, or it is named.
+    `left_out` has a reason for each pattern of names."""
     names = {it.name for header in headers for it in (*header.numbers, *header.calls)}
     named = {*re.findall(r"\b(?:ipxr|IPXR)_\w+", text)} & names
     found = [f"{it} is neither used nor left out" for it in sorted(names - named) if not any(re.fullmatch(one, it) for one in left_out)]

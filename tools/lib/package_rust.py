@@ -15,7 +15,8 @@ from telling import has, left_out, say, tell
 
 # Numbers that the safe types don't name, and why. All are in the raw layer.
 LEFT_OUT = {
-    r"IPXR_(MOST_(PORTS|ROUTES|SERVICES|CLIENTS|LINKS|STATIONS|PLANNED|STEPS|RULES|TIME)|(PLAN_)?STACK|LIFETIME|SPEAKERS|ALL_\w+|PACKET_(ROUTES|SERVICES)|SHORTEST_FRAME)":
+    r"IPXR_(MOST_(PORTS|ROUTES|SERVICES|CLIENTS|LINKS|STATIONS|PLANNED|STEPS|RULES|TIME)|(PLAN_)?STACK|LIFETIME|SPEAKERS|ALL_\w+|"
+    r"PACKET_(ROUTES|SERVICES)|SHORTEST_FRAME)":
         "sizes, which a program names where it needs them",
     r"IPXR_(LAST_DROP|DROPS|NO_FRAME|NO_REASON)": "what stands for none, or for how many there are: enums and lists say it",
     r"IPXR_(SAID_NOTHING|TOO_MUCH_FOR_STRANGERS|PROBE_NOTHING|FATE_ELSEWHERE)": "what an enum means where it means nothing else",
@@ -37,6 +38,17 @@ edition = "2021"
 ipxr = {{ path = "{}" }}
 """
 TESTS = f"{TOP}/tests/packages"
+
+# Targets of Rust, each with the compiler that the crate takes for it.
+TARGETS = {
+    "aarch64-unknown-linux-gnu": "aarch64-linux-gnu-gcc",
+    "armv7-unknown-linux-gnueabihf": "arm-linux-gnueabihf-gcc",
+    "i686-unknown-linux-gnu": "i686-linux-gnu-gcc",
+    "riscv64gc-unknown-linux-gnu": "riscv64-linux-gnu-gcc",
+    "s390x-unknown-linux-gnu": "s390x-linux-gnu-gcc",
+    "x86_64-pc-windows-gnu": "x86_64-w64-mingw32-gcc",
+    "x86_64-unknown-linux-musl": "musl-gcc",
+}
 
 
 def make(folder):
@@ -165,6 +177,21 @@ def others(crate, to, environment):
     tell("rust: a program without the standard library routes a packet", program.is_built() and packages.runs(program.made))
 
 
+def targets(crate, to, environment):
+    """Whether what builds the library finds a compiler for other targets. (no Rust is needed for them)"""
+    program = max(glob.glob(f"{environment['CARGO_TARGET_DIR']}/debug/build/ipxr-*/build-script-build"), key=os.path.getmtime)
+    for target, compiler in TARGETS.items():
+        if not has(compiler):
+            left_out(f"rust: the library for {target}", compiler)
+            continue
+        made = f"{to}/{target}"
+        os.makedirs(made)
+        asked = {**environment, "HOST": "x86_64-unknown-linux-gnu", "TARGET": target, "OUT_DIR": made, "CFLAGS": "-O0"}
+        asked.update({"CARGO_CFG_WINDOWS": ""} if "windows" in target else {})
+        tell(f"rust: the library for {target} is compiled",
+             packages.runs(program, cwd=crate, env=asked) and os.path.isfile(f"{made}/libipxr.a"))
+
+
 def without_file(crate, environment):
     """What is said where the file of C is missing."""
     file = f"{crate}/libipxr/libipxr.c"
@@ -180,7 +207,8 @@ def try_crate(crate, to):
         environment.pop(name, None)
     tell("rust: its tests pass, each example of its documentation, and structs lie as in C",
          packages.runs("cargo", "test", "--offline", "--quiet", cwd=crate, env=environment))
-    tell("rust: its documentation has no warning", packages.runs("cargo", "doc", "--offline", "--no-deps", "--quiet", cwd=crate, env=environment))
+    words = ["cargo", "doc", "--offline", "--no-deps", "--quiet"]
+    tell("rust: its documentation has no warning", packages.runs(*words, cwd=crate, env=environment))
     if has("cargo-clippy"):
         words = ["cargo", "clippy", "--offline", "--quiet", "--all-targets", "--", "-D", "warnings"]
         tell("rust: clippy finds nothing", packages.runs(*words, cwd=crate, env=environment))
@@ -188,6 +216,7 @@ def try_crate(crate, to):
         left_out("rust: clippy", "cargo-clippy")
     story(crate, to, environment)
     others(crate, to, environment)
+    targets(crate, to, environment)
     without_file(crate, environment)
 
 

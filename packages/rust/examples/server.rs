@@ -1,5 +1,5 @@
-//! A server for DOSBox: `cargo run --release --example server 2130`, and in each DOSBox `IPXNET CONNECT ADDRESS 2130`. All players are on one
-//! network, where a router answers what programs ask of one. It gives each a node of its own.
+//! A server for DOSBox: `cargo run --release --example server 2130`, and in each DOSBox `IPXNET CONNECT ADDRESS 2130`. All players are on
+//! one network, where a router answers what programs ask of one. It gives each a node of its own.
 use ipxr::{Keyed, KeyedSetting, Keys, Network, Node, Port, Router};
 use std::error::Error;
 use std::fs::File;
@@ -90,7 +90,9 @@ impl Server {
         loop {
             match self.udp.recv_from(&mut bytes) {
                 Ok((length, SocketAddr::V4(place))) if length <= LONGEST.into() => self.hear(place, &mut bytes[..length])?,
-                Err(why) if ![ErrorKind::WouldBlock, ErrorKind::TimedOut, ErrorKind::ConnectionReset].contains(&why.kind()) => return Err(why.into()),
+                Err(why) if ![ErrorKind::WouldBlock, ErrorKind::TimedOut, ErrorKind::ConnectionReset].contains(&why.kind()) => {
+                    return Err(why.into())
+                }
                 _ => {}
             }
             if told.elapsed() >= SECOND {

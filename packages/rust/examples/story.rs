@@ -31,7 +31,11 @@ fn parts(bytes: &[u8]) -> Told<packets::Header<'_>> {
 
 fn joined<T: ToString>(list: impl IntoIterator<Item = T>) -> String {
     let words: Vec<_> = list.into_iter().map(|it| it.to_string()).collect();
-    if words.is_empty() { "nobody".to_string() } else { words.join(", ") }
+    if words.is_empty() {
+        "nobody".to_string()
+    } else {
+        words.join(", ")
+    }
 }
 
 fn hear(tunnel: &mut Tunnel, keys: &Keys, what: &str, place: Place, to: Node, text: &str) -> Told<()> {

@@ -3,8 +3,8 @@ use crate::frames::Kind;
 use crate::sys;
 use crate::Node;
 
-/// In which kinds of frames a packet goes out, where stations may use any: what was heard. A node has the same `hash` each time, by a key that
-/// strangers don't know.
+/// In which kinds of frames a packet goes out, where stations may use any: what was heard. A node has the same `hash` each time, by a key
+/// that strangers don't know.
 ///
 /// ```
 /// use ipxr::cable::Kinds;
@@ -101,8 +101,8 @@ impl Loop {
     }
 }
 
-/// A probe comes on link `here` that link `there` sent in second `sent`; it is another second `now`. Both have their numbers in the order of
-/// the network's links.
+/// A probe comes on link `here` that link `there` sent in second `sent`; it is another second `now`. Both have their numbers in the order
+/// of the network's links.
 pub fn probe(here: u8, there: u8, sent: u64, now: u64, at_here: &mut Loop, at_there: &mut Loop) -> Probed {
     let (mut one, mut other) = (sys::ipxr_loop { left: at_here.0 }, sys::ipxr_loop { left: at_there.0 });
     let did = unsafe { sys::ipxr_loop_probe(here, there, sent, now, &mut one, &mut other) };

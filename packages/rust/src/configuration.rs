@@ -39,7 +39,11 @@ pub struct LineRead {
 impl LineRead {
     /// Whether it is right, or what is wrong.
     pub fn result(&self) -> Result<(), LineWrong> {
-        if self.expected == 0 && self.wrong.unlinked == 0 { Ok(()) } else { Err(LineWrong { expected: self.expected, wrong: self.wrong }) }
+        if self.expected == 0 && self.wrong.unlinked == 0 {
+            Ok(())
+        } else {
+            Err(LineWrong { expected: self.expected, wrong: self.wrong })
+        }
     }
 }
 
@@ -100,8 +104,7 @@ impl Configuration {
         let (mut said, mut wrong) = (sys::ipxr_setting::ZERO, sys::ipxr_line_wrong::ZERO);
         let (bytes, length, has_cards) = (text.as_ptr(), text.len(), has_cards.into());
         // SAFETY: here and below pointers and lengths are those of slices and values that lie apart.
-        let expected =
-            unsafe { sys::ipxr_configuration_line(&mut *self.all, bytes, length, line, has_cards, &mut said, &mut wrong) };
+        let expected = unsafe { sys::ipxr_configuration_line(&mut *self.all, bytes, length, line, has_cards, &mut said, &mut wrong) };
         LineRead { said, expected, wrong }
     }
 
@@ -112,7 +115,9 @@ impl Configuration {
         }
         match self.unlinked() {
             None => Ok(()),
-            Some(line) => Err((line, LineWrong { expected: 0, wrong: sys::ipxr_line_wrong { unlinked: line, ..sys::ipxr_line_wrong::ZERO } })),
+            Some(line) => {
+                Err((line, LineWrong { expected: 0, wrong: sys::ipxr_line_wrong { unlinked: line, ..sys::ipxr_line_wrong::ZERO } }))
+            }
         }
     }
 

@@ -168,8 +168,8 @@ pub fn number(port: &Port, bytes: &mut [u8]) -> Result<(), Fault> {
     done(unsafe { sys::ipxr_edge_number(&port.raw(), bytes.as_mut_ptr(), bytes.len()) })
 }
 
-/// Filters a packet by rules: the first that names something decides, and what none names is permitted. Returns how many bytes of it pass; 0
-/// if nothing does.
+/// Filters a packet by rules: the first that names something decides, and what none names is permitted. Returns how many bytes of it pass;
+/// 0 if nothing does.
 pub fn filter(way: Way, port: &Port, rules: &[Rule], bytes: &mut [u8]) -> Result<usize, Fault> {
     let rules: Vec<_> = rules.iter().map(|it| it.0).collect();
     let (mut passes, way, port) = (0, way.number(), port.raw());

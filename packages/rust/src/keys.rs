@@ -6,9 +6,9 @@ const NODE: u8 = 2;
 const COOKIE: u8 = 6;
 const MINUTE: u64 = 60;
 
-/// What a server of a tunnel makes of the place where a datagram comes from: keyed hashes, by SipHash-2-4, as the gateway of this project makes
-/// them. Take a key of sixteen random bytes and keep it in a file: by another one clients have other nodes, and have to connect again. This is
-/// plain Rust, which is tested and not proved.
+/// What a server of a tunnel makes of the place where a datagram comes from: keyed hashes, by SipHash-2-4, as the gateway of this project
+/// makes them. Take a key of sixteen random bytes and keep it in a file: by another one clients have other nodes, and have to connect
+/// again. This is plain Rust, which is tested and not proved.
 ///
 /// ```
 /// use ipxr::{Keys, Place};

@@ -1,7 +1,7 @@
 //! An IPX router, DOSBox's tunnel, and what a gateway decides: a proved library, in safe Rust.
 //!
-//! Nothing here has a socket, a clock or a thread. You hand a [`Router`] each packet that arrives and each second that passes; it returns the
-//! packets to send.
+//! Nothing here has a socket, a clock or a thread. You hand a [`Router`] each packet that arrives and each second that passes; it returns
+//! the packets to send.
 //!
 //! ```
 //! use ipxr::{Outcome, Port, Router};
@@ -30,8 +30,9 @@
 //! Addresses are written as the project writes them: [`Address`] is `10.0200C0A80001.451`, [`Node`] is `0200C0A80001` or
 //! `02:00:C0:A8:00:01`. Each type reads such text by `parse`, and shows itself.
 //!
-//! **Threads.** What owns memory of C ([`Router`], [`Tunnel`], [`Keyed`], [`Segment`]) can be moved to another thread, and is used by one at a
-//! time, since each call takes `&mut self`. All else is plain values. A thread needs a stack of [`sys::IPXR_STACK`] bytes for [`Router::new`].
+//! **Threads.** What owns memory of C ([`Router`], [`Tunnel`], [`Keyed`], [`Segment`]) can be moved to another thread, and is used by one
+//! at a time, since each call takes `&mut self`. All else is plain values. A thread needs a stack of [`sys::IPXR_STACK`] bytes for
+//! [`Router::new`].
 //!
 //! **`no_std`.** The crate needs `core` and `alloc`, and of C `malloc`, `realloc`, `free`, `abort` and what `string.h` has.
 //!
@@ -52,6 +53,7 @@ mod keyed;
 mod keys;
 pub mod limits;
 pub mod line;
+#[rustfmt::skip]
 mod named;
 pub mod packets;
 mod plan;

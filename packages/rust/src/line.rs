@@ -106,8 +106,8 @@ impl Line {
         unsafe { sys::ipxr_line_silence(&mut self.0, &mut address.0) }
     }
 
-    /// Whether there is room for a copy of a packet of so many bytes to an address. The speaker has that number, or 0 if it has no part; `said`
-    /// is the moment until which his part of what he says to all is used, 0 at first.
+    /// Whether there is room for a copy of a packet of so many bytes to an address. The speaker has that number, or 0 if it has no part;
+    /// `said` is the moment until which his part of what he says to all is used, 0 at first.
     pub fn room(&self, now: u64, number: u8, bytes: usize, said: &mut u64, to: &mut Address) -> Rank {
         Rank::of(unsafe { sys::ipxr_line_room(&self.0, now, number, bytes, said, &mut to.0) })
     }

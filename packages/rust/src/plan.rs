@@ -50,6 +50,7 @@ pub fn plan(old: &[PlanLink], links: &[PlanLink]) -> Result<Plan, Fault> {
     let mut fates = vec![PlanFate::ZERO; old.len()];
     let (made_from, becomes) = (origins.as_mut_ptr(), fates.as_mut_ptr());
     // SAFETY: pointers and lengths are those of slices that lie apart.
-    let stays = unsafe { sys::ipxr_plan(old.as_ptr(), old.len(), links.as_ptr(), links.len(), made_from, origins.len(), becomes, fates.len()) };
+    let stays =
+        unsafe { sys::ipxr_plan(old.as_ptr(), old.len(), links.as_ptr(), links.len(), made_from, origins.len(), becomes, fates.len()) };
     Ok(Plan { router_stays: whether(stays)?, origins, fates })
 }

@@ -186,7 +186,8 @@ impl Router {
         packets
     }
 
-    /// How many packets there are to be sent. With [`get`](Router::get) and [`clear`](Router::clear) it serves who wants no memory of Rust's.
+    /// How many packets there are to be sent. With [`get`](Router::get) and [`clear`](Router::clear) it serves who wants no memory of
+    /// Rust's.
     pub fn sent(&mut self) -> usize {
         unsafe { sys::ipxr_sent(&mut self.handle) }
     }

@@ -41,7 +41,11 @@ pub fn line(text: &str, has_cards: bool, is_below_tunnel: bool, most_clients: u1
 pub fn word(text: &str, number: usize) -> Option<&str> {
     let mut start = 0;
     let length = unsafe { sys::ipxr_settings_word(text.as_ptr(), text.len(), number, &mut start) };
-    if length > 0 { text.get(start..start + length) } else { None }
+    if length > 0 {
+        text.get(start..start + length)
+    } else {
+        None
+    }
 }
 
 /// The socket that a word is, 1 to FFFF.
@@ -70,5 +74,9 @@ fn words(room: usize, write: impl FnOnce(*mut u8, usize) -> usize) -> Option<Str
     let mut bytes = vec![0; room];
     let length = write(bytes.as_mut_ptr(), room);
     bytes.truncate(length);
-    if length > 0 { String::from_utf8(bytes).ok() } else { None }
+    if length > 0 {
+        String::from_utf8(bytes).ok()
+    } else {
+        None
+    }
 }

@@ -43,8 +43,8 @@ pub struct Network(pub u32);
 #[derive(Clone, Copy, Debug, Default, PartialEq, Eq, PartialOrd, Ord, Hash)]
 pub struct Socket(pub u16);
 
-/// A node on a network: the address of a card, a client of a tunnel, or all nodes. Its text has twelve hexadecimal digits, with colons between
-/// each two or without; `{:#}` writes the colons.
+/// A node on a network: the address of a card, a client of a tunnel, or all nodes. Its text has twelve hexadecimal digits, with colons
+/// between each two or without; `{:#}` writes the colons.
 ///
 /// ```
 /// use ipxr::Node;
@@ -171,7 +171,11 @@ fn hexadecimal(text: &str, digits: usize, wrong: &'static str) -> Result<u32, Wr
     let mut number = 0;
     // SAFETY: pointer and length are the text's.
     let is_one = unsafe { sys::ipxr_settings_hexadecimal(text.as_ptr(), text.len(), digits, &mut number) };
-    if is_one { Ok(number) } else { Err(WrongText(wrong)) }
+    if is_one {
+        Ok(number)
+    } else {
+        Err(WrongText(wrong))
+    }
 }
 
 impl FromStr for Network {
@@ -197,7 +201,11 @@ impl FromStr for Node {
         let mut node = [0; 6];
         // SAFETY: pointer and length are the text's, and the node has six bytes.
         let is_one = unsafe { sys::ipxr_settings_node(text.as_ptr(), text.len(), node.as_mut_ptr()) };
-        if is_one { Ok(Node(node)) } else { Err(WrongText("a node has twelve hexadecimal digits")) }
+        if is_one {
+            Ok(Node(node))
+        } else {
+            Err(WrongText("a node has twelve hexadecimal digits"))
+        }
     }
 }
 
@@ -217,7 +225,8 @@ impl FromStr for Place {
     type Err = WrongText;
 
     fn from_str(text: &str) -> Result<Place, WrongText> {
-        let place: SocketAddrV4 = text.parse().map_err(|_| WrongText("a place is an address of IPv4 and a port, such as 192.168.1.7:2130"))?;
+        let place: SocketAddrV4 =
+            text.parse().map_err(|_| WrongText("a place is an address of IPv4 and a port, such as 192.168.1.7:2130"))?;
         Ok(place.into())
     }
 }

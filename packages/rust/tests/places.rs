@@ -68,7 +68,8 @@ fn rules_name_what_they_say() {
     let (from, to) = at(Socket::SAP);
     let service = |name: &str| ServiceEntry { name: name.parse().expect("a name"), kind: 4, address: from, hops: 1 };
     let told = packets::write_sap(&from, &to, false, &[service("LAB"), service("LAB2"), service("FILES")]).expect("services");
-    let names = |bytes: &[u8]| packets::services(packets::read(bytes).expect("a packet").data).map(|it| it.name.to_string()).collect::<Vec<_>>();
+    let names =
+        |bytes: &[u8]| packets::services(packets::read(bytes).expect("a packet").data).map(|it| it.name.to_string()).collect::<Vec<_>>();
     let deny = |names| Rule::deny_services(Way::In, 4, names);
     assert_eq!(names(&left(deny(Names::Is("LAB".parse().expect("a name"))), &told)), ["LAB2", "FILES"]);
     assert_eq!(names(&left(deny(Names::Begin("LAB".parse().expect("a name"))), &told)), ["FILES"]);

@@ -50,7 +50,11 @@ impl Play {
     // ---- What packets are made of ----
 
     fn node(&mut self) -> Node {
-        if self.chance(6) == 0 { Node::ALL } else { Node([2, 0, 0, 0, 0, 1 + self.byte(9)]) }
+        if self.chance(6) == 0 {
+            Node::ALL
+        } else {
+            Node([2, 0, 0, 0, 0, 1 + self.byte(9)])
+        }
     }
 
     fn network(&mut self) -> Network {

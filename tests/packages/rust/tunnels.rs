@@ -128,8 +128,7 @@ fn segment_turn(play: &mut Play, segment: &mut Segment) {
 }
 
 fn stations(play: &mut Play, segment: &mut Segment, link: u8) {
-    let all: Vec<_> =
-        checked(segment.stations()).iter().map(|it| list(&[&it.node, &it.link, &it.is_sure, &it.seconds_left])).collect();
+    let all: Vec<_> = checked(segment.stations()).iter().map(|it| list(&[&it.node, &it.link, &it.is_sure, &it.seconds_left])).collect();
     let next = checked(segment.next_node(&play.address()));
     play.add(&[&all, &next]);
     match segment.link(link) {
@@ -155,4 +154,3 @@ pub fn play(play: &mut Play) {
     play.part("extend", 200, |play, _| extend_turn(play));
     play.part("segment", 500, |play, _| segment_turn(play, &mut segment));
 }
-

@@ -7,8 +7,8 @@
 
 namespace ipx {
 
-/// In which kinds of frames a packet goes out, where stations may use any: what was heard. A node has the same `hash` each time, by a key that
-/// strangers don't know.
+/// In which kinds of frames a packet goes out, where stations may use any: what was heard. A node has the same `hash` each time, by a key
+/// that strangers don't know.
 ///
 /// ```cpp
 /// ipx::Kinds kinds;
@@ -74,8 +74,8 @@ private:
     ipxr_loop loop;
 };
 
-/// A probe comes on link `here` that link `there` sent in second `sent`; it is another second `now`. Both have their numbers in the order of
-/// the network's links.
+/// A probe comes on link `here` that link `there` sent in second `sent`; it is another second `now`. Both have their numbers in the order
+/// of the network's links.
 inline Probed probe(std::uint8_t here, std::uint8_t there, std::uint64_t sent, std::uint64_t now, Loop &at_here, Loop &at_there)
 {
     // (C is lent two values, also where both are one link)

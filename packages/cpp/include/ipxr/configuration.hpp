@@ -9,8 +9,8 @@
 
 namespace ipx {
 
-/// What a line says, up to the first word that is wrong; what was expected there, one of IPXR_EXPECTED_.., and where. It is true if nothing is
-/// wrong.
+/// What a line says, up to the first word that is wrong; what was expected there, one of IPXR_EXPECTED_.., and where. It is true if nothing
+/// is wrong.
 struct LineRead {
     ipxr_setting said;
     std::uint8_t expected;

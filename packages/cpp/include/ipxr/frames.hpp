@@ -44,8 +44,8 @@ inline Frame read_frame(View frame)
     return {kind, View(frame.at + front, frame.length - front)};
 }
 
-/// The frame in which a packet is sent to a node from a node, padded to 60 bytes. It is empty if the packet is too long for a frame, or has a
-/// checksum and the frame would be raw.
+/// The frame in which a packet is sent to a node from a node, padded to 60 bytes. It is empty if the packet is too long for a frame, or has
+/// a checksum and the frame would be raw.
 inline Bytes write_frame(FrameKind kind, const Node &to, const Node &from, View packet)
 {
     Bytes frame(IPXR_LONGEST_FRAME);

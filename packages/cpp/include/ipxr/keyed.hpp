@@ -16,8 +16,8 @@ inline ipxr_keyed_setting keyed_setting(std::uint32_t network, const Node &node,
     return made;
 }
 
-/// Where a datagram came from: its place, its node, and its cookies of this minute and the last, which are yours to make, and which nobody may
-/// guess. It has no former node, isn't trusted, and may register: change what is otherwise.
+/// Where a datagram came from: its place, its node, and its cookies of this minute and the last, which are yours to make, and which nobody
+/// may guess. It has no former node, isn't trusted, and may register: change what is otherwise.
 inline ipxr_keyed_sender keyed_sender(const Place &place, const Node &node, const Node &current, const Node &previous)
 {
     ipxr_keyed_sender made = ipxr_keyed_sender();
@@ -65,7 +65,8 @@ public:
     /// The router sends a packet on the tunnel's network to that node, or to all.
     Answer send(const Node &node) { return ipxr_keyed_send(&handle, node.data()); }
 
-    /// Datagrams of the tunnel's own that the last event left: send them first. The first `pings` of them are pings of clients after a second.
+    /// Datagrams of the tunnel's own that the last event left: send them first. The first `pings` of them are pings of clients after a
+    /// second.
     std::vector<ipxr_own> owns() { return listed<ipxr_own>(ipxr_keyed_owns(&handle), ipxr_keyed_own); }
     std::size_t pings() { return ipxr_keyed_pings(&handle); }
 

@@ -6,9 +6,9 @@
 
 namespace ipx {
 
-/// What a server of a tunnel makes of the place where a datagram comes from: keyed hashes, by SipHash-2-4, as the gateway of this project makes
-/// them. Take a key of sixteen random bytes and keep it in a file: by another one clients have other nodes, and have to connect again. This is
-/// plain C++, which is tested and not proved.
+/// What a server of a tunnel makes of the place where a datagram comes from: keyed hashes, by SipHash-2-4, as the gateway of this project
+/// makes them. Take a key of sixteen random bytes and keep it in a file: by another one clients have other nodes, and have to connect
+/// again. This is plain C++, which is tested and not proved.
 ///
 /// ```cpp
 /// const ipx::Keys keys(std::array<std::uint8_t, 16>{{7}}); // yours: random, and secret

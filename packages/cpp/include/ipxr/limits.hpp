@@ -97,9 +97,9 @@ class Limits {
 public:
     Limits() : limits() {}
 
-    /// Makes the limits of a network whose link is of that kind. A client there receives `rate` packets a second; a `share` is what somebody
-    /// who says little says in a second. `routes` and `services` are the network's shares of the router's tables. Returns whether there are
-    /// limits: not if the rate is 0.
+    /// Makes the limits of a network whose link is of that kind. A client there receives `rate` packets a second; a `share` is what
+    /// somebody who says little says in a second. `routes` and `services` are the network's shares of the router's tables. Returns whether
+    /// there are limits: not if the rate is 0.
     bool make(LimitsOf link, std::uint32_t rate, std::uint32_t share, std::uint16_t routes = IPXR_NO_LIMIT,
               std::uint16_t services = IPXR_NO_LIMIT)
     {
@@ -184,8 +184,8 @@ inline bool Reader::make(const Limits &limits)
 /// ipx::Household household;
 /// ipx::Reader client;
 /// ipx::Fair address;
-/// assert(limits.make(ipx::LimitsOf::Tunnel, 800, 50) && household.make(2000) && client.make(limits) && address.make(household.received()));
-/// assert(household.receives(limits, client, address, 1, 100) == ipx::Verdict::Passes);
+/// assert(limits.make(ipx::LimitsOf::Tunnel, 800, 50) && household.make(2000) && client.make(limits) &&
+/// address.make(household.received())); assert(household.receives(limits, client, address, 1, 100) == ipx::Verdict::Passes);
 /// ```
 class Household {
 public:

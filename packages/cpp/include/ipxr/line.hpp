@@ -55,8 +55,8 @@ public:
     void second(LineAddress &address) { ipxr_line_second(&line, address.raw()); }
     void silence(LineAddress &address) { ipxr_line_silence(&line, address.raw()); }
 
-    /// Whether there is room for a copy of a packet of so many bytes to an address. The speaker has that number, or 0 if it has no part; `said`
-    /// is the moment until which his part of what he says to all is used, 0 at first.
+    /// Whether there is room for a copy of a packet of so many bytes to an address. The speaker has that number, or 0 if it has no part;
+    /// `said` is the moment until which his part of what he says to all is used, 0 at first.
     Rank room(std::uint64_t now, std::uint8_t number, std::size_t bytes, std::uint64_t &said, LineAddress &to) const
     {
         return static_cast<Rank>(ipxr_line_room(&line, now, number, bytes, &said, to.raw()));
