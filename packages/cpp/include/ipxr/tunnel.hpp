@@ -40,8 +40,9 @@ inline ipxr_tunnel_setting tunnel_setting(std::uint32_t network, const Node &nod
 /// ```cpp
 /// ipx::Tunnel tunnel;
 /// const ipx::Node node = {{0, 0, 0, 0, 0, 1}};
-/// const ipx::Node cookie = {{2, 7, 7, 7, 7, 7}}, before = {{2, 6, 6, 6, 6, 6}}; // yours: a keyed hash of the place and the minute, and
-/// the last if (!tunnel.make(ipx::tunnel_setting(0x10, node, 64, 16)))
+/// // yours: a keyed hash of the place and the minute, and of the place and the last one
+/// const ipx::Node cookie = {{2, 7, 7, 7, 7, 7}}, before = {{2, 6, 6, 6, 6, 6}};
+/// if (!tunnel.make(ipx::tunnel_setting(0x10, node, 64, 16)))
 ///     return;
 /// ipx::Place place;
 /// ipx::read_place("192.168.1.7:2130", place);
