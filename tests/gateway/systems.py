@@ -86,6 +86,7 @@ class Linux:
 
     name = "Linux"
     has_cards = True  # TAPs and interfaces
+    is_wide = True  # 64 bits, with which the library as one file takes a struct as it is
     is_emulated = False  # by an emulator that doesn't hand on all that Linux has
     calls = {}  # those by which it does what Linux does by others
     program = built("ipxr-gateway-sanitized", "ipxr-gateway")
@@ -114,6 +115,7 @@ class Arm(Linux):
     """Linux on 32-bit ARM."""
 
     name = "ARM"
+    is_wide = False
     is_emulated = True
     program = delivered = built("arm/ipxr-gateway")
     troubled, fast = built("arm/ipxr-gateway-troubled"), built("arm/ipxr-gateway-fast")
@@ -125,6 +127,7 @@ class I686(Linux):
     """Linux on 32-bit x86."""
 
     name = "i686"
+    is_wide = False
     program = delivered = built("i686/ipxr-gateway")
     troubled, fast = built("i686/ipxr-gateway-troubled"), built("i686/ipxr-gateway-fast")
     siphash, queues, minutes = built("i686/siphash"), built("i686/queues"), built("i686/minutes")
@@ -156,6 +159,8 @@ class Windows:
 
     name = "Windows"
     has_cards = False
+    is_wide = True
+    is_emulated = False
     program = delivered = built("windows/ipxr-gateway.exe")
     siphash, queues, minutes = built("windows/siphash.exe"), built("windows/queues.exe"), built("windows/minutes.exe")
     quick = ["wine"]

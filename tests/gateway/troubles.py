@@ -596,14 +596,22 @@ def who_is_refused():
             assert said == named, (k, said, named)
 
 
+# What wants a call that not every system has.
+OF_CALLS = (
+    (a_fifo_cannot_be_opened, "getrandom", "no file left for a FIFO", "without one this system has no random numbers to begin with"),
+    (one_is_refused, "sendmmsg", "one of several datagrams that is refused", "this system has no call for several"),
+)
+
+
 def main():
-    counts = tried(each_fails, each_fails_for_a_while, a_fifo_cannot_be_opened, cannot_wait, nobody_is_taken, no_room_to_receive,
-                   no_memory_for_a_second, who_is_silent, who_left, stands_still, who_spoke_meanwhile, each_has_its_turn,
-                   what_was_heard_lately, interrupted, few_strangers, late_answers, who_is_refused, an_hour, full_tables, who_stays)
-    if call_of("sendmmsg") == "sendmmsg":
-        counts.run(one_is_refused)
-    else:
-        left_out("one of several datagrams that is refused", "this system has no call for several")
+    counts = tried(each_fails, each_fails_for_a_while, cannot_wait, nobody_is_taken, no_room_to_receive, no_memory_for_a_second,
+                   who_is_silent, who_left, stands_still, who_spoke_meanwhile, each_has_its_turn, what_was_heard_lately, interrupted,
+                   few_strangers, late_answers, who_is_refused, an_hour, full_tables, who_stays)
+    for test, call, what, why in OF_CALLS:
+        if call_of(call) == call:
+            counts.run(test)
+        else:
+            left_out(what, why)
     return counts
 
 
