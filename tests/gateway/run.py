@@ -83,6 +83,8 @@ def main(names):
     if not has_loopback():
         print("left out: gateway: all tests (no sockets on the loopback address)\n0 passed, 0 failed")
         return 0
+    if not SYSTEM.has_cards:
+        left_out("interfaces and TAPs, whatever is said of them below", f"the gateway for {SYSTEM.name} has none")
     counts = sum((it.main() for it in chosen(names)), Counts())
     print(counts)
     return 1 if counts.failed else 0

@@ -116,7 +116,7 @@ def try_way(name, words, needed):
     tell(f"sources: by {name} it is compiled without a warning", runs([*words, WARNINGS], "all") and is_silent())
     is_well = runs([*words, WARNINGS], "check")
     print("".join(f"        {it}\n" for it in text_of("build/log").splitlines()[-6:]), end="")
-    tell(f"sources: by {name} make check plays two players", is_well)
+    tell(f"sources: by {name} `make check` plays two players", is_well)
     tell(f"sources: by {name} it is installed", installs([*words, WARNINGS]))
 
 
