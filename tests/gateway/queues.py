@@ -7,11 +7,12 @@ from systems import SYSTEM
 from trying import begin, figures, named, tried
 
 CALLS = 1_000_000
+PATIENCE = 20 * LIMIT  # (they calculate all the time, and with 32 bits and an emulator for a minute alone)
 
 
 def plays(*words, program=SYSTEM.minutes):
     """Runs a program, and shows what it saw."""
-    run = subprocess.run([*SYSTEM.quick, program, *map(str, words)], capture_output=True, timeout=LIMIT, check=False)
+    run = subprocess.run([*SYSTEM.quick, program, *map(str, words)], capture_output=True, timeout=PATIENCE, check=False)
     said = run.stdout.decode() + run.stderr.decode()
     assert run.returncode == 0, f"{words}: {said}"
     figures(said.splitlines()[-1])

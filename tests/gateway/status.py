@@ -1,5 +1,6 @@
 """Who runs the gateway sees what it knows, by its status socket: show, and what others can do there."""
 import contextlib
+import errno
 import json
 import os
 import re
@@ -14,7 +15,7 @@ import time
 from frames import frame
 from lab import (ALL_THERE_IS, EVERYONE, GAME, LIMIT, NOBODY, Client, Gateway, address, packet, reaches, rip_response, text_of, tunnels,
                  until)
-from systems import SYSTEM
+from systems import SYSTEM, words_of
 from trying import Counts, begin, has_linux, left_out, tried
 
 SECTIONS = ("links", "clients", "stations", "routes", "services", "edge", "counts")
@@ -283,7 +284,7 @@ def who_may_ask():
     with Watched(tunnels(1)) as gate:
         assert stat.S_IMODE(os.stat(gate.path).st_mode) == 0o660
         run = begun_at(gate.path)
-        assert run.returncode == 1 and b"can't listen there: Address already in use" in run.stderr, run
+        assert run.returncode == 1 and f"can't listen there: {words_of(errno.EADDRINUSE)}".encode() in run.stderr, run
         assert gate.shown("links")
         gate.run.kill()
         gate.run.communicate()
@@ -311,7 +312,7 @@ def who_takes_nobody():
                 one.setblocking(False)
                 one.connect(path)
         run = begun_at(path)
-        assert run.returncode == 1 and b"can't listen there: Address already in use" in run.stderr, run
+        assert run.returncode == 1 and f"can't listen there: {words_of(errno.EADDRINUSE)}".encode() in run.stderr, run
 
 
 def many_ask():
@@ -341,7 +342,7 @@ def no_room_to_ask():
         files = len(os.listdir(f"/proc/{process}/fd"))
         before = resource.prlimit(process, resource.RLIMIT_NOFILE, (files, resource.getrlimit(resource.RLIMIT_NOFILE)[1]))
         with gate.connects(b"show links\n") as late:
-            assert gate.told("nobody can ask at").endswith(" now: Too many open files")
+            assert gate.told("nobody can ask at").endswith(f" now: {words_of(errno.EMFILE)}")
             used = processor_time(process)
             time.sleep(RESTED)
             used = processor_time(process) - used

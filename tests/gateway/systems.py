@@ -5,6 +5,7 @@ sanitizers, where that is built. For ARM it runs by qemu-aarch64 or qemu-arm; fo
 orders of a console. What is for any POSIX system runs on this machine's Linux. The programs lie where tools/gateway puts them.
 """
 import contextlib
+import errno
 import os
 import signal
 import subprocess
@@ -89,6 +90,7 @@ class Linux:
     is_wide = True  # 64 bits, with which the library as one file takes a struct as it is
     is_emulated = False  # by an emulator that doesn't hand on all that Linux has
     calls = {}  # those by which it does what Linux does by others
+    words = {}  # what it says of faults, where this machine's C library says something else
     program = built("ipxr-gateway-sanitized", "ipxr-gateway")
     delivered = built("ipxr-gateway")
     troubled, fast = built("ipxr-gateway-troubled"), built("ipxr-gateway-fast")
@@ -149,6 +151,12 @@ class Musl(Posix):
     """The same by another C library."""
 
     name = "POSIX by musl"
+    words = {
+        errno.EADDRINUSE: "Address in use",
+        errno.EADDRNOTAVAIL: "Address not available",
+        errno.EMFILE: "No file descriptors available",
+        errno.ETIMEDOUT: "Operation timed out",
+    }
     program = delivered = built("musl/ipxr-gateway")
     troubled, fast = built("musl/ipxr-gateway-troubled"), built("musl/ipxr-gateway-fast")
     siphash, queues, minutes = built("musl/siphash"), built("musl/queues"), built("musl/minutes")
@@ -161,6 +169,7 @@ class Windows:
     has_cards = False
     is_wide = True
     is_emulated = False
+    words = {}
     program = delivered = built("windows/ipxr-gateway.exe")
     siphash, queues, minutes = built("windows/siphash.exe"), built("windows/queues.exe"), built("windows/minutes.exe")
     quick = ["wine"]
@@ -172,3 +181,8 @@ class Windows:
 
 SYSTEMS = {"": Linux, "aarch64": Aarch64, "arm": Arm, "i686": I686, "posix": Posix, "musl": Musl, "windows": Windows}
 SYSTEM = SYSTEMS[os.environ.get("GATEWAY_SYSTEM", "")]
+
+
+def words_of(fault):
+    """What the gateway says of a fault of the system."""
+    return SYSTEM.words.get(fault, os.strerror(fault))

@@ -7,51 +7,15 @@ import socket
 import tempfile
 import time
 
+from calls import CALLS, call_of
 from frames import Station, Tcp, Udp
 from lab import (AGAIN, ALL_THERE_IS, EVERYONE, GAME, LIMIT, Client, Clock, Gateway, address, comes_next, fresh, is_ping, reaches,
                  reaches_again, registration, rip_response, sap_response, says, tunnels, until)
 from links import STATION, connected, listening
 from orders import is_farewell
 from status import Watched, answer_of, processor_time
-from systems import SYSTEM
+from systems import SYSTEM, words_of
 from trying import begin, left_out, tried
-
-# Each of Linux' calls, the faults that it gives, and how many times it is let fail: the first time, the second, ..
-OF_LINUX = [
-    ("socket", errno.EMFILE, 5),
-    ("bind", errno.EADDRINUSE, 4),
-    ("getsockname", errno.ENOBUFS, 4),
-    ("setsockopt", errno.ENOBUFS, 8),
-    ("getsockopt", errno.ENOBUFS, 2),
-    ("fcntl", errno.EINVAL, 8),
-    ("connect", errno.ENETUNREACH, 2),
-    ("listen", errno.EADDRINUSE, 1),
-    ("accept", errno.EMFILE, 2),
-    ("recv", errno.ENETDOWN, 3),
-    ("recvmmsg", errno.ENETDOWN, 4),
-    ("recvmmsg", errno.EINTR, 2),
-    ("send", errno.ENETDOWN, 3),
-    ("sendto", errno.ENOBUFS, 4),
-    ("poll", errno.ENOMEM, 4),
-    ("poll", errno.EINTR, 2),
-    ("close", errno.EIO, 3),
-    ("clock_gettime", errno.EINVAL, 4),
-    ("fopen", errno.EACCES, 2),
-    ("open", errno.EMFILE, 2),
-    ("write", errno.ENOSPC, 4),
-    ("write", errno.EINTR, 2),
-    ("malloc", errno.ENOMEM, 6),
-    ("realloc", errno.ENOMEM, 3),
-    ("getrandom", errno.ENOSYS, 1),
-]
-
-
-def call_of(name):
-    """What the system that is tried calls in the place of a call of Linux."""
-    return SYSTEM.calls.get(name, name)
-
-
-CALLS = [(call_of(name), fault, times) for name, fault, times in OF_LINUX]
 
 
 def configuration(card, place):
@@ -158,7 +122,7 @@ def a_fifo_cannot_be_opened():
             assert reaches(Client(gate.ports[0x10]), Client(gate.ports[0x20]))
             gate.run.order(SYSTEM.end)
             _, complaint = gate.run.communicate(timeout=LIMIT)
-            assert gate.run.returncode == 0 and complaint == b"ipxr-gateway: the capture ends: Too many open files\n", complaint
+            assert gate.run.returncode == 0 and complaint.decode() == f"ipxr-gateway: the capture ends: {words_of(errno.EMFILE)}\n", complaint
 
 
 def knocks(gate):
@@ -218,7 +182,7 @@ def nobody_is_taken():
         for fault in errno.ENFILE, errno.EPERM:
             with trouble.fails("accept", fault):
                 late = gate.connects(b"show links\n")
-                assert gate.told("nobody can ask at").endswith(f" now: {os.strerror(fault)}")
+                assert gate.told("nobody can ask at").endswith(f" now: {words_of(fault)}")
                 rests(gate, f"accept {fault}")
             with late:
                 assert answer_of(late).startswith(b"+")

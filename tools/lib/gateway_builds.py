@@ -15,6 +15,8 @@ LINUX, POSIX, OF_WINDOWS = ("unix", "linux"), ("unix", "posix", "cardless"), ("w
 ONE_FILE = "build/library/libipxr.c"
 # (with 32 bits the GNU C library counts the seconds of the date, and the bytes of a file, in as many unless it is told)
 WIDE = ["-D_FILE_OFFSET_BITS=64", "-D_TIME_BITS=64"]
+# (what isn't static finds the C library where the cross compiler has it)
+FOUND_THERE = ("-Wl,--dynamic-linker=/usr/i686-linux-gnu/lib/ld-linux.so.2", "-Wl,-rpath,/usr/i686-linux-gnu/lib")
 # (Windows' own texts for the command line; neither a time nor a name of what was compiled where)
 FLAGS_OF_WINDOWS = ["-municode", "-s", "-Wl,--no-insert-timestamp"]
 
@@ -71,13 +73,14 @@ def builds_windows():
 
 
 class Kind(NamedTuple):
-    """A gateway over the library as one file of C: its compiler, the folders of its system, its flags and those of the program that is
-    delivered, and what runs it here."""
+    """A gateway over the library as one file of C: its compiler, the folders of its system, its flags, those of the program that is
+    delivered and those of what only tests run, and what runs it here."""
 
     compiler: str
     system: tuple = LINUX
     flags: tuple = ()
     delivered: tuple = ()
+    tested: tuple = ()
     runner: str = ""
 
 
@@ -85,8 +88,8 @@ class Kind(NamedTuple):
 OF_ONE_FILE = {
     "posix": Kind(CC, POSIX, ("-D_DARWIN_C_SOURCE",)),
     "musl": Kind("musl-gcc", POSIX),
-    "i686": Kind("i686-linux-gnu-gcc", LINUX, (), (*WIDE, "-static")),
-    "arm": Kind("arm-linux-gnueabihf-gcc", LINUX, (), (*WIDE, "-static"), "qemu-arm"),
+    "i686": Kind("i686-linux-gnu-gcc", LINUX, (), (*WIDE, "-static"), FOUND_THERE),
+    "arm": Kind("arm-linux-gnueabihf-gcc", LINUX, (), (*WIDE, "-static"), (), "qemu-arm"),
 }
 
 
@@ -116,9 +119,9 @@ def has_sanitizers():
     return quietly(CC, *SANITIZERS, "-x", "c", "-", "-o", made, input=b"int main(void) { return 0; }") and quietly(made)
 
 
-def builds_troubled(compiler, folder, flags, system=LINUX):
+def builds_troubled(compiler, folder, flags, system=LINUX, always=()):
     """The builds with calls that fail, and a clock that the test sets."""
-    more = [*wraps(TROUBLED), f"{TESTS}/trouble.c"]
+    more = [*wraps(TROUBLED), f"{TESTS}/trouble.c", *always]
     return builds("ipxr-gateway-troubled", *flags, *more, compiler=compiler, folder=folder, system=system) and \
         builds("ipxr-gateway-fast", "-O2", *more, compiler=compiler, folder=folder, system=system)
 
@@ -173,7 +176,7 @@ def builds_sanitized_of(name):
     kind, folder = OF_ONE_FILE[name], f"build/{name}"
     flags = [*SANITIZERS, *kind.flags]
     if kind.compiler != CC or not has_sanitizers():
-        return ["-O2", *kind.flags]
+        return ["-O2", *kind.flags, *kind.tested]
     return flags if builds("ipxr-gateway-sanitized", *flags, folder=folder, system=kind.system) else None
 
 
@@ -183,7 +186,7 @@ def builds_for_one_file(name):
     kind, folder = OF_ONE_FILE[name], f"build/{name}"
     flags = builds_of_one_file(name) and builds_sanitized_of(name)
     return flags and builds_siphash(kind.compiler, f"{folder}/siphash", flags) and builds_limits(kind.compiler, folder, flags) and \
-        builds_troubled(kind.compiler, folder, flags, kind.system)
+        builds_troubled(kind.compiler, folder, flags, kind.system, (*kind.flags, *kind.tested))
 
 
 def builds_for_windows():
