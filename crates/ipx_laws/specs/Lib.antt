@@ -11,8 +11,9 @@ pub mod Gone
 pub mod Meanwhile
 -- Announces
 pub mod Announces
--- Servers, Regular
+-- Servers, HeardInTicks, Regular
 pub mod Servers
+pub mod HeardInTicks
 pub mod Regular
 -- Nearest
 pub mod Nearest

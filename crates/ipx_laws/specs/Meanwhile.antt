@@ -1,5 +1,5 @@
 -- Time that passes while anything else happens too, and what may not happen to something that is to be gone.
-use Rattle.std.specs.Prelude.{◌≡◌, ◌≢◌, ◌⊎◌, ℕ, ◌<◌, ◌||◌, not, if◌then◌else◌, List, [], ◌∷◌, Option, None, Some, IfSome, Ok, Err}
+use Rattle.std.specs.Prelude.{◌≡◌, ◌≢◌, ℕ, ◌<◌, ◌||◌, not, if◌then◌else◌, List, [], ◌∷◌, Option, None, Some, IfSome, Ok, Err}
 use Rattle.std.specs.List.{AllByRecursion}
 use Rattle.ipx_wire.specs.Packet.{Parts, packet_of}
 use Rattle.ipx_wire.specs.declared.address.Address.{Address}
@@ -8,14 +8,12 @@ use Rattle.ipx_wire.specs.declared.rip.Operation.{Operation}
 use Rattle.ipx_wire.specs.declared.rip.Operation.TheVariants.{Request, Response}
 use Rattle.ipx_wire.specs.declared.rip.RipEntry.{RipEntry}
 use Rattle.ipx_wire.specs.declared.sap.Sap.TheVariants.{Query, Response as SapResponse}
-use Rattle.ipx_router.specs.Facts.{heard_after}
 use Rattle.ipx_router.specs.Heard.{Heard, HeardRip, HeardSap, heard_in}
-use Rattle.ipx_router.specs.History.{Event, History, Packet, Second}
+use Rattle.ipx_router.specs.History.{Event, Packet, Second}
 use Rattle.ipx_router.specs.Numbers.{rip_socket, sap_socket, unreachable}
 use Rattle.ipx_router.specs.Why.{is_propagated, is_for_rip, is_for_sap}
 use Rattle.ipx_internet.specs.BusyTick.{IsBusyTick}
-use Rattle.ipx_internet.specs.Internet.{Internet, Place, ports_of}
-use Rattle.ipx_internet.specs.Queue.{history_of}
+use Rattle.ipx_internet.specs.Internet.{Internet}
 use Rattle.ipx_internet.specs.Run.{Step, Happens, Settles, Run, stepped, run_of}
 use Rattle.ipx_internet.specs.Ticks.{AreTicks}
 use Rattle.ipx_laws.specs.Gone.{IsGone}
@@ -81,14 +79,6 @@ abbrev pub SaysOnly : (Heard → Type 0) → Step → Type 0
 SaysOnly Says (Happens router event) = IsWith Says event
 SaysOnly Says Settles = Unit
 
--- in a step a packet comes from outside to a port, and what is heard of it there is such
-abbrev pub IsHeardOutside : Internet → Place → (Heard → Type 0) → List History → Step → Type 0
-IsHeardOutside net to Says histories (Happens router (Packet number bytes)) =
-    (router ≡ to.router) × (number ≡ to.port)
-    × (m : Heard) × (heard_after (ports_of net to.router) (history_of histories to.router) to.port bytes ≡ Some m) × Says m
-IsHeardOutside net to Says histories (Happens router event) = ⊥
-IsHeardOutside net to Says histories Settles = ⊥
-
 -- ---- ticks
 
 -- each step of each tick is such
@@ -105,16 +95,6 @@ module _ (net : Internet) (most_routes most_services : ℕ) where
   abbrev pub EachTick : (Run → List Step → Type 0) → Run → List (List Step) → Type 0
   EachTick Is run [] = Unit
   EachTick Is run (steps ∷ ticks) = Is run steps × EachTick Is (run_of net most_routes most_services run steps) ticks
-
-  -- something is so of one of some steps, or what comes after them is so
-  abbrev pub InSteps : (Run → Step → Type 0) → (Run → Type 0) → Run → List Step → Type 0
-  InSteps Is Later run [] = Later run
-  InSteps Is Later run (step ∷ steps) = Is run step ⊎ InSteps Is Later (stepped net most_routes most_services run step) steps
-
-  -- of one of the steps of some ticks
-  abbrev pub InTicks : (Run → Step → Type 0) → Run → List (List Step) → Type 0
-  InTicks Is run [] = ⊥
-  InTicks Is run (steps ∷ ticks) = InSteps Is (λ next. InTicks Is next ticks) run steps
 
   -- in each of them anything may happen
   abbrev pub AreBusyTicks : Run → List (List Step) → Type 0

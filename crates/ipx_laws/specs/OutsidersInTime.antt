@@ -6,9 +6,9 @@ use Rattle.ipx_internet.specs.Internet.{Internet, Place, port_of}
 use Rattle.ipx_internet.specs.Run.{Step, Run}
 use Rattle.ipx_internet.specs.Ticks.{ticked}
 use Rattle.ipx_laws.specs.Gone.{most_ticks_gone}
+use Rattle.ipx_laws.specs.HeardInTicks.{IsHeardOutside, InTicks}
 use Rattle.ipx_laws.specs.InTime.{Names}
 use Rattle.ipx_laws.specs.Least.{Way}
-use Rattle.ipx_laws.specs.Meanwhile.{IsHeardOutside, InTicks}
 use Rattle.ipx_laws.specs.Outsiders.{LeadsByOutsider}
 use Rattle.ipx_laws.specs.Wires.{Wires, WireStep, as_step, beats_of, InBeats}
 

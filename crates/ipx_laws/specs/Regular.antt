@@ -11,7 +11,8 @@ use Rattle.ipx_internet.specs.Internet.{Internet, Place, IsInternet, network_of}
 use Rattle.ipx_internet.specs.Run.{Step, AreHistories, Run}
 use Rattle.ipx_internet.specs.Ticks.{ticked}
 use Rattle.ipx_laws.specs.Gone.{most_ticks_gone}
-use Rattle.ipx_laws.specs.Meanwhile.{SaysOnly, IsHeardOutside, EachStep, InTicks}
+use Rattle.ipx_laws.specs.HeardInTicks.{IsHeardOutside, InTicks}
+use Rattle.ipx_laws.specs.Meanwhile.{SaysOnly, EachStep}
 use Rattle.ipx_laws.specs.Servers.{Announcer, Server, at_hops, SaysNoFalse, NamesOnly}
 
 -- a response of that host names the service, with its address and this host's hops

@@ -9,8 +9,9 @@ use Rattle.ipx_router.specs.Port.{is_up}
 use Rattle.ipx_router.specs.Told.{told_services}
 use Rattle.ipx_internet.specs.Internet.{Internet, Place, port_of, network_of}
 use Rattle.ipx_laws.specs.Announces.{service_of}
+use Rattle.ipx_laws.specs.HeardInTicks.{IsHeardOutside}
 use Rattle.ipx_laws.specs.InTime.{IsHeardLanding}
-use Rattle.ipx_laws.specs.Meanwhile.{SaysOnly, IsHeardOutside}
+use Rattle.ipx_laws.specs.Meanwhile.{SaysOnly}
 use Rattle.ipx_laws.specs.Regular.{Announces, IsListedName}
 use Rattle.ipx_laws.specs.Servers.{Announcer, Server, IsOf, SaysNoFalse, NamesOnly}
 use Rattle.ipx_laws.specs.Tables.{services_of}

@@ -31,8 +31,9 @@ use Rattle.ipx_internet.proofs.examples.Waiting.{segment}
 use Rattle.ipx_internet.proofs.examples.Words.{network, node, port_on, at}
 use Rattle.ipx_internet.proofs.packets.SentOnOrReply.{Layouts}
 use Rattle.ipx_internet.proofs.ticks.TickCanBeHad.{sound_run, can_be_busy}
+use Rattle.ipx_laws.specs.HeardInTicks.{InTicks}
 use Rattle.ipx_laws.specs.InTime.{AreQuick}
-use Rattle.ipx_laws.specs.Meanwhile.{LeavesPorts, SaysOnly, EachTick, InTicks}
+use Rattle.ipx_laws.specs.Meanwhile.{LeavesPorts, SaysOnly, EachTick}
 use Rattle.ipx_laws.specs.Regular.{IsListedName, IsServiceSetting, most_ticks_known, IsHeard, AreInTime}
 use Rattle.ipx_laws.specs.Servers.{Announcer, NamesOnly, at_hops, known_of, SaysNoFalse}
 use Rattle.ipx_laws.specs.Tables.{services_of}

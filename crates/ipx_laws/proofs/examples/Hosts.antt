@@ -31,7 +31,8 @@ use Rattle.ipx_internet.proofs.examples.Waiting.{segment}
 use Rattle.ipx_internet.proofs.examples.Words.{network, node, port_on, at}
 use Rattle.ipx_internet.proofs.lists.FoundInAList.{it_is}
 use Rattle.ipx_laws.specs.Announces.{AsksApart, service_of}
-use Rattle.ipx_laws.specs.Meanwhile.{message_of, LeavesPorts, SaysOnly, InTicks}
+use Rattle.ipx_laws.specs.HeardInTicks.{InTicks}
+use Rattle.ipx_laws.specs.Meanwhile.{message_of, LeavesPorts, SaysOnly}
 use Rattle.ipx_laws.specs.Regular.{HasRoomFor, HaveOneVoice, IsListedName, IsHeard}
 use Rattle.ipx_laws.specs.Servers.{Announcer, NamesOnly, Server, at_hops, IsAnnouncedOn, IsSilentOf, SaysAsAnnounced, IsForHere, SaysNoFalse, IsServed, announced, passed_on, IsAway, beside}
 use Rattle.ipx_laws.specs.Ups.{ups}

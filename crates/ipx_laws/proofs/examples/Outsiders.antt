@@ -30,9 +30,10 @@ use Rattle.ipx_internet.specs.Ticks.{seconds_of}
 use Rattle.ipx_internet.proofs.examples.Words.{network, node, port_on, at}
 use Rattle.ipx_internet.proofs.lists.FoundInAList.{it_is}
 use Rattle.ipx_laws.specs.Apart.{HasRoomBeside}
+use Rattle.ipx_laws.specs.HeardInTicks.{IsHeardOutside}
 use Rattle.ipx_laws.specs.InTime.{Names, seconds_in, AreQuick, AreHeardInTime}
 use Rattle.ipx_laws.specs.Least.{Way, AreCheap, FifteenSuffice, least_route, way_of}
-use Rattle.ipx_laws.specs.Meanwhile.{message_of, LeavesPorts, IsHeardOutside}
+use Rattle.ipx_laws.specs.Meanwhile.{message_of, LeavesPorts}
 use Rattle.ipx_laws.specs.Servers.{IsForHere}
 use Rattle.ipx_laws.specs.Real.{IsReal, next, farther}
 use Rattle.ipx_laws.specs.Outsiders.{ups_with, AreStopped, IsTrueOf, own_network, real_route, IsTrueAndLeast, IsOfOutsider, IsFromOutsider, MayComeTo, SaysTruly, IsSettingWith}

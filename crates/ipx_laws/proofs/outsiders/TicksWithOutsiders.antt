@@ -13,9 +13,10 @@ use Rattle.ipx_internet.specs.Ticks.{ticked}
 use Rattle.ipx_internet.proofs.packets.SentOnOrReply.{Layouts}
 use Rattle.ipx_laws.specs.Apart.{IsRealApart, HasRoomBeside}
 use Rattle.ipx_laws.specs.Gone.{most_ticks_gone}
+use Rattle.ipx_laws.specs.HeardInTicks.{IsHeardOutside}
 use Rattle.ipx_laws.specs.InTime.{Names, AreHeardInTime, beats_right}
 use Rattle.ipx_laws.specs.Least.{Way, AreCheap, FifteenSuffice, least_route}
-use Rattle.ipx_laws.specs.Meanwhile.{LeavesPorts, IsHeardOutside, EachStep, AreBusyTicks, AreTicksOfHosts}
+use Rattle.ipx_laws.specs.Meanwhile.{LeavesPorts, EachStep, AreBusyTicks, AreTicksOfHosts}
 use Rattle.ipx_laws.specs.Setting.{ComesToRest}
 use Rattle.ipx_laws.specs.Outsiders.{ups_with, AreStopped, IsTrueOf, IsTrueAndLeast, SaysTruly}
 use Rattle.ipx_laws.specs.OutsidersInTime.{AreOutsidersHeard, AreOutsidersInTime, ticks_right_with}

@@ -19,7 +19,8 @@ use Rattle.ipx_internet.specs.BusyTick.{IsBusyTick}
 use Rattle.ipx_internet.proofs.deliveries.QueueOfARun.{events, deliveries}
 use Rattle.ipx_internet.proofs.packets.SentOnOrReply.{Layouts}
 use Rattle.ipx_internet.proofs.trees.RunIsALog.{router_there}
-use Rattle.ipx_laws.specs.Meanwhile.{LeavesPorts, EachTick, InSteps, InTicks}
+use Rattle.ipx_laws.specs.HeardInTicks.{InSteps, InTicks}
+use Rattle.ipx_laws.specs.Meanwhile.{LeavesPorts, EachTick}
 use Rattle.ipx_laws.specs.Ups.{ups}
 use Rattle.ipx_laws.proofs.lists.SomeElement.{AnyIs, any_in_front, any_behind}
 use Rattle.ipx_laws.proofs.records.RecordsGrowOld.{passed}

@@ -13,8 +13,9 @@ use Rattle.ipx_internet.specs.Run.{Happens, IsStep}
 use Rattle.ipx_internet.specs.Ticks.{seconds_of}
 use Rattle.ipx_internet.proofs.lists.FoundInAList.{nothing, it_is}
 use Rattle.ipx_internet.proofs.packets.SentOnOrReply.{Layouts}
+use Rattle.ipx_laws.specs.HeardInTicks.{IsHeardOutside}
 use Rattle.ipx_laws.specs.InTime.{IsHeardLanding, seconds_in}
-use Rattle.ipx_laws.specs.Meanwhile.{LeavesPorts, IsHeardOutside}
+use Rattle.ipx_laws.specs.Meanwhile.{LeavesPorts}
 use Rattle.ipx_laws.specs.Wires.{Flight, Wires, WireStep, Occurs, Lands, as_step, beaten, occurs, lands, wired, wires_of, beats_of, Along, EachBeat, IsBeat, InSteps, InBeats}
 use Rattle.ipx_laws.proofs.ticks.EventOfOneRouter.{own_seconds}
 use Rattle.ipx_laws.proofs.ticks.TickAfterTick.{second_there}

@@ -15,7 +15,8 @@ use Rattle.ipx_internet.specs.Ticks.{seconds_of, ticked}
 use Rattle.ipx_internet.proofs.deliveries.QueueOfARun.{events, deliveries}
 use Rattle.ipx_laws.specs.Announces.{IsAccepted, IsSaid, IsAnnounced}
 use Rattle.ipx_laws.specs.Gone.{IsGone}
-use Rattle.ipx_laws.specs.Meanwhile.{IsHeardOutside, EachStep, StaysGone, EachTick, InSteps, InTicks}
+use Rattle.ipx_laws.specs.HeardInTicks.{IsHeardOutside, InSteps, InTicks}
+use Rattle.ipx_laws.specs.Meanwhile.{EachStep, StaysGone, EachTick}
 use Rattle.ipx_laws.specs.WireAnnounces.{WasSaid, WasAnnounced}
 use Rattle.ipx_laws.specs.Wires.{Flight, Wires, WireStep, Occurs, Lands, as_step, still, beaten, occurs, lands, wired, wires_of, beats_of, Along, InSteps as InWireSteps, InBeats, KeepGone, AreBeats, EachWireStep}
 use Rattle.ipx_laws.proofs.lists.FirstAndRest.{first_of, rest_of, none_first}

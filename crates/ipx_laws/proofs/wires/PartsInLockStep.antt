@@ -7,7 +7,8 @@ use Rattle.ipx_internet.specs.Internet.{Internet, IsInternet}
 use Rattle.ipx_internet.specs.Run.{Step, Run, run_of}
 use Rattle.ipx_internet.specs.Ticks.{ticked}
 use Rattle.ipx_internet.proofs.packets.SentOnOrReply.{Layouts}
-use Rattle.ipx_laws.specs.Meanwhile.{LeavesPorts, EachStep, EachTick, InTicks}
+use Rattle.ipx_laws.specs.HeardInTicks.{InTicks}
+use Rattle.ipx_laws.specs.Meanwhile.{LeavesPorts, EachStep, EachTick}
 use Rattle.ipx_laws.specs.Wires.{Wires, WireStep, beaten, wires_of, beats_of, InBeats}
 use Rattle.ipx_laws.proofs.tables.TablesAreRight.{parts_of as ticks_parts}
 use Rattle.ipx_laws.proofs.ticks.AfterRest.{steps_keep}

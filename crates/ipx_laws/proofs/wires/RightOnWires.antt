@@ -18,9 +18,10 @@ use Rattle.ipx_internet.specs.Run.{AreHistories}
 use Rattle.ipx_internet.proofs.lists.EachElement.{all_of, all_then, all_mapped}
 use Rattle.ipx_internet.proofs.trees.RunIsALog.{router_there}
 use Rattle.ipx_laws.specs.Gone.{most_ticks_gone}
+use Rattle.ipx_laws.specs.HeardInTicks.{IsHeardOutside}
 use Rattle.ipx_laws.specs.InTime.{Names, Advertises, IsHeardFrom, AreHeardInTime, beats_right, seconds_in, AreQuick}
 use Rattle.ipx_laws.specs.Least.{Way, least_route, way_of}
-use Rattle.ipx_laws.specs.Meanwhile.{LeavesPorts, IsHeardOutside}
+use Rattle.ipx_laws.specs.Meanwhile.{LeavesPorts}
 use Rattle.ipx_laws.specs.Outsiders.{AreStopped, SaysTruly, LeadsByOutsider}
 use Rattle.ipx_laws.specs.OutsidersInTime.{AreOutsidersInTime}
 use Rattle.ipx_laws.specs.Ups.{ups}
