@@ -1,7 +1,7 @@
 -- Two routers on one segment, 20h. A host on 10h announces a file server, as `Servers` plays it: what both routers have then is as they may know
 -- it, one and two hops away. Another host, on 20h, is heard by the first router alone: then the second one hasn't got it, though it has a port
 -- on 20h too, since a router doesn't tell of a service where it learned it.
-use Rattle.std.proofs.Common.{◌≡◌, refl, sym, ◌∙◌, subst, ◌⊎◌, ℕ, zero, suc, ◌<◌, List, [], ◌∷◌, inl, inr, Some, Ok, arith, true, false, ap, slice_get}
+use Rattle.std.proofs.Common.{◌≡◌, refl, sym, ◌∙◌, subst, ◌⊎◌, ℕ, List, [], ◌∷◌, inl, inr, Some, Ok, arith, true, false, ap, slice_get}
 use Rattle.std.specs.List.{AllByRecursion}
 use Rattle.ipx_wire.specs.Address.{address_bytes, address_at}
 use Rattle.ipx_wire.specs.Crossed.{network_bytes, network_at}

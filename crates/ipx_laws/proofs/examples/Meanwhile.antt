@@ -1,6 +1,6 @@
 -- The two routers of `Ticks`, which have routes to 99h, where nobody has a port. In the next tick the second router's port on 30h goes
 -- down too, and a host on 10h says that it knows a way to 77h. Then neither has a route to 99h, and both have one to 77h.
-use Rattle.std.proofs.Common.{◌≡◌, refl, ap, ℕ, zero, suc, ◌<◌, ◌&&◌, nat_lt, Bool, true, false, List, [], ◌∷◌, replicate, take, Some, None, arith, true≢false}
+use Rattle.std.proofs.Common.{◌≡◌, refl, ap, ℕ, zero, suc, ◌&&◌, nat_lt, Bool, true, false, List, [], ◌∷◌, replicate, take, Some, None, arith, true≢false}
 use Rattle.std.specs.List.{AllByRecursion}
 use Rattle.std.proofs.lemmas.Bool.{and_parts, ltb-true}
 use Rattle.ipx_wire.specs.Address.{address_bytes, address_at}

@@ -1,7 +1,7 @@
 -- A router with ports on 10h and 20h, started on wires, and a server on 10h that advertises its internal network, 77h: drawn into the internet, it
 -- is a second router, with ports on 10h and 77h, that doesn't run. In the beat that follows it says from its node that 77h is one hop away, and two
 -- ticks, as its ports cost one each. So in a window of one beat the outsider is heard, and then the router is right about 77h.
-use Rattle.std.proofs.Common.{◌≡◌, ◌≢◌, refl, sym, ap, ◌∙◌, subst, get_or, ℕ, zero, suc, ◌+◌, ◌<◌, ◌≤◌, true, List, [], ◌∷◌, ◌++◌, length, map, Option, option_map, None, Some, inl, inr, arith, true≢false, length-append, lit<}
+use Rattle.std.proofs.Common.{◌≡◌, ◌≢◌, refl, sym, ap, ◌∙◌, subst, get_or, ℕ, zero, suc, ◌+◌, ◌<◌, ◌≤◌, true, List, [], ◌∷◌, length, map, Option, option_map, None, Some, inl, inr, arith, true≢false, lit<}
 use Rattle.std.specs.List.{AllByRecursion}
 use Rattle.ipx_wire.specs.Address.{address_bytes, address_at}
 use Rattle.ipx_wire.specs.Crossed.{network_bytes, network_at}

@@ -1,7 +1,7 @@
 -- The two routers of `Waiting`, started 59 seconds ago, on wires, and the host of `Hosts` on 10h, which the first router has heard. In the
 -- beat that follows the host announces its file server again, each router broadcasts, and the first router's services land: so in a window of
 -- one beat the host and the first router are heard, and then the second router has the server, two hops away. Lost, it hasn't.
-use Rattle.std.proofs.Common.{◌≡◌, ◌≢◌, refl, sym, ap, ◌∙◌, subst, ℕ, zero, suc, ◌<◌, ◌≤◌, List, [], ◌∷◌, ◌++◌, length, map, replicate, Some, None, Option, inl, inr, arith, length-append}
+use Rattle.std.proofs.Common.{◌≡◌, ◌≢◌, refl, sym, ap, ◌∙◌, subst, ℕ, zero, suc, ◌<◌, ◌≤◌, List, [], ◌∷◌, ◌++◌, length, map, replicate, Some, None, Option, inl, inr, arith}
 use Rattle.ipx_wire.specs.Address.{address_bytes, address_at}
 use Rattle.ipx_wire.specs.Crossed.{network_bytes, network_at}
 use Rattle.ipx_wire.specs.Header.{header_bytes, header_at}

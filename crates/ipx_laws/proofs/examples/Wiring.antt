@@ -1,7 +1,7 @@
 -- The two routers of `Ticks`, which have routes to 99h, where nobody has a port, on wires. In the first beat a host on 10h says that it knows a
 -- way to 77h, and nothing of what is sent for that lands. In the second what the first router said of it lands twice, if a beat isn't too late;
 -- the first router's clock is faster, and has two seconds there. All else is lost.
-use Rattle.std.proofs.Common.{◌≡◌, refl, ℕ, zero, suc, ◌<◌, ◌≤◌, false, List, [], ◌∷◌, map, take, arith}
+use Rattle.std.proofs.Common.{◌≡◌, refl, ℕ, zero, suc, ◌≤◌, false, List, [], ◌∷◌, map, take, arith}
 use Rattle.ipx_wire.specs.Address.{address_bytes, address_at}
 use Rattle.ipx_wire.specs.Crossed.{network_bytes, network_at, is_among}
 use Rattle.ipx_wire.specs.Header.{header_bytes, header_at}

@@ -13,7 +13,7 @@ use Rattle.ipx_router.specs.Relays.{Sent}
 use Rattle.ipx_router.proofs.bytes.ReadInOneWay.{one_read}
 use Rattle.ipx_router.proofs.lists.EachElement.{all_both}
 use Rattle.ipx_internet.specs.Internet.{Internet, IsInternet, ports_of, port_of}
-use Rattle.ipx_internet.specs.Queue.{Delivery, deliveries_of, history_of, sends_at}
+use Rattle.ipx_internet.specs.Queue.{deliveries_of, history_of, sends_at}
 use Rattle.ipx_internet.specs.Rounds.{IsDelivery}
 use Rattle.ipx_internet.specs.Run.{AreHistories}
 use Rattle.ipx_internet.proofs.lists.EachElement.{all_then, all-append}

@@ -21,7 +21,7 @@ use Rattle.ipx_internet.specs.Internet.{Internet, Place, IsInternet, NodesDiffer
 use Rattle.ipx_internet.specs.Queue.{Delivery, history_of}
 use Rattle.ipx_internet.specs.Rounds.{IsDelivery}
 use Rattle.ipx_internet.specs.Run.{AreHistories}
-use Rattle.ipx_internet.proofs.lists.EachElement.{all_of, all_then, all_mapped, holds_of}
+use Rattle.ipx_internet.proofs.lists.EachElement.{all_then, holds_of}
 use Rattle.ipx_internet.proofs.packets.SentOnOrReply.{Layouts}
 use Rattle.ipx_internet.proofs.trees.RunIsALog.{router_there}
 use Rattle.ipx_laws.specs.InTime.{seconds_in, AreQuick}

@@ -15,7 +15,7 @@ use Rattle.ipx_internet.specs.Internet.{Place, port_of}
 use Rattle.ipx_internet.specs.Queue.{Delivery, history_of}
 use Rattle.ipx_internet.specs.Rounds.{IsDelivery}
 use Rattle.ipx_internet.specs.Run.{AreHistories}
-use Rattle.ipx_internet.proofs.lists.EachElement.{all_of, all_then, all_mapped}
+use Rattle.ipx_internet.proofs.lists.EachElement.{all_then}
 use Rattle.ipx_internet.proofs.trees.RunIsALog.{router_there}
 use Rattle.ipx_laws.specs.Gone.{most_ticks_gone}
 use Rattle.ipx_laws.specs.HeardInTicks.{IsHeardOutside}

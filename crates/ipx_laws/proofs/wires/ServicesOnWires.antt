@@ -27,12 +27,11 @@ use Rattle.ipx_internet.specs.Rounds.{IsDelivery}
 use Rattle.ipx_internet.specs.Run.{Step, Happens, Settles}
 use Rattle.ipx_internet.proofs.lists.EachElement.{all_then, all-append}
 use Rattle.ipx_internet.proofs.packets.ResponsesAskNothing.{IsAnswering, answering}
-use Rattle.ipx_internet.proofs.packets.SentOnOrReply.{Layouts, IsReply, IsOnward, no_reply, unsaid, all_reply}
+use Rattle.ipx_internet.proofs.packets.SentOnOrReply.{Layouts, IsReply, IsOnward, no_reply}
 use Rattle.ipx_internet.proofs.places.OneReceiverOfANode.{ports_at, receives_is}
 use Rattle.ipx_internet.proofs.records.HeardChangesItsKeys.{service_offer}
 use Rattle.ipx_internet.proofs.records.KeptOrOffered.{OffersOf}
 use Rattle.ipx_internet.proofs.rounds.OneRound.{each_delivery}
-use Rattle.ipx_internet.proofs.rounds.SentOnRunsOut.{reply_moves}
 use Rattle.ipx_laws.specs.Announces.{AsksApart}
 use Rattle.ipx_laws.specs.Meanwhile.{message_of, AsksElsewhere, SaysOnly, LeavesPorts}
 use Rattle.ipx_laws.specs.Servers.{Server, MaySay, SaysNoFalse, NamesOnly}
@@ -43,7 +42,7 @@ use Rattle.ipx_laws.proofs.services.ServedOrSoonEnded.{Fine, ServicesAged, Endur
 use Rattle.ipx_laws.proofs.services.SpokenByARouter.{second_spoken, packet_spoken}
 use Rattle.ipx_laws.proofs.services.SpokenOfAServer.{at, Silent, Names, told_asks, Waits, IsSpoken, ServiceSaid, host_waits, spoken_waits}
 use Rattle.ipx_laws.proofs.wires.BeatAfterBeat.{Happening, Leaves, Sends, Keeps, Going, AreSuch, StepsArise}
-use Rattle.ipx_laws.proofs.wires.EarlyFlights.{IsEarly, early_soon, early_onward, early_first, IsOver, IsSoon, soon_comes, soon_sent}
+use Rattle.ipx_laws.proofs.wires.EarlyFlights.{IsEarly, early_soon, early_onward, early_first, IsSoon, soon_comes, soon_sent}
 
 -- any history, and any word
 abbrev pub AnyHistory : ℕ → History → Type 0

@@ -7,12 +7,11 @@ use Rattle.std.proofs.lemmas.Bool.{cases_Bool, cases_lt, both_ways}
 use Rattle.ipx_wire.specs.Crossed.{is_among}
 use Rattle.ipx_wire.specs.declared.address.Address.{Address}
 use Rattle.ipx_wire.specs.declared.node.Node.{Node}
-use Rattle.ipx_wire.specs.Piece.{IsBytes}
 use Rattle.ipx_wire.specs.declared.network.Network.{Network}
 use Rattle.ipx_wire.specs.declared.rip.RipEntry.{RipEntry}
 use Rattle.ipx_router.specs.Facts.{route_offer, routes_offered, routes_heard, heard_after, routes_held, offers}
 use Rattle.ipx_router.specs.Heard.{Heard, HeardRip, HeardSap}
-use Rattle.ipx_router.specs.History.{Event, History, Start, Stop, Second, Packet, PortDown, PortUp, IsOnPort, IsOfBytes, running, ports_up}
+use Rattle.ipx_router.specs.History.{Event, History, Start, Stop, Second, Packet, PortDown, PortUp, running, ports_up}
 use Rattle.ipx_router.specs.News.{news}
 use Rattle.ipx_router.specs.Numbers.{unreachable}
 use Rattle.ipx_router.specs.Port.{Port, port_at, is_up, takes_no_route}
@@ -30,14 +29,12 @@ use Rattle.ipx_internet.specs.Internet.{Internet, IsInternet, Place, ports_of, p
 use Rattle.ipx_internet.specs.Queue.{Delivery, deliveries_of, history_of, sends_at}
 use Rattle.ipx_internet.specs.Rounds.{IsDelivery}
 use Rattle.ipx_internet.specs.Run.{Step, Happens, Settles}
-use Rattle.ipx_internet.proofs.lists.EachElement.{all_then, all-append}
+use Rattle.ipx_internet.proofs.lists.EachElement.{all_then}
 use Rattle.ipx_internet.proofs.lists.FoundInAList.{nothing, it_is}
 use Rattle.ipx_internet.proofs.packets.ResponsesAskNothing.{IsAnswering, answering}
-use Rattle.ipx_internet.proofs.packets.SentOnOrReply.{Layouts, IsReply, IsOnward, no_reply, unsaid, all_reply}
-use Rattle.ipx_internet.proofs.places.OneReceiverOfANode.{ports_at, receives_is}
-use Rattle.ipx_internet.proofs.rounds.OneRound.{each_delivery}
+use Rattle.ipx_internet.proofs.packets.SentOnOrReply.{Layouts, IsReply, IsOnward, no_reply, unsaid}
+use Rattle.ipx_internet.proofs.places.OneReceiverOfANode.{ports_at}
 use Rattle.ipx_internet.proofs.records.KeptOrOffered.{OffersOf}
-use Rattle.ipx_internet.proofs.rounds.SentOnRunsOut.{reply_moves}
 use Rattle.ipx_laws.specs.Apart.{TellsOnlyOf}
 use Rattle.ipx_laws.specs.Meanwhile.{message_of, LeavesPorts}
 use Rattle.ipx_laws.specs.Real.{IsTaken, IsReal, next, farther}
@@ -50,7 +47,7 @@ use Rattle.ipx_laws.proofs.services.SpokenOfAServer.{here_stays}
 use Rattle.ipx_laws.proofs.ticks.RealOrSoonEnded.{Reaches, Comes, RouteSaid, Endures, at_begin, second_endures, RouteOldBy, heard_endures, packet_endures, soon_endures, routes_said, changes_said}
 use Rattle.ipx_laws.proofs.ticks.TickAfterTick.{all_come, second_spoken, packet_spoken}
 use Rattle.ipx_laws.proofs.wires.BeatAfterBeat.{Happening, Leaves, Sends, Keeps, Going, AreSuch, StepsArise}
-use Rattle.ipx_laws.proofs.wires.EarlyFlights.{IsEarly, early_soon, early_onward, early_first, IsOver, IsSoon, soon_comes, soon_sent}
+use Rattle.ipx_laws.proofs.wires.EarlyFlights.{IsEarly, early_soon, early_onward, early_first, IsSoon, soon_comes, soon_sent}
 
 -- a page of entries of which something follows
 own_page_then : (P Q : RipEntry → Type 0) → ((e : RipEntry) → P e → Q e) → (port : Port) (bytes : List ℕ) → IsOwnPage P port bytes → IsOwnPage Q port bytes
