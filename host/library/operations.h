@@ -34,6 +34,13 @@ static inline uint64_t ipxri_rounded(uint8_t *room)
 #define IPXRI_IS_LITTLE 0
 #endif
 
+/* What is aligned as the data is in WebAssembly. */
+#if defined(__GNUC__) || defined(__TINYC__)
+#define IPXRI_ALIGNED __attribute__((aligned(16)))
+#else
+#define IPXRI_ALIGNED
+#endif
+
 static inline uint32_t ipxri_load1(uint64_t address)
 {
     return *ipxri_at(address);
@@ -350,4 +357,166 @@ static inline uint64_t ipxri_rem_s8(uint64_t one, uint64_t other)
 static inline uint32_t ipxri_rem_s4(uint32_t one, uint32_t other)
 {
     return (uint32_t)ipxri_rem_s8(ipxri_extend4_8(one), ipxri_extend4_8(other));
+}
+
+/* ---- Floats of 64 bits, which are had as their bits: a sign, 11 bits of exponent, 52 of fraction ---- */
+
+#define IPXRI_SIGN ((uint64_t)1u << 63)
+
+#define IPXRI_INFINITY ((uint64_t)0x7FFu << 52)
+
+/* (what is no number has many bits in WebAssembly, any of which will do) */
+#define IPXRI_NO_NUMBER ((uint64_t)0xFFFu << 51)
+
+static inline uint64_t ipxri_f64_size(uint64_t it)
+{
+    return it & ~IPXRI_SIGN;
+}
+
+/* A finite float that isn't 0, as a number whose highest bit is 1 times 2 to the power of an exponent. */
+static uint64_t ipxri_f64_digits(uint64_t it, int *exponent)
+{
+    const uint64_t first = (uint64_t)1u << 52;
+    uint64_t digits = it & (first - 1u);
+    int by, biased = (int)(ipxri_f64_size(it) >> 52);
+    if (biased != 0)
+        digits |= first;
+    else
+        biased = 1;
+    by = (int)ipxri_clz8(digits);
+    *exponent = biased - 1075 - by;
+    return digits << by;
+}
+
+/* Digits without their last ones; where these are lost, the last that is left says so. (where none is left, what is lost is too little) */
+static uint64_t ipxri_f64_fewer(uint64_t digits, int by)
+{
+    if (by > 63)
+        return 0;
+    return digits >> by | ((digits & (((uint64_t)1u << by) - 1u)) != 0);
+}
+
+/* The float that is closest to digits, which aren't 0, times 2 to the power of an exponent; of two that are as close the even one. */
+static uint64_t ipxri_f64_made(uint64_t sign, uint64_t digits, int exponent)
+{
+    int by = (int)ipxri_clz8(digits), biased = exponent - by + 63 + 1023;
+    uint64_t kept;
+    if (biased >= 2047)
+        return sign | IPXRI_INFINITY;
+    digits <<= by;
+    if (biased < 1) {
+        digits = ipxri_f64_fewer(digits, 1 - biased);
+        biased = 1;
+    }
+    kept = digits >> 11;
+    if ((digits & 0x7FFu) + (kept & 1u) > 0x400u)
+        kept++;
+    return sign | (((uint64_t)(biased - 1) << 52) + kept);
+}
+
+static uint64_t ipxri_f64_of(uint64_t number)
+{
+    return number == 0 ? 0 : ipxri_f64_made(0, number, 0);
+}
+
+/* The sum of two finite floats that aren't 0, of which the first is no smaller in size. */
+static uint64_t ipxri_f64_sum(uint64_t one, uint64_t other)
+{
+    int exponent, lower;
+    uint64_t digits = ipxri_f64_digits(one, &exponent) >> 1, more = ipxri_f64_digits(other, &lower) >> 1;
+    more = ipxri_f64_fewer(more, exponent - lower);
+    if ((one ^ other) >> 63)
+        more = 0u - more;
+    digits += more;
+    return digits == 0 ? 0 : ipxri_f64_made(one & IPXRI_SIGN, digits, exponent + 1);
+}
+
+static uint64_t ipxri_f64_add(uint64_t one, uint64_t other)
+{
+    if (ipxri_f64_size(one) < ipxri_f64_size(other))
+        return ipxri_f64_add(other, one);
+    if (ipxri_f64_size(one) > IPXRI_INFINITY)
+        return IPXRI_NO_NUMBER;
+    if (ipxri_f64_size(one) == IPXRI_INFINITY)
+        return ipxri_f64_size(other) == IPXRI_INFINITY && one != other ? IPXRI_NO_NUMBER : one;
+    if (ipxri_f64_size(other) == 0)
+        return ipxri_f64_size(one) == 0 ? one & other : one;
+    return ipxri_f64_sum(one, other);
+}
+
+/* The upper half of a product; where the lower one isn't 0, the last digit says so. */
+static uint64_t ipxri_f64_product(uint64_t one, uint64_t other)
+{
+    const uint64_t half = 0xFFFFFFFFu;
+    uint64_t lowest = (one & half) * (other & half), first = (one >> 32) * (other & half), second = (one & half) * (other >> 32);
+    uint64_t middle = (lowest >> 32) + (first & half) + (second & half);
+    uint64_t upper = (one >> 32) * (other >> 32) + (first >> 32) + (second >> 32) + (middle >> 32);
+    return upper | (((lowest | middle) & half) != 0);
+}
+
+static uint64_t ipxri_f64_mul(uint64_t one, uint64_t other)
+{
+    uint64_t sign = (one ^ other) & IPXRI_SIGN, size = ipxri_f64_size(one), by = ipxri_f64_size(other);
+    int exponent, more;
+    if (size > IPXRI_INFINITY || by > IPXRI_INFINITY)
+        return IPXRI_NO_NUMBER;
+    if (size == IPXRI_INFINITY || by == IPXRI_INFINITY)
+        return size == 0 || by == 0 ? IPXRI_NO_NUMBER : sign | IPXRI_INFINITY;
+    if (size == 0 || by == 0)
+        return sign;
+    size = ipxri_f64_product(ipxri_f64_digits(one, &exponent), ipxri_f64_digits(other, &more));
+    return ipxri_f64_made(sign, size, exponent + more + 64);
+}
+
+/* A quotient of 64 digits, the first before the point; where something is left, the last digit says so. */
+static uint64_t ipxri_f64_quotient(uint64_t one, uint64_t other)
+{
+    uint64_t quotient = 0;
+    int k;
+    for (k = 0; k < 64; k++) {
+        quotient <<= 1;
+        if (one >= other) {
+            one -= other;
+            quotient |= 1u;
+        }
+        one <<= 1;
+    }
+    return quotient | (one != 0);
+}
+
+static uint64_t ipxri_f64_div(uint64_t one, uint64_t other)
+{
+    uint64_t sign = (one ^ other) & IPXRI_SIGN, size = ipxri_f64_size(one), by = ipxri_f64_size(other);
+    int exponent, less;
+    if (size > IPXRI_INFINITY || by > IPXRI_INFINITY)
+        return IPXRI_NO_NUMBER;
+    if (size == by && (size == 0 || size == IPXRI_INFINITY))
+        return IPXRI_NO_NUMBER;
+    if (size == IPXRI_INFINITY || by == 0)
+        return sign | IPXRI_INFINITY;
+    if (size == 0 || by == IPXRI_INFINITY)
+        return sign;
+    size = ipxri_f64_quotient(ipxri_f64_digits(one, &exponent) >> 1, ipxri_f64_digits(other, &less) >> 1);
+    return ipxri_f64_made(sign, size, exponent - less - 63);
+}
+
+/* A number by which floats are in their order, where both are numbers. */
+static inline uint64_t ipxri_f64_rank(uint64_t it)
+{
+    return ipxri_f64_size(it) == 0 ? IPXRI_SIGN : it >> 63 ? ~it : it | IPXRI_SIGN;
+}
+
+static inline bool ipxri_f64_are_numbers(uint64_t one, uint64_t other)
+{
+    return ipxri_f64_size(one) <= IPXRI_INFINITY && ipxri_f64_size(other) <= IPXRI_INFINITY;
+}
+
+static inline uint32_t ipxri_f64_lt(uint64_t one, uint64_t other)
+{
+    return ipxri_f64_are_numbers(one, other) && ipxri_f64_rank(one) < ipxri_f64_rank(other);
+}
+
+static inline uint32_t ipxri_f64_le(uint64_t one, uint64_t other)
+{
+    return ipxri_f64_are_numbers(one, other) && ipxri_f64_rank(one) <= ipxri_f64_rank(other);
 }

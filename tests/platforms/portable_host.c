@@ -1,14 +1,17 @@
-/* What the portable program asks of the system (host/portable.c), tried without the program: an argument and its room, files, and calls that
+/* What the portable program asks of the system (host/portable), tried without the program: an argument and its room, files, and calls that
  * are interrupted or fail. The last line is 'N passed, M failed'. */
-#include "../../host/portable.h"
+#include "../../host/portable/head.h"
 
-#include "../../host/portable.c"
+#include "../../host/library/operations.h"
+#include "../../host/portable/system.h"
 
+#include <stdio.h>
 #include <sys/time.h>
 
-enum { PLACE = 64, LENGTH = 5, UNTOUCHED = '#', MICROSECONDS = 20000 };
+enum { ROOM = 65536, LENGTH = 5, UNTOUCHED = '#', MICROSECONDS = 20000 };
 
-static const u64 NONE = (u64)-1, LONGER = (u64)-2, FAILED = (u64)-1;
+static const uint64_t NONE = (uint64_t)-1, LONGER = (uint64_t)-2, FAILED = (uint64_t)-1;
+static uint8_t room[ROOM];
 static int passed, failed;
 
 static void tell(const char *name, int is_right)
@@ -23,12 +26,13 @@ static void tell(const char *name, int is_right)
 /* ---- Arguments ---- */
 
 /* Whether an argument is given as it should be, and no byte behind the room is written. */
-static int gives(u64 number, u64 room, u64 returned, const char *copied)
+static int gives(uint64_t number, uint64_t most, uint64_t returned, const char *copied)
 {
-    memset(bytes_at(PLACE, PAGE - PLACE), UNTOUCHED, PAGE - PLACE);
     size_t length = strlen(copied);
-    int is_returned = system_rattle_arg(number, PLACE, room) == returned;
-    return is_returned && memcmp(bytes_at(PLACE, length), copied, length) == 0 && *bytes_at((u32)(PLACE + length), 1) == UNTOUCHED;
+    memset(room, UNTOUCHED, ROOM);
+    if (ipxri_rattle_arg(number, ipxri_address(room), most) != returned)
+        return 0;
+    return memcmp(room, copied, length) == 0 && room[length] == UNTOUCHED;
 }
 
 static void try_arguments(void)
@@ -65,12 +69,30 @@ static void end_interrupting(void)
     setitimer(ITIMER_REAL, &never, NULL);
 }
 
-/* Writes to a pipe that nobody empties, until a write fails. */
-static u64 written_until_full(u32 to)
+static uint64_t reads(int file, uint64_t count)
 {
-    u64 found;
+    return ipxri_read((uint32_t)file, ipxri_address(room), count);
+}
+
+static uint64_t writes(int file, uint64_t count)
+{
+    return ipxri_write((uint32_t)file, ipxri_address(room), count);
+}
+
+/* Whether a call failed, and for this reason. */
+static int fails(uint64_t returned, uint32_t why)
+{
+    int is_well = returned == FAILED && ipxri_rattle_errno() == why;
+    ipxri_rattle_set_errno(0);
+    return is_well;
+}
+
+/* Writes to a pipe that nobody empties, until a write fails. */
+static uint64_t written_until_full(int to)
+{
+    uint64_t found;
     do
-        found = system_write(to, PLACE, PAGE - PLACE);
+        found = writes(to, ROOM);
     while (found != FAILED);
     return found;
 }
@@ -83,38 +105,35 @@ static void try_interrupted(void)
         return;
     }
     begin_interrupting();
-    system_rattle_set_errno(0);
-    tell("a read that is interrupted", system_read((u32)ends[0], PLACE, 1) == FAILED && system_rattle_errno() == LINUX_EINTR);
-    system_rattle_set_errno(0);
-    tell("a write that is interrupted", written_until_full((u32)ends[1]) == FAILED && system_rattle_errno() == LINUX_EINTR);
+    ipxri_rattle_set_errno(0);
+    tell("a read that is interrupted", fails(reads(ends[0], 1), LINUX_EINTR));
+    tell("a write that is interrupted", fails(written_until_full(ends[1]), LINUX_EINTR));
     end_interrupting();
-    system_close((u32)ends[0]);
-    tell("a write where nobody reads any longer", system_write((u32)ends[1], PLACE, 1) == FAILED && system_rattle_errno() == LINUX_EIO);
-    system_close((u32)ends[1]);
-    tell("a read of a file that is closed", system_read((u32)ends[0], PLACE, 1) == FAILED && system_rattle_errno() == LINUX_EIO);
+    ipxri_close((uint32_t)ends[0]);
+    tell("a write where nobody reads any longer", fails(writes(ends[1], 1), LINUX_EIO));
+    ipxri_close((uint32_t)ends[1]);
+    tell("a read of a file that is closed", fails(reads(ends[0], 1), LINUX_EIO));
 }
 
 /* What opens a file of this name. */
-static u32 opened(const char *name)
+static int opened(const char *name)
 {
-    put(PLACE, (const u8 *)name, (u32)strlen(name) + 1);
-    return system_open(PLACE, 0, 0);
+    return (int)ipxri_open(ipxri_address(name), 0, 0);
 }
 
 static void try_files(void)
 {
-    u32 file = opened("/dev/null");
-    tell("a file that has no bytes", (s32)file >= 0 && system_read(file, PLACE, 1) == 0 && system_close(file) == 0);
-    tell("a file that isn't there", opened("/nowhere/at all") == (u32)-1 && system_rattle_errno() == LINUX_EIO);
+    int file = opened("/dev/null");
+    tell("a file that has no bytes", file >= 0 && reads(file, 1) == 0 && ipxri_close((uint32_t)file) == 0);
+    tell("no call is asked for more bytes than each system takes", at_once(~(uint64_t)0) == MOST_AT_ONCE && at_once(LENGTH) == LENGTH);
+    tell("a file that isn't there", opened("/nowhere/at all") == -1 && ipxri_rattle_errno() == LINUX_EIO);
 }
 
 /* ---- In the program's place ---- */
 
-static void init_globals(void) {}
+static void ipxri_begin(void) {}
 
-static void init_memories(void) { begin_memory(1); }
-
-static u32 begin(u32 count, u64 texts)
+static uint32_t ipxri_c_main(uint32_t count, uint64_t texts)
 {
     (void)count, (void)texts;
     try_arguments();

@@ -18,6 +18,7 @@ from c_library import text_of
 from libraries import TOP, kit
 from systems import HEADERS
 
+CRATE = "ipx_c"
 FOLDER = f"{TOP}/build/library"
 SOURCES = f"{TOP}/examples/embed/library"
 MADE = f"{FOLDER}/libipxr.c"
@@ -42,11 +43,11 @@ def see_layouts(headers):
     subprocess.run([f"{kit()}/toolchain/bin/clang", *words, "-x", "c", "-"], input=text, text=True, check=True)
 
 
-def linked(objects, exports, place, made):
+def linked(objects, exports, place, made, asked=wasm_c_file.ASKED):
     """The bytes of the module with its data at a place."""
     folder = os.path.dirname(made)
     with open(f"{folder}/asked", "w", encoding="ascii") as it:
-        it.write("".join(f"{name}\n" for name in wasm_c_file.ASKED))
+        it.write("".join(f"{name}\n" for name in asked))
     with open(f"{folder}/exported", "w", encoding="ascii") as it:
         it.write("".join(f"--export={name}\n" for name in exports))
     words = [*LINKER, f"--global-base={place}", f"--allow-undefined-file={folder}/asked", f"@{folder}/exported"]
@@ -69,25 +70,31 @@ def whole(headers, linkings):
     return "\n".join([head(), wasm_c_file.operations(code + calls), "", code, begin, calls, end])
 
 
-def compiled(folder):
-    """Puts the objects of the module into a folder."""
-    targets.compiled(modules.kept("ipx_c"), TARGET, f"{folder}/ipx_c.o")
-    tool("clang", *OF_HOST, "-c", NUMBERS, "-o", f"{folder}/numbers.o")
+def objects_of(crate, folder):
+    """The objects of a crate's module, which are in a folder."""
+    return [f"{folder}/{crate}.o", f"{folder}/numbers.o"]
+
+
+def compiled(crate, folder):
+    """Puts the objects of a crate's module into a folder."""
+    module, numbers = objects_of(crate, folder)
+    targets.compiled(modules.kept(crate), TARGET, module)
+    tool("clang", *OF_HOST, "-c", NUMBERS, "-o", numbers)
 
 
 def written(folder):
     """The file, of the objects in a folder and the headers that are built with the library."""
     see_layouts(f"{TOP}/build")
     headers = library_header.Headers(f"{TOP}/build")
-    objects, exports = [f"{folder}/ipx_c.o", f"{folder}/numbers.o"], [it.name for it in headers.calls]
+    objects, exports = objects_of(CRATE, folder), [it.name for it in headers.calls]
     return whole(headers, [linked(objects, exports, place, f"{folder}/linked.wasm") for place in PLACES])
 
 
 def build():
     """Puts the file and what belongs to it into a folder."""
-    os.makedirs(PARTS, exist_ok=True)
-    os.makedirs(FOLDER, exist_ok=True)
-    compiled(PARTS)
+    for folder in (PARTS, FOLDER):
+        os.makedirs(folder, exist_ok=True)
+    compiled(CRATE, PARTS)
     text = written(PARTS)
     with open(MADE, "w", encoding="ascii") as it:
         it.write(text)

@@ -72,12 +72,17 @@ class Right:
         put(KNOWN, subprocess.run([native, ROUNDS], stdout=subprocess.PIPE, text=True, check=True).stdout)
 
 
-def compiles(words, source, made, *more):
-    """Whether a compiler takes a source and says nothing."""
-    run = subprocess.run([*words, *more, "-c", source, "-o", made], capture_output=True, text=True, check=False)
+def says_nothing(*words):
+    """Whether a compiler has nothing to say."""
+    run = subprocess.run(words, capture_output=True, text=True, check=False)
     if said := run.stdout + run.stderr:
         print(said[:2000])
     return run.returncode == 0 and not said
+
+
+def compiles(words, source, made, *more):
+    """Whether a compiler takes a source and says nothing."""
+    return says_nothing(*words, *more, "-c", source, "-o", made)
 
 
 def play(name, kind, folder, right):
@@ -176,7 +181,8 @@ GET, SET_STACK, NUMBER, SUB, ADD, DROP = (0x20, 0), (0x24, 0), 0x42, 0x7D, 0x7C,
 STACK, FRAME = (0x23, 0), (0x23, 0, 0x42, 16, 0x7D)
 # What the translator doesn't know, as the code of a function of one number.
 REFUSED = {
-    "a float": (0x43, 0, 0, 0, 0, DROP, *GET),
+    "a float of 32 bits": (0x43, 0, 0, 0, 0, DROP, *GET),
+    "the root of a float": (0x44, *range(8), 0x9F, DROP, *GET),
     "a vector": (0xFD, 12, *range(16), DROP, *GET),
     "a call through a table": (*GET, *GET, 0x11, 0, 0),
     "the size of the memory": (0x3F, 0),
@@ -195,15 +201,20 @@ REFUSED = {
 KNOWN_CODE = (*FRAME, 0x22, 0, *SET_STACK, *GET, NUMBER, 16, ADD, *SET_STACK, *GET)
 
 
-def module(*content):
-    """A module of one function of a number, with a memory and the stack's place."""
-    parts = [(1, b"\x60\1\x7e\1\x7e"), (3, b"\0"), (5, b"\4\1"), (6, b"\x7e\1\x42\0\x0b"), (10, wasm_cases.code(*content))]
+def module(*content, data=()):
+    """A module of one function of a number, with a memory, the stack's place, and data."""
+    parts = [(1, b"\x60\1\x7e\1\x7e"), (3, b"\0"), (5, b"\4\1"), (6, b"\x7e\1\x42\0\x0b"), (10, wasm_cases.code(*content)), (11, *data)]
     return wasm_cases.HEAD + b"".join(wasm_cases.section(*it) for it in parts)
 
 
-def is_refused(one, other, places=(0, 16)):
+def word_at(place, word):
+    """Data at a place, which is a word and as many bytes more."""
+    return bytes([0, NUMBER]) + wasm_format.signed(place) + bytes([wasm_format.END, 16]) + word.to_bytes(8, "little") + bytes(8)
+
+
+def is_refused(one, other, places=(0, 16), begins=False):
     try:
-        wasm_c_file.translated([one, other], places)
+        wasm_c_file.translated([one, other], places, begins=begins)
     except wasm_format.Unknown:
         return True
     return False
@@ -217,12 +228,18 @@ def refusals():
     placed = [module(NUMBER, it) for it in (0, 16, 17)]
     tell("an address of data is translated", not is_refused(placed[0], placed[1]))
     tell("a number that isn't moved with the data is refused", is_refused(placed[0], placed[2]))
+    tell("an address behind the data is refused", is_refused(module(NUMBER, 1), module(NUMBER, 17)))
+    words = [module(*GET, data=[word_at(*it)]) for it in ((0, 8), (16, 24), (16, 25), (0, 17), (16, 33))]
+    tell("an address among the data is refused where nothing begins", is_refused(words[0], words[1]))
+    tell("and translated where something does", not is_refused(words[0], words[1], begins=True))
+    tell("a word that isn't moved with the data is refused", is_refused(words[0], words[2], begins=True))
+    tell("a word that leads behind the data is refused", is_refused(words[3], words[4], begins=True))
 
 
 def again():
     """Another build, from the kept module on."""
     with tempfile.TemporaryDirectory() as folder:
-        library_c.compiled(folder)
+        library_c.compiled(library_c.CRATE, folder)
         tell("a second build gives the same bytes", library_c.written(folder) == text_of(LIBRARY))
 
 

@@ -27,7 +27,15 @@ BITS = {"i32": 32, "i64": 64}
 CONSTANTS = {"i32": [0, 1, 31, 33, -1, -5, 1 << 31, 10], "i64": [0, 1, 63, 65, -1, -5, 1 << 63, 10, 1 << 32, 0x5A5A0000]}
 NUMBERS = [0, 1, 2, 3, 7, 31, 32, 33, 63, 64, 127, 128, 255, 0x7FFF, 0x8000, 0xFFFF, 0x12345678, 0x7FFFFFFF, 0x80000000, 0xFFFFFFFF,
            0x100000000, 0x5A5A0010, 0x0123456789ABCDEF, 0x7FFFFFFFFFFFFFFF, 0x8000000000000000, 0xFEDCBA9876543210, 0xFFFFFFFF80000000,
-           0xFFFFFFFFFFFFFFFE, 0xFFFFFFFFFFFFFFFF]
+           0xFFFFFFFFFFFFFFFE, 0xFFFFFFFFFFFFFFFF, 0x7FF0000000000000, 0xFFF0000000000000]
+# What floats are made to, with what it gives; and floats by their bits: the least and the largest of each sort, some between, and one whose
+# products with others show what is lost of the lower half.
+FLOAT_WORKS = {"lt": "i32", "le": "i32", "add": "f64", "mul": "f64", "div": "f64"}
+FLOATS = [0, 1 << 63, 1, 0x000FFFFFFFFFFFFF, 0x0010000000000000, 0x0010000000000001, 0x7FEFFFFFFFFFFFFF, 0x7FF0000000000000,
+          0xFFF0000000000000, 0x7FF8000000000000, 0x3FF0000000000000, 0x3FF0000000000001, 0x3FEFFFFFFFFFFFFF, 0xBFF0000000000000,
+          0x4340000000000000, 0x3CA0000000000000, 0x3CA0000000000001, 0x4008000000000000, 0x3FE6666666666666, 0xBFF8000000000001,
+          0x41F0000000000000, 0x2000000000000001, 0x3FF6BD8C56D050CD]
+NO_NUMBER = 0x7FF8000000000000
 # Where the data is put for an engine: behind the stack.
 ENGINES = 9 << 20
 BEGIN = """\
@@ -56,6 +64,7 @@ static void once(call *call, uint64_t one, uint64_t other)
 int main(void)
 {
     size_t at, first, second;
+    ipxri_begin();
     for (at = 0; at < sizeof functions / sizeof *functions; at++)
         for (first = 0; first < COUNT; first++)
             for (second = functions[at].takes == 2 ? first % APART : COUNT - 1; second < COUNT; second += APART)
@@ -105,6 +114,40 @@ def works():
     yield "i32_wrap", ["i64"], "i32", [*get(0), "i32.wrap_i64"]
 
 
+def as_float(number):
+    """Code that leaves the float of these bits."""
+    return [f"i64.const {signed('i64', number)}", "f64.reinterpret_i64"]
+
+
+def near_one(local):
+    """Code that makes a local a float whose fraction and sign look made up, and which is no further from 1 than some digits."""
+    fraction = [*get(local), f"i64.const {signed('i64', 0x9E3779B97F4A7C15)}", "i64.mul", f"i64.const {signed('i64', 0x800FFFFFFFFFFFFF)}"]
+    exponent = [*get(local), "i64.const 63", "i64.and", "i64.const 990", "i64.add", "i64.const 52", "i64.shl"]
+    return [*fraction, "i64.and", *exponent, "i64.or", "f64.reinterpret_i64"]
+
+
+def bits_of_float(local):
+    """Code that leaves the bits of the float that stands on the stack; those of what is no number are always the same."""
+    return [f"local.tee {local}", "i64.reinterpret_f64", f"i64.const {NO_NUMBER}", *get(local, local), "f64.le", "i64.select"]
+
+
+def float_works():
+    """Each work of floats, in the same form as others have in `works`, with a local for its result behind."""
+    bits = [[*get(it), "f64.reinterpret_i64"] for it in (0, 1)]
+    for name, gives in FLOAT_WORKS.items():
+        work, end = f"f64.{name}", (lambda local: [] if gives == "i32" else bits_of_float(local))
+        kind = "i32" if gives == "i32" else "i64"
+        yield f"f64_{name}", ["i64", "i64"], kind, [*bits[0], *bits[1], work, *end(2)], ["f64"]
+        yield f"f64_{name}_near", ["i64", "i64"], kind, [*near_one(0), *near_one(1), work, *end(2)], ["f64"]
+        for at, it in enumerate(FLOATS):
+            yield f"f64_{name}_by_{at}", ["i64"], kind, [*bits[0], *as_float(it), work, *end(1)], ["f64"]
+            yield f"f64_{name}_of_{at}", ["i64"], kind, [*as_float(it), *near_one(0), work, *end(1)], ["f64"]
+    yield "f64_of", ["i64"], "i64", [*get(0), "f64.convert_i64_u", "i64.reinterpret_f64"], []
+    constants = ["f64.const 0x1.8000000000001p-1022", "f64.const -0x1.4p+70"]
+    chosen = ["block f64", constants[0], *get(0), "i64.eqz", "br_if 0", "drop", constants[1], "end_block", "local.set 1"]
+    yield "f64_chosen", ["i64"], "i64", [*chosen, *get(1), constants[0], *get(0), "i32.wrap_i64", "f64.select", "i64.reinterpret_f64"], ["f64"]
+
+
 def flags(kind, work):
     """An operation on two comparisons."""
     widened = ["i64.extend_i32_u"] if kind == "i64" else []
@@ -136,6 +179,12 @@ def accesses():
         to, source = [*get(1), "i64.const 3", "i64.add"], [*get(1), "i64.const 5", "i64.add"] if name == "copy" else []
         code = [*to, *source, *([] if name == "copy" else [more]), "i64.const 9", f"memory.{name} {'0, 0' if name == 'copy' else '0'}"]
         yield f"memory_{name}", ["i64"], "i64", framed(*code, *get(1), "i64.load 2", *get(1), "i64.load 8", "i64.sub"), ["i64"]
+    number = [*get(1), *get(0), "f64.reinterpret_i64", "f64.store 5:p2align=0"]
+    read = [*get(1), "f64.load 3:p2align=0", "i64.reinterpret_f64", *get(1), "i64.load 8", "i64.xor"]
+    yield "f64_store_and_load", ["i64"], "i64", framed(*number, *read), ["i64"]
+    for at in (0, 16):
+        # (an address among the data, which leads to data)
+        yield f"address_at_{at}", ["i64"], "i64", ["i64.const places", f"i64.load {at}", "i64.load 1:p2align=0", *get(0), "i64.xor"], []
     for name, changed in CHANGED.items():
         # (read before the change, and once more behind it)
         code = [*get(1), "i64.load 0", *get(1), *changed, *get(1), "i64.load 0", "i64.const 5", "i64.mul", "i64.add"]
@@ -148,7 +197,16 @@ DATA = """\
 .section .data.numbers,"",@
 .p2align 3
 numbers:
-""" + "".join(f".int8 {(it * 37 + 129) % 256}\n" for it in range(32)) + ".size numbers, 32\n"
+""" + "".join(f".int8 {(it * 37 + 129) % 256}\n" for it in range(32)) + """\
+.size numbers, 32
+.section .data.places,"",@
+.p2align 3
+places:
+.int64 numbers+5
+.int64 9
+.int64 numbers+17
+.size places, 24
+"""
 
 
 class Vectors:
@@ -158,7 +216,7 @@ class Vectors:
         self.texts, self.calls = [".globaltype __stack_pointer, i64\n", POKE], []
         for name, takes, gives, code in works():
             self.add(name, takes, gives, function(name, takes, gives, *code))
-        for name, takes, gives, code, locals_ in accesses():
+        for name, takes, gives, code, locals_ in [*float_works(), *accesses()]:
             self.add(name, takes, gives, function(name, takes, gives, *code, locals_=locals_))
         for name, takes, gives, text in programs():
             self.add(name, takes, gives, text)
@@ -243,7 +301,7 @@ def wanted(vectors, node, folder):
 def program(vectors, folder):
     """The program in C that prints what it makes of them."""
     made = [linked([f"{folder}/vectors.o"], vectors.names(), place, f"{folder}/placed.wasm") for place in PLACES]
-    _, written = wasm_c_file.translated(made, PLACES)
+    _, written = wasm_c_file.translated(made, PLACES, begins=True)
     return f"{BEGIN}{wasm_c_file.operations(written)}\n{written}{''.join(vectors.as_c())}{MAIN}"
 
 

@@ -42,8 +42,8 @@ def counted(name, *words, **environment):
     succeeds("grep", "-E", "-A1", "^(left out|FAILED)", PLAYED)
 
 
-def whole(name, folder, program, *runner):
-    """All that is played with the program of this machine."""
+def plays_of(name, folder, program, *runner):
+    """The examples, the transcripts and the altered inputs."""
     words, play = [*runner, os.path.abspath(program)], os.path.abspath(f"{folder}/play")
     os.makedirs(folder, exist_ok=True)
     put(play, f'#!/bin/bash\nexec {shlex.join(words)} "$@"\n')
@@ -51,6 +51,11 @@ def whole(name, folder, program, *runner):
     for what in ("examples", "transcripts"):
         counted(f"{name}: dev/{what}", f"dev/{what}", IPXR=play)
     counted(f"{name}: dev/altered", "dev/altered", *words)
+
+
+def whole(name, folder, program, *runner):
+    """All that is played with the program of this machine."""
+    plays_of(name, folder, program, *runner)
     counted(f"{name}: words and names of files", "python3", "tests/platforms/called.py", program, *runner)
 
 
@@ -84,15 +89,13 @@ def refused(name, folder, is_built, *runner):
 
 
 def portable_host():
-    """What stands around the portable C, where addresses need no check and where they do."""
+    """What stands around the portable C."""
     if not has(CC):
         left_out("what the portable C asks of the system", CC)
         return
     made = "build/portable_host"
-    for name, checks in (("portable C", []), ("portable C with checks", ["-DCHECKED"])):
-        is_built = succeeds(CC, "-O2", *checks, "tests/platforms/portable_host.c", "-o", made)
-        tell(f"{name}: the test of what it asks of the system is built", is_built)
-        counted(f"{name}: arguments, files and calls that are interrupted", "timeout", str(SECONDS), made)
+    tell("portable C: the test of what it asks of the system is built", succeeds(CC, "-O2", "tests/platforms/portable_host.c", "-o", made))
+    counted("portable C: arguments, files and calls that are interrupted", "timeout", str(SECONDS), made)
 
 
 def old_processor():

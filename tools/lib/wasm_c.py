@@ -24,15 +24,18 @@ SHIFTS = ("<<", ">>", "shr_s", "rotl", "rotr")
 # Where a wrong operand traps, so that it is worked out in its place among what has effects.
 TRAPS = ("div_s", "div_u", "rem_s", "rem_u")
 EQZ = {0x45: I32, 0x50: I64}
+# Of floats, which are had as their bits: what each work gives.
+FLOATS = {"f64_lt": I32, "f64_le": I32, "f64_add": I64, "f64_mul": I64, "f64_div": I64}
 OF_TWO = {
     **{0x46 + at: (I32, name) for at, name in enumerate(COMPARISONS)},
     **{0x51 + at: (I64, name) for at, name in enumerate(COMPARISONS)},
     **{0x6A + at: (I32, name) for at, name in enumerate(BINARY)},
     **{0x7C + at: (I64, name) for at, name in enumerate(BINARY)},
+    **{code: (I64, name) for code, name in zip((0x63, 0x65, 0xA0, 0xA2, 0xA3), FLOATS)},
 }
 OF_ONE = {**{0x67 + at: (I32, name) for at, name in enumerate(UNARY)}, **{0x79 + at: (I64, name) for at, name in enumerate(UNARY)},
           0xC0: (I32, "extend1_"), 0xC1: (I32, "extend2_"), 0xC2: (I64, "extend1_"), 0xC3: (I64, "extend2_"), 0xC4: (I64, "extend4_")}
-WRAP, EXTEND_SIGNED, EXTEND = 0xA7, 0xAC, 0xAD
+WRAP, EXTEND_SIGNED, EXTEND, FLOAT = 0xA7, 0xAC, 0xAD, 0xBA
 # Of each load and store: the type of the number, how many bytes lie in memory, and for a load whether their highest bit is a sign.
 LOADS = {
     0x28: (I32, 4, False), 0x29: (I64, 8, False), 0x2C: (I32, 1, True), 0x2D: (I32, 1, False), 0x2E: (I32, 2, True), 0x2F: (I32, 2, False),
@@ -123,6 +126,8 @@ def shifted(kind, name, one, by):
 
 def of_two(kind, name, one, other):
     """What an instruction of two operands makes of them."""
+    if name in FLOATS:
+        return called(FLOATS[name], name, one, other)
     if name in SIGNED:
         flipped = [called(kind, f"flip{BITS[kind] // 8}", it) for it in (one, other)]
         return compared(flipped[0], SIGNED[name], flipped[1])
@@ -149,6 +154,8 @@ def of_one(code, value):
         return joined(I64, f"(uint64_t){value}", value, is_atom=True)
     if code == EXTEND_SIGNED:
         return called(I64, "extend4_8", joined(I64, f"(uint64_t){value}", value, is_atom=True))
+    if code == FLOAT:
+        return called(I64, "f64_of", value)
     kind, name = OF_ONE[code]
     return called(kind, f"{name}{BITS[kind] // 8}", value)
 

@@ -121,6 +121,8 @@ class Body:
             self.copy = number
             return None
         value = self.pop()
+        if value.text == name:
+            return None
         before = len(self.lines)
         self.settle(lambda it: name in it.uses, value)
         last = self.lines[-1] if self.lines else None
