@@ -10,11 +10,11 @@ SOAK ?= 10
 .NOTPARALLEL:
 unexport MAKEFLAGS MFLAGS
 
-.PHONY: run try show build embed aarch64 windows portable wasm page web library packages gateway test edits fuzz soak bench dist release-test install
+.PHONY: run try show build embed aarch64 arm windows portable wasm page web library packages gateway test edits fuzz soak bench dist release-test install
 
 # What builds from the sources, or proves them, says first if there is no toolchain.
 .PHONY: toolchain
-run try show build embed aarch64 windows portable wasm page web library packages gateway test edits fuzz soak bench release-test install: | toolchain
+run try show build embed aarch64 arm windows portable wasm page web library packages gateway test edits fuzz soak bench release-test install: | toolchain
 toolchain:
 	@command -v rt >/dev/null || { echo "the toolchain's command rt is missing: README.md says where it comes from" >&2; exit 1; }
 
@@ -41,11 +41,11 @@ embed:
 	@tools/embed
 
 # The program, the library for C and the gateway for 64-bit Linux on ARM, and for Windows: build/aarch64, build/windows. Needs a compiler
-# for it; docs/EMBED.md.
-aarch64 windows:
+# for it; docs/EMBED.md. For 32-bit Linux on ARM the program and the gateway: build/arm.
+aarch64 arm windows:
 	@tools/platforms $@
 
-# The program as one file of portable C, build/portable/ipxr.c. Needs wasm2c, of Debian's package wabt.
+# The program as one file of C for any compiler and system, build/portable/ipxr.c; docs/RELEASES.md.
 portable:
 	@tools/portable
 

@@ -2,15 +2,37 @@
 import re
 import struct
 import subprocess
+from typing import NamedTuple
 
 ELF, PE = b"\x7fELF", b"MZ"
-MACHINES = {62: "x86_64", 183: "aarch64", 0x8664: "x86_64"}
+MACHINES = {40: "armhf", 62: "x86_64", 183: "aarch64", 0x8664: "x86_64"}
 # Kinds of segments of an ELF file, and what asks for another library.
 LOADED, DYNAMIC = 1, 2
 NEEDED = 1
 # A note that names the oldest Linux: lengths, kind, owner, and behind them the system (0) and three numbers.
 OLDEST_LINUX = re.compile(rb"\x04\0\0\0\x10\0\0\0\x01\0\0\0GNU\0\0\0\0\0(.{12})", re.S)
 PE_TIME, PE_MACHINE = 8, 4
+
+
+class Layout(NamedTuple):
+    """Where an ELF file of 32 or of 64 bits has what is looked at: the place of the table of segments, how long its entries are and how many;
+    what names its sections, by place and length; a segment, and where in it kind, offset, address, length and room stand; and an entry of
+    what it asks for."""
+
+    start: str
+    start_at: int
+    counts_at: int
+    of_sections: tuple
+    segment: str
+    fields: tuple
+    entry: str
+
+
+# By the byte behind an ELF file's first four.
+LAYOUTS = {
+    1: Layout("<I", 0x1C, 0x2A, ((0x20, 4), (0x2E, 6)), "<IIIIII", (0, 1, 2, 4, 5), "<II"),
+    2: Layout("<Q", 0x20, 0x36, ((0x28, 8), (0x3A, 6)), "<IIQQQQQ", (0, 2, 3, 5, 6), "<QQ"),
+}
 
 
 def pe_head(binary):
@@ -30,19 +52,22 @@ def machine(binary):
 def segments(binary):
     """The segments of an ELF file: their kind, their place in memory, the room there, and their bytes. Where its sections stand isn't
     looked at."""
-    masked = bytearray(binary)
-    masked[0x28:0x30] = bytes(8)  # where the table of sections begins
-    masked[0x3A:0x40] = bytes(6)  # the size of its entries, their number, and which has the names
-    start, size, count = *struct.unpack_from("<Q", masked, 0x20), *struct.unpack_from("<HH", masked, 0x36)
+    masked, known = bytearray(binary), LAYOUTS[binary[4]]
+    # (where the table of sections begins; the size of its entries, their number, and which has the names)
+    for at, length in known.of_sections:
+        masked[at : at + length] = bytes(length)
+    start, size, count = *struct.unpack_from(known.start, masked, known.start_at), *struct.unpack_from("<HH", masked, known.counts_at)
     for at in range(start, start + size * count, size):
-        kind, _, offset, place, _, length, room = struct.unpack_from("<IIQQQQQ", masked, at)
+        found = struct.unpack_from(known.segment, masked, at)
+        kind, offset, place, length, room = (found[it] for it in known.fields)
         yield kind, place, room, bytes(masked[offset : offset + length])
 
 
 def is_linked(binary):
     """Whether an ELF file asks for a library; one that is linked statically doesn't."""
+    entry = struct.Struct(LAYOUTS[binary[4]].entry)
     tables = (text for kind, _, _, text in segments(binary) if kind == DYNAMIC)
-    return any(tag == NEEDED for text in tables for tag, _ in struct.iter_unpack("<QQ", text[: len(text) // 16 * 16]))
+    return any(tag == NEEDED for text in tables for tag, _ in entry.iter_unpack(text[: len(text) // entry.size * entry.size]))
 
 
 def libc(binaries):

@@ -7,14 +7,20 @@ import subprocess
 import binaries
 import layout
 from libraries import kit
-from systems import ARM, LINUX, PORTABLE_TOOL, WINDOWS
+from systems import ARM, ARM32, GATEWAY, LIBRARY, LINUX, PORTABLE, WINDOWS
 
 PASSED = "out/gate.passed"
 LOG = "out/gate.log"
 AS_BUILT = "by the toolchain, which proved it"
 OF_A_TARGET = "by the toolchain, from what it proved, by its own target for this system"
 OF_THE_MODULE = "from the toolchain's own module of what it proved, compiled for this system"
-AS_C = "from the toolchain's own module of what it proved, compiled for WebAssembly, lowered to 32 bits, and written as C by wasm2c"
+AS_C = "from the toolchain's own module of what it proved, compiled for WebAssembly and written as C"
+OF_C = f"{AS_C}, which was compiled for this system"
+OF_SOURCES = {
+    PORTABLE: (AS_C, "a compiler for C99, and a system of 32 or 64 bits with files as on Unix or on Windows"),
+    LIBRARY: (f"libipxr.c {AS_C}", "a compiler for C99 or C++11, and a system of 32 or 64 bits; server.c, POSIX"),
+    GATEWAY: (f"libipxr.c {AS_C}; all else as in the repository", "make, a compiler for C99, and POSIX with threads"),
+}
 # (with it came QueryUnbiasedInterruptTime, the newest of what the gateway asks for)
 OLDEST_WINDOWS = "64-bit Windows 7 or newer"
 
@@ -96,7 +102,7 @@ def page(commit, version, name, lines):
 
 def of_system(commit, version, system):
     lines = {
-        "made": {LINUX: AS_BUILT, ARM: OF_A_TARGET}.get(system, OF_THE_MODULE),
+        "made": {LINUX: AS_BUILT, ARM: OF_A_TARGET, ARM32: OF_C}.get(system, OF_THE_MODULE),
         "compiler": f"{version_of(system.compiler)} (what is written in C)",
         "processor": system.processor or processors(),
         "needs": needs(system),
@@ -104,6 +110,6 @@ def of_system(commit, version, system):
     return page(commit, version, system.name, lines)
 
 
-def of_portable(commit, version, name):
-    lines = {"made": f"{AS_C} {version_of(PORTABLE_TOOL)}", "needs": "a compiler for C99, and a little-endian system of 32 or 64 bits"}
-    return page(commit, version, name, lines)
+def of_sources(commit, version, sources):
+    made, needs_of = OF_SOURCES[sources]
+    return page(commit, version, sources.name, {"made": made, "needs": needs_of})

@@ -15,29 +15,39 @@ import contents
 import layout
 import outputs
 import pictures
+import serving
+import systems
 from pages import UNRELEASED, broken_links
-from systems import ARM, LINUX, PORTABLE, PORTABLE_SOURCE, SYSTEMS, WINDOWS
+from systems import ARM, ARM32, GATEWAY, IN_C, LIBRARY, LINUX, PORTABLE, SYSTEMS, WINDOWS
 from trying import TOP, complaint, differs, has, left_out, plays, run, tell, text_of
 
 PAGE = "docs/RELEASES.md"
 # Under which heading of the page the first commands of each archive stand.
-HEADINGS = {LINUX.name: "Linux on a PC", ARM.name: "Linux on 64-bit ARM", WINDOWS.name: "Windows", PORTABLE: "Any other system"}
+HEADINGS = {
+    LINUX.name: "Linux on a PC", ARM.name: "Linux on 64-bit ARM", ARM32.name: "Linux on 32-bit ARM", WINDOWS.name: "Windows",
+    PORTABLE.name: "The program on any other system", LIBRARY.name: "A server on any other system",
+    GATEWAY.name: "The gateway on any other Unix",
+}
+# By what the programs for other processors run here.
+RUNNERS = {ARM.name: "qemu-aarch64", ARM32.name: "qemu-arm"}
 # What somebody looks for in an archive.
 PAPERS = "PROVENANCE examples/nearest-server.pcap examples/nearest-server.out"
-PAGES = f"{PAPERS} README.md CHANGELOG.md VERSION docs/SCRIPTS.md docs/api/index.html examples/embed/heap.c gateway/configuration/example.conf tools/json"
-IN_C = ("include/ipxr.h include/ipxr_tunnel.h include/ipxr_keyed.h include/ipxr_segment.h include/ipxr_plan.h include/ipxr_settings.h "
-        "include/ipxr_fair.h include/ipxr_limits.h include/ipxr_cable.h include/ipxr_configuration.h "
-        "include/ipxr_fates.h include/ipxr_edge.h")
-ON_LINUX = f"""bin/ipxr sbin/ipxr-gateway {IN_C} lib/libipxr.a lib/libipxr.so lib/libipxr.so.{{first}} lib/libipxr.so.{{version}}
-    lib/pkgconfig/ipxr.pc share/man/man1/ipxr.1 share/man/man8/ipxr-gateway.8 share/ipxr/ipxr-gateway.conf
+PAGES = f"{PAPERS} README.md CHANGELOG.md VERSION docs/SCRIPTS.md docs/api/index.html tools/json"
+GATEWAYS = "examples/embed/heap.c gateway/configuration/example.conf"
+IN_C_HEADERS = " ".join(f"include/{it}" for it in systems.HEADERS)
+PROGRAMS = """bin/ipxr sbin/ipxr-gateway share/man/man1/ipxr.1 share/man/man8/ipxr-gateway.8 share/ipxr/ipxr-gateway.conf
     tools/conformance tools/lib/scenarios.py tests/conformance/answers/all-routes.out share/ipxr/ipxr-gateway.service share/bash-completion/completions/ipxr share/zsh/site-functions/_ipxr"""
-ON_WINDOWS = f"ipxr.exe ipxr-gateway.exe ipxr.dll {IN_C} lib/libipxr.a lib/libipxr.dll.a lib/ipxr.lib gateway.conf"
-AS_C = "ipxr.c README NOTICE man/man1/ipxr.1 man/man5/ipxr-script.5"
+ON_LINUX = f"""{PROGRAMS} {IN_C_HEADERS} lib/libipxr.a lib/libipxr.so lib/libipxr.so.{{first}} lib/libipxr.so.{{version}}
+    lib/pkgconfig/ipxr.pc"""
+ON_WINDOWS = f"ipxr.exe ipxr-gateway.exe ipxr.dll {IN_C_HEADERS} lib/libipxr.a lib/libipxr.dll.a lib/ipxr.lib gateway.conf"
 HOLDS = {
-    LINUX.name: f"{PAGES} {ON_LINUX}",
-    ARM.name: f"{PAGES} {ON_LINUX}",
-    WINDOWS.name: f"{PAGES} {ON_WINDOWS}",
-    PORTABLE: f"{PAPERS} {AS_C}",
+    LINUX.name: f"{PAGES} {GATEWAYS} {ON_LINUX}",
+    ARM.name: f"{PAGES} {GATEWAYS} {ON_LINUX}",
+    ARM32.name: f"{PAGES} {PROGRAMS}",
+    WINDOWS.name: f"{PAGES} {GATEWAYS} {ON_WINDOWS}",
+    PORTABLE.name: f"{PAPERS} ipxr.c README man/man1/ipxr.1 man/man5/ipxr-script.5",
+    LIBRARY.name: f"PROVENANCE libipxr.c server.c README.md {IN_C_HEADERS.replace('include/', '')}",
+    GATEWAY.name: "PROVENANCE Makefile README.md",
 }
 
 
@@ -81,15 +91,15 @@ def try_headings(folder):
 
 def try_unbuilt(folder):
     """What isn't built, and what was made before the program, is named with what builds it, where the machine has a compiler for it."""
-    put_empty(f"{folder}/{PORTABLE_SOURCE}")
+    put_empty(f"{folder}/{PORTABLE.file}")
     put_empty(f"{folder}/{layout.PROGRAM}")
-    os.utime(f"{folder}/{PORTABLE_SOURCE}", (0, 0))
+    os.utime(f"{folder}/{PORTABLE.file}", (0, 0))
     status, text = packed_with(folder, f"{layout.version()}, 2026-01-01")
     wanted = []
     for system in (it for it in SYSTEMS if f"left out: {it.name}" not in text):
         wanted += [f"{file} is not built: {how}" for file, how in system.built(layout.version()).items() if file != layout.PROGRAM]
-    if f"left out: {PORTABLE}" not in text:
-        wanted.append(f"{PORTABLE_SOURCE} is older than {layout.PROGRAM}: make portable")
+    wanted.append(f"{PORTABLE.file} is older than {layout.PROGRAM}: {PORTABLE.how}")
+    wanted += [f"{it.file} is not built: {it.how}" for it in (LIBRARY, GATEWAY)]
     wanted += [f"{file} is not built: {how}" for file, how in contents.WEB.items()]
     said = [it for it in text.splitlines() if not it.startswith("left out")]
     tell("what isn't built or is older than the program keeps a release from being packed", differs((status, said), (1, wanted)))
@@ -175,11 +185,11 @@ def try_unpacked(packed, name, folder):
     held = HOLDS[name].format(first=layout.version().partition(".")[0], version=layout.version()).split()
     tell(f"{name}: it holds what belongs to it", "".join(f"    no {it}\n" for it in held if not os.path.isfile(f"{root}/{it}")))
     tell(f"{name}: every link of its documents leads to a file in it", "".join(broken_links(root)))
-    if name == PORTABLE:
+    if name == PORTABLE.name:
         with open(f"{root}/README", encoding="utf-8") as it:
             shown = re.findall(r"(?m)^    (.*)$", it.read())
         tell(f"{name}: README and the page say the same commands", differs(shown, first_commands(name, packed)[2:]))
-    else:
+    if name in [it.name for it in SYSTEMS]:
         tell(f"{name}: its programs are for one processor", "".join(strangers(root, name.partition("-")[2])))
     with open(f"{root}/PROVENANCE", encoding="utf-8") as it:
         tell(f"{name}: PROVENANCE names the commit", "" if run("git", "rev-parse", "HEAD")[1].strip() in it.read() else "    it doesn't")
@@ -208,19 +218,45 @@ def try_packages(folder):
 # ---- As the page says ----
 
 
-def first_commands(name, packed):
-    """The first commands of the page for a system, with the name of an archive that was packed."""
-    found = re.search(rf"^### {HEADINGS[name]}\n(?:.*\n)*?\n((?:    .*\n)+)", text_of(PAGE), re.M)
+def commands(name, packed):
+    """What the page has below the heading of a system: each block of commands as its lines, with the name of an archive that was packed."""
+    below = re.search(rf"^### {HEADINGS[name]}\n(.*?)^##", text_of(PAGE), re.M | re.S)[1]
     version = re.search(rf"/ipxr-([^/]*)-{name}", packed)[1]
-    return re.sub(r"^    ", "", found[1], flags=re.M).replace(f"ipxr-{layout.version()}-", f"ipxr-{version}-").splitlines()
+    below = below.replace(f"ipxr-{layout.version()}-", f"ipxr-{version}-")
+    return [re.sub(r"^    ", "", it, flags=re.M).splitlines() for it in re.findall(r"(?:^    .*\n)+", below, re.M)]
 
 
-def try_first_commands(name, packed):
+def first_commands(name, packed):
+    """The first commands of the page for a system."""
+    return commands(name, packed)[0]
+
+
+def run_by(runner, lines):
+    """Commands with what runs a program of another processor before those that name one."""
+    return [re.sub(r"^(?=s?bin/)", f"{runner} ", it) for it in lines] if runner else lines
+
+
+def quick(lines):
+    """Commands that compile without the optimizer, which takes most of the time."""
+    return [it.replace("cc -O2 ", "cc -O0 ") if it != "make" else "make CFLAGS=-O0" for it in lines]
+
+
+def try_first_commands(name, packed, runner=""):
     """They are run in an empty folder that has only the archive."""
     with tempfile.TemporaryDirectory() as folder:
         shutil.copy(packed, folder)
-        said = run("sh", "-eu", "-c", "\n".join(first_commands(name, packed)), cwd=folder)
+        said = run("sh", "-eu", "-c", "\n".join(run_by(runner, first_commands(name, packed))), cwd=folder)
         tell(f"{name}: from unpacking to a decoded capture as the page says", differs(said, (0, text_of("examples/nearest-server.out"))))
+
+
+def try_serving(name, packed, runner=""):
+    """The last commands for a system serve players: what goes before is run in an empty folder that has only the archive, and then two
+    come."""
+    lines = [line for block in commands(name, packed) for line in block]
+    with tempfile.TemporaryDirectory() as folder:
+        shutil.copy(packed, folder)
+        why = serving.differs(quick(run_by(runner, lines)), folder)
+    tell(f"{name}: from unpacking to two players who hear each other as the page says", why)
 
 
 # ---- All ----
@@ -229,7 +265,7 @@ def try_first_commands(name, packed):
 def try_packed(folder):
     """Each archive of a folder; what runs here is played. And what the packages say of themselves."""
     try_packages(folder)
-    for name in (*(it.name for it in SYSTEMS), PORTABLE):
+    for name in (it.name for it in (*SYSTEMS, *IN_C)):
         packed = archive_of(folder, name)
         if not packed:
             continue
@@ -240,8 +276,18 @@ def try_packed(folder):
                 try_first_commands(name, packed)
                 pictures.try_unpacked(name, root)
                 outputs.try_unpacked(name, root)
-            if name == ARM.name and has("the program for 64-bit ARM", "qemu-aarch64"):
-                tell(f"{name}: its program plays its examples", plays(["qemu-aarch64", f"{root}/bin/ipxr"], root))
+            elif name in RUNNERS and has(f"the programs of {name}", RUNNERS[name]):
+                tell(f"{name}: its program plays its examples", plays([RUNNERS[name], f"{root}/bin/ipxr"], root))
+        try_use(name, packed)
+
+
+def try_use(name, packed):
+    """The commands of the page that are more than the first."""
+    if name == ARM32.name and has(f"the commands for {name}", RUNNERS[name]):
+        try_first_commands(name, packed, RUNNERS[name])
+        try_serving(name, packed, RUNNERS[name])
+    if name in (LIBRARY.name, GATEWAY.name) and has(f"the commands for {name}", "cc", "make"):
+        try_serving(name, packed)
 
 
 def try_archives():

@@ -83,7 +83,7 @@ WORDS = {
 # What has more words says them all, and ends with 2.
 MANY_WORDS = ["embed --help", "embed tests", "gateway --help", "gateway build", "platforms", "platforms --help"]
 # The same of what needs the toolchain.
-BUILDERS = ["build", "sized .", "show", "wasm", "web", "lib/modules.py ipxr", "lib/modules.py ipx_c"]
+BUILDERS = ["build", "sized .", "show", "wasm", "web", "portable", "lib/modules.py ipxr", "lib/modules.py ipx_c"]
 
 
 def try_words(folder):

@@ -6,7 +6,7 @@ import tempfile
 
 import binaries
 import layout
-from systems import ARM, HEADERS, LINUX
+from systems import ARM, ARM32, HEADERS, LINUX
 from trying import TOP, complaint, differs, has, left_out, plays, run, tell, text_of
 
 
@@ -17,7 +17,7 @@ def loaded(binary):
 
 def try_stamps():
     """Programs for Linux have their release in a section; those for Windows are packed as they were linked."""
-    for system in (LINUX, ARM):
+    for system in (LINUX, ARM, ARM32):
         for name in system.programs(layout.version()):
             if not layout.is_built(name):
                 left_out(f"the section of {name}", "it isn't built")

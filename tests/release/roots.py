@@ -9,12 +9,12 @@ import tempfile
 
 import contents
 import layout
-from archives import archive_of, first_commands, sums, try_packed, unpacked
-from systems import ARM, LINUX, PORTABLE, PORTABLE_SOURCE, SYSTEMS, WINDOWS
+from archives import archive_of, commands, first_commands, sums, try_packed, unpacked
+from systems import ARM, GATEWAY, IN_C, LIBRARY, LINUX, SYSTEMS, WINDOWS
 from trying import TOP, complaint, differs, has, left_out, plays, run, tell, text_of
 
 MINUTE = 60
-IN_ROOT = "gcc,libc6-dev,pkg-config,man-db"
+IN_ROOT = "gcc,libc6-dev,make,pkg-config,man-db"
 # Wine's folder is made anew, and it says nothing of itself.
 WINE = {"WINEDEBUG": "-all", "WINEDLLOVERRIDES": "winemenubuilder.exe=d"}
 PROGRAMS = ("two_networks", "answers", "fields", "services")
@@ -27,9 +27,12 @@ def copy_of_repository(folder):
     """A clone with the built files of this one, as old as they are."""
     subprocess.run(["git", "clone", "-q", TOP, folder], check=True)
     built = [file for it in SYSTEMS for file in it.built(layout.version())]
-    for name in filter(layout.is_built, [*built, PORTABLE_SOURCE, *contents.WEB, "out/gate.passed", "out/gate.log"]):
+    for name in filter(layout.is_built, [*built, *contents.WEB, "out/gate.passed", "out/gate.log"]):
         os.makedirs(os.path.dirname(f"{folder}/{name}"), exist_ok=True)
         shutil.copy2(f"{TOP}/{name}", f"{folder}/{name}")
+    for sources in (it for it in IN_C if layout.is_built(it.file)):
+        place = os.path.dirname(sources.file)
+        shutil.copytree(f"{TOP}/{place}", f"{folder}/{place}")
 
 
 def try_copies(folder):
@@ -72,15 +75,17 @@ def runs_here(system):
 
 
 def carried(packed, system, folder):
-    """What a root is given: its packages, its archive and the page's commands for that, the portable C, and the stories."""
+    """What a root is given: its packages, its archive and the page's commands for that, the archives of C, and the stories. Of the commands of
+    these all but the last, which serves, are run there."""
     os.makedirs(folder)
     # (an emulated compiler would take an hour for the portable C)
-    names = [system.name, PORTABLE] if system is LINUX else [system.name]
+    names = [system.name, *(it.name for it in IN_C if system is LINUX)]
     for name in filter(lambda it: archive_of(packed, it), names):
         archive = archive_of(packed, name)
+        lines = sum(commands(name, archive), [])[:-1] if name in (LIBRARY.name, GATEWAY.name) else first_commands(name, archive)
         shutil.copy(archive, folder)
         with open(f"{folder}/{name}.commands", "w", encoding="utf-8") as it:
-            it.write("\n".join(first_commands(name, archive)) + "\n")
+            it.write("\n".join(lines) + "\n")
     for it in [*glob.glob(f"{packed}/*_{system.debian}.deb"), f"{TOP}/tests/release/in-root"]:
         shutil.copy(it, folder)
     shutil.copytree(f"{TOP}/examples", f"{folder}/examples")

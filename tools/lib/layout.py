@@ -121,7 +121,7 @@ def gateway(system, prefix, units):
 def pieces(system, prefix, lib="lib", units="share/ipxr", is_system=False):
     """All that is built for a Linux, and what belongs to it; where the system looks for it, or below any prefix."""
     found = [*program(system)]
-    if is_built(system.archive):
+    if system.has_library and is_built(system.archive):
         found += library(system, lib, prefix if is_system else None)
     if is_built(system.gateway):
         found += gateway(system, prefix, units)

@@ -1,12 +1,12 @@
-"""What there is for other systems than Linux on x86-64, as tools/lib/targets.py compiles it: the library for C and the program for 64-bit
-Linux on ARM and for Windows. All of it works at the top of the repository."""
+"""What there is for other systems than Linux on x86-64: the library for C and the program for 64-bit Linux on ARM and for Windows, as
+tools/lib/targets.py compiles them, and both of the portable C for 32-bit Linux on ARM. All of it works at the top of the repository."""
 import os
 
 from c_library import FLAGS, calls_of_header, gets_own_heap, links_shared, proves, put
-from systems import ARM, HEADERS, IMPORTS, WINDOWS
+from systems import ARM, ARM32, HEADERS, IMPORTS, LIBRARY, PORTABLE, PROGRAM, WINDOWS
 from telling import say, succeeds
 
-GCC = {system: system.compiler for system in (ARM, WINDOWS)}
+GCC = {system: system.compiler for system in (ARM, ARM32, WINDOWS)}
 # The same sources give the same bytes.
 SAME = "-Wl,--no-insert-timestamp"
 # As much stack as Linux gives a program.
@@ -67,8 +67,25 @@ def windows_program():
         "include/heap.c", SAME, STACK, "-o", WINDOWS.program)
 
 
-LIBRARIES = {ARM: aarch64_library, WINDOWS: windows_library}
-PROGRAMS = {ARM: aarch64_program, WINDOWS: windows_program}
+def has_written(sources, tool):
+    """Whether C is there that was written since the program was built, or is written now."""
+    is_there = os.path.isfile(sources.file) and os.path.getmtime(sources.file) >= os.path.getmtime(PROGRAM)
+    return is_there or succeeds(tool)
+
+
+def arm_library():
+    """Of the library only what the gateway is compiled with."""
+    return has_written(LIBRARY, "tools/library")
+
+
+def arm_program():
+    os.makedirs(ARM32.folder, exist_ok=True)
+    say("compiling ipxr for arm")
+    return has_written(PORTABLE, "tools/portable") and succeeds(GCC[ARM32], "-std=c99", "-O2", "-static", PORTABLE.file, "-o", ARM32.program)
+
+
+LIBRARIES = {ARM: aarch64_library, ARM32: arm_library, WINDOWS: windows_library}
+PROGRAMS = {ARM: aarch64_program, ARM32: arm_program, WINDOWS: windows_program}
 
 
 def builds_all(system):

@@ -9,7 +9,7 @@ HEADERS = ("ipxr.h", "ipxr_tunnel.h", "ipxr_keyed.h", "ipxr_segment.h", "ipxr_pl
 
 class System(NamedTuple):
     """A system: its name, the folder of what is built for it, its programs, how the names of its tools begin, what of make builds it (the
-    one of this machine is built by several), for which processors, and Debian's names for it."""
+    one of this machine is built by several), for which processors, Debian's names for it, and whether it has the library for C."""
 
     name: str
     folder: str
@@ -20,6 +20,7 @@ class System(NamedTuple):
     processor: str
     debian: str = ""
     multiarch: str = ""
+    has_library: bool = True
 
     def tool(self, name):
         return f"{self.tools}{name}"
@@ -30,7 +31,7 @@ class System(NamedTuple):
 
     @property
     def headers(self):
-        return [f"{self.folder}/{it}" for it in HEADERS]
+        return [f"{self.folder}/{it}" for it in HEADERS] if self.has_library else []
 
     @property
     def archive(self):
@@ -43,11 +44,11 @@ class System(NamedTuple):
     def programs(self, version):
         """What the system loads."""
         library = f"{self.folder}/ipxr.dll" if self is WINDOWS else f"{self.folder}/{self.shared(version)[0]}"
-        return [self.program, self.gateway, library]
+        return [self.program, self.gateway, *([library] if self.has_library else [])]
 
     def built(self, version):
         """All files that are packed, each with the command that builds it."""
-        library = [self.archive, *self.headers, self.programs(version)[2]]
+        library = [self.archive, *self.headers, *self.programs(version)[2:]] if self.has_library else []
         library += [f"{self.folder}/{it}" for it in IMPORTS] if self is WINDOWS else []
         how = [f"make {self.target}"] * 3 if self.target else ["make build", "make gateway", "make embed"]
         return {self.program: how[0], self.gateway: how[1], **dict.fromkeys(library, how[2])}
@@ -77,10 +78,29 @@ WINDOWS = System(
     "windows",
     "any x86-64",
 )
-SYSTEMS = (LINUX, ARM, WINDOWS)
+# (the program and the gateway alone, of the portable C)
+ARM32 = System(
+    "linux-armhf",
+    "build/arm",
+    "build/arm/ipxr",
+    "build/arm/ipxr-gateway",
+    "arm-linux-gnueabihf-",
+    "arm",
+    "32-bit ARM from ARMv7 on, with VFPv3",
+    has_library=False,
+)
+SYSTEMS = (LINUX, ARM, ARM32, WINDOWS)
 
-# For all others one file of C, which wabt's tool makes.
-PORTABLE = "portable-c"
-PORTABLE_SOURCE = "build/portable/ipxr.c"
-PORTABLE_TOOL = "wasm2c"
-PORTABLE_TARGET = "portable"
+
+class Sources(NamedTuple):
+    """C for any other system: the name of its archive, a file that is there where it is built, and the command that builds it."""
+
+    name: str
+    file: str
+    how: str
+
+
+PORTABLE = Sources("portable-c", "build/portable/ipxr.c", "make portable")
+LIBRARY = Sources("portable-library", "build/library/libipxr.c", "make library")
+GATEWAY = Sources("gateway-sources", "build/gateway-sources/Makefile", "tools/gateway sources")
+IN_C = (PORTABLE, LIBRARY, GATEWAY)

@@ -32,6 +32,7 @@ TAKES = {
     "portable": Takes("2", "2", "make run"),
     "library": Takes("2", "2", "make embed"),
     "packages": Takes("1", "1", "make library"),
+    "arm": Takes("2", "2", "make portable and make library"),
     "aarch64": Takes("4", "3", "make run and make embed"),
     "windows": Takes("3", "3", "make run and make embed"),
     "test": Takes("141", "45"),
