@@ -47,7 +47,7 @@ HOLDS = {
     WINDOWS.name: f"{PAGES} {GATEWAYS} {ON_WINDOWS}",
     PORTABLE.name: f"{PAPERS} ipxr.c README man/man1/ipxr.1 man/man5/ipxr-script.5",
     LIBRARY.name: f"PROVENANCE libipxr.c server.c README.md {IN_C_HEADERS.replace('include/', '')}",
-    GATEWAY.name: "PROVENANCE Makefile README.md",
+    GATEWAY.name: "PROVENANCE Makefile README.md gateway.conf check.c ipxr-gateway.8 library/libipxr.c",
 }
 
 
