@@ -22,11 +22,11 @@ KINDS = {
     "sanitizers": Kind(["gcc", "-O0", *SANITIZERS]),
     "tcc": Kind(["tcc"]),
     "musl": Kind(["musl-gcc", "-O0", "-static"]),
-    "i686": Kind(["i686-linux-gnu-gcc", "-O1", "-static"]),
+    "i686": Kind(["i686-linux-gnu-gcc", "-O0", "-static"]),
     "arm": Kind(["arm-linux-gnueabihf-gcc", "-O2", "-static"], ["qemu-arm"]),
     "aarch64": Kind(["aarch64-linux-gnu-gcc", "-O0", "-static"], ["qemu-aarch64"]),
     "riscv64": Kind(["riscv64-linux-gnu-gcc", "-O0", "-static"], ["qemu-riscv64"]),
-    "mips": Kind(["mips-linux-gnu-gcc", "-O1", "-static"], ["qemu-mips"]),
+    "mips": Kind(["mips-linux-gnu-gcc", "-O0", "-static"], ["qemu-mips"]),
     "s390x": Kind(["s390x-linux-gnu-gcc", "-O0", "-static"], ["qemu-s390x"]),
     "windows": Kind(["x86_64-w64-mingw32-gcc", "-O0"], ["wine"]),
 }
