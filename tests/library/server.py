@@ -8,7 +8,9 @@ import time
 
 NETWORK, REGISTRATION, GAME = b"\0\0\0\x10", b"\0\2", b"\x45\x45"
 NOBODY, EVERYBODY = bytes(6), b"\xff" * 6
-SECONDS, TURNS = 3, 20
+SECONDS, TURNS = 3, 50
+# How long a player who says nothing waits for a ping at most: the first comes in the seventh second.
+PINGED = 12
 
 
 def packet(to, source, port, data=b""):
@@ -19,25 +21,30 @@ def packet(to, source, port, data=b""):
 
 
 class Player:
-    """A player who has come, and whose node is his place."""
+    """A player, who has no node until the server's answer names one."""
 
     def __init__(self, port):
         self.udp = socket.socket(socket.AF_INET, socket.SOCK_DGRAM)
         self.udp.settimeout(SECONDS)
         self.udp.connect(("127.0.0.1", port))
-        self.node = socket.inet_aton("127.0.0.1") + self.udp.getsockname()[1].to_bytes(2, "big")
+        self.node = NOBODY
 
     def come(self):
-        """Registers until the server's ping comes, and answers that."""
+        """Registers until the server answers."""
         for _ in range(TURNS):
             with contextlib.suppress(OSError):
                 self.udp.send(packet(NOBODY, NOBODY, REGISTRATION))
-                while (it := self.udp.recv(2000))[10:16] != EVERYBODY:
-                    pass
-                self.udp.send(packet(it[22:28], self.node, REGISTRATION))
+                self.node = self.udp.recv(2000)[10:16]
                 return
             time.sleep(0.1)
         sys.exit("the server doesn't answer")
+
+    def answer(self):
+        """Listens until the server's ping comes, and answers it."""
+        self.udp.settimeout(PINGED)
+        while (it := self.udp.recv(2000))[10:16] != EVERYBODY:
+            pass
+        self.udp.send(packet(it[22:28], self.node, REGISTRATION))
 
     def say(self, to, data):
         self.udp.send(packet(to, self.node, GAME, data))
@@ -58,19 +65,28 @@ def free_port():
         return it.getsockname()[1]
 
 
+def play(port):
+    """What goes wrong between a player who speaks and one who only listens at first, or nothing."""
+    anna, ben = Player(port), Player(port)
+    anna.come(), ben.come()
+    if anna.node == ben.node or socket.inet_aton("127.0.0.1") in (anna.node[:4], ben.node[:4]):
+        return "a node isn't a player's own, or tells where he is"
+    anna.say(EVERYBODY, b"I am here")
+    ben.answer()
+    time.sleep(0.2)
+    anna.say(EVERYBODY, b"who plays?")
+    if not ben.hears(anna.node, b"who plays?"):
+        return "what one says to all, the other doesn't hear"
+    ben.say(anna.node, b"I do")
+    return None if anna.hears(ben.node, b"I do") else "what one says to the other isn't heard"
+
+
 def main(words):
     port = free_port()
     with subprocess.Popen([*words, str(port)]) as server:
         try:
             time.sleep(0.5)
-            anna, ben = Player(port), Player(port)
-            anna.come(), ben.come()
-            time.sleep(0.2)
-            anna.say(EVERYBODY, b"who plays?")
-            if not ben.hears(anna.node, b"who plays?"):
-                return "what one says to all, the other doesn't hear"
-            ben.say(anna.node, b"I do")
-            return None if anna.hears(ben.node, b"I do") else "what one says to the other isn't heard"
+            return play(port)
         finally:
             server.terminate()
 

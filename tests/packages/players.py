@@ -1,34 +1,17 @@
 """Plays two players of DOSBox to a server that hands out nodes: players.py COMMAND.. which is run with a port behind it. Says nothing where
 all goes well."""
-import contextlib
 import os
 import subprocess
 import sys
-import time
 
 sys.dont_write_bytecode = True
 sys.path.insert(1, os.path.join(os.path.dirname(os.path.realpath(__file__)), "../library"))
 import server
 
-TURNS = 50
-
-
-class Player(server.Player):
-    """A player whose node is the one that the server's answer names."""
-
-    def come(self):
-        for _ in range(TURNS):
-            with contextlib.suppress(OSError):
-                self.udp.send(server.packet(server.NOBODY, server.NOBODY, server.REGISTRATION))
-                self.node = self.udp.recv(2000)[10:16]
-                return
-            time.sleep(0.1)
-        sys.exit("the server doesn't answer")
-
 
 def play(port):
     """What goes wrong between two players, or nothing."""
-    anna, ben = Player(port), Player(port)
+    anna, ben = server.Player(port), server.Player(port)
     for it in (anna, ben):
         it.come()
         it.say(server.EVERYBODY, b"I am here")

@@ -2,7 +2,8 @@
  *
  *     ./server 2130          and in each DOSBox IPXNET CONNECT ADDRESS 2130
  *
- * All players are on one network, where a router answers what programs ask of one. */
+ * All players are on one network, where a router answers what programs ask of one. Each gets a node that tells nobody its address
+ * (ipxr_keyed.h). */
 #include <arpa/inet.h>
 #include <poll.h>
 #include <stdio.h>
@@ -11,16 +12,19 @@
 #include <sys/socket.h>
 #include <time.h>
 
-#include "ipxr_tunnel.h"
+#include "ipxr_keyed.h"
 
-enum { LONGEST = 1424, SECOND = 1000 };
+/* Bytes of the longest packet, milliseconds, and the first bytes of nodes and of cookies. Only so many registrations count in a second:
+ * each may bring its place four datagrams, and a place may be forged. */
+enum { LONGEST = 1424, SECOND = 1000, NODE = 2, COOKIE = 6, MOST_REGISTER = 16 };
 
 static int udp;
 static uint64_t key[2];
 static ipxr router = IPXR_NONE;
-static ipxr_tunnel tunnel = IPXR_TUNNEL_NONE;
+static ipxr_keyed tunnel = IPXR_KEYED_NONE;
+static int registered; /* how many did in this second */
 
-/* ---- Cookies: a hash of the place and the minute that nobody guesses who doesn't know the key (SipHash-2-4 of two words) ---- */
+/* ---- Nodes and cookies: hashes that nobody guesses who doesn't know the key (SipHash-2-4 of 17 bytes) ---- */
 
 static uint64_t turned(uint64_t word, int by) { return word << by | word >> (64 - by); }
 
@@ -48,14 +52,27 @@ static uint64_t hash(const uint64_t words[3])
     return v[0] ^ v[1] ^ v[2] ^ v[3];
 }
 
-/* (the first byte is none that an address of a player begins with: the place stays no client's node) */
-static void put_cookie(uint8_t cookie[6], const uint8_t place[6], uint64_t minute)
+/* Six bytes of a place, of what they are, which is their first byte, and of a minute. */
+static void put_hash(uint8_t hashed[6], uint8_t first, const uint8_t place[6], uint64_t minute)
 {
-    uint64_t words[3] = {0, minute, (uint64_t)16 << 56};
+    uint64_t words[3] = {0, minute, (uint64_t)17 << 56 | first};
     memcpy(words, place, 6);
     words[0] = hash(words);
-    cookie[0] = 0;
-    memcpy(cookie + 1, words, 5);
+    hashed[0] = first;
+    memcpy(hashed + 1, words, 5);
+}
+
+static ipxr_keyed_sender sender_at(const struct sockaddr_in *from, uint64_t minute)
+{
+    ipxr_keyed_sender sender = {0};
+    memcpy(sender.place, &from->sin_addr, 4);
+    memcpy(sender.place + 4, &from->sin_port, 2);
+    put_hash(sender.node, NODE, sender.place, 0);
+    put_hash(sender.current, COOKIE, sender.place, minute);
+    put_hash(sender.previous, COOKIE, sender.place, minute - 1);
+    memcpy(sender.former, sender.node, sizeof sender.node);
+    sender.may_register = registered < MOST_REGISTER;
+    return sender;
 }
 
 /* ---- What goes out ---- */
@@ -72,14 +89,14 @@ static void send_to(const uint8_t place[6], const uint8_t *bytes, size_t length)
 static void send_owns(void)
 {
     ipxr_own own;
-    for (size_t k = 0; ipxr_tunnel_own(&tunnel, k, &own) == 0; k++)
+    for (size_t k = 0; ipxr_keyed_own(&tunnel, k, &own) == 0; k++)
         send_to(own.place, own.bytes, sizeof own.bytes);
 }
 
 static void send_packet(const uint8_t *bytes, size_t length)
 {
     uint8_t place[6];
-    for (size_t k = 0; ipxr_tunnel_receiver(&tunnel, k, place) == 0; k++)
+    for (size_t k = 0; ipxr_keyed_receiver(&tunnel, k, place) == 0; k++)
         send_to(place, bytes, length);
 }
 
@@ -88,7 +105,7 @@ static void send_routers(void)
     uint8_t bytes[LONGEST];
     ipxr_packet_sent sent;
     for (size_t k = 0; ipxr_get(&router, k, &sent, bytes, sizeof bytes) == 0; k++) {
-        ipxr_tunnel_send(&tunnel, sent.node);
+        ipxr_keyed_send(&tunnel, sent.node);
         send_packet(bytes, sent.length);
     }
     ipxr_clear(&router);
@@ -101,25 +118,24 @@ static void hear(time_t now)
     uint8_t bytes[LONGEST + 1];
     struct sockaddr_in from;
     socklen_t size = sizeof from;
-    ipxr_sender sender = {0};
+    ipxr_keyed_sender sender;
     ssize_t length = recvfrom(udp, bytes, sizeof bytes, 0, (struct sockaddr *)&from, &size);
     if (length < 30 || length > LONGEST)
         return;
-    memcpy(sender.place, &from.sin_addr, 4);
-    memcpy(sender.place + 4, &from.sin_port, 2);
-    put_cookie(sender.current, sender.place, (uint64_t)now / 60);
-    put_cookie(sender.previous, sender.place, (uint64_t)now / 60 - 1);
     bytes[4] = 0; /* DOSBox leaves here what its program wrote */
-    ipxr_tunnel_hear(&tunnel, &sender, bytes, (size_t)length);
+    sender = sender_at(&from, (uint64_t)now / 60);
+    if (ipxr_keyed_hear(&tunnel, &sender, bytes, (size_t)length) == IPXR_REGISTERS)
+        registered++;
     send_owns();
-    send_packet(bytes, ipxr_tunnel_carried(&tunnel));
-    if (ipxr_tunnel_is_heard(&tunnel))
-        ipxr_packet(&router, 0, bytes, ipxr_tunnel_carried(&tunnel));
+    send_packet(bytes, ipxr_keyed_carried(&tunnel));
+    if (ipxr_keyed_is_heard(&tunnel))
+        ipxr_packet(&router, 0, bytes, ipxr_keyed_carried(&tunnel));
 }
 
 static void second(void)
 {
-    ipxr_tunnel_second(&tunnel);
+    registered = 0;
+    ipxr_keyed_second(&tunnel);
     send_owns();
     ipxr_second(&router);
 }
@@ -127,9 +143,9 @@ static void second(void)
 static int begin(uint16_t port)
 {
     static const ipxr_port network = {0x10, {2, 0, 0, 0, 0, 1}, 1, LONGEST, IPXR_NO_LIMIT, IPXR_NO_LIMIT};
-    static const ipxr_tunnel_setting setting = {0x10, {2, 0, 0, 0, 0, 1}, 64, 16};
+    static const ipxr_keyed_setting setting = {0x10, {2, 0, 0, 0, 0, 1}, 64, 16, 1024, 64};
     struct sockaddr_in here = {0};
-    FILE *chance = fopen("/dev/urandom", "rb");
+    FILE *chance = fopen("/dev/urandom", "rb"); /* (if the key is kept, players keep their nodes when the server starts again) */
     if (!chance || fread(key, sizeof key, 1, chance) != 1 || fclose(chance) != 0)
         return -1;
     here.sin_family = AF_INET;
@@ -137,7 +153,7 @@ static int begin(uint16_t port)
     udp = socket(AF_INET, SOCK_DGRAM, 0);
     if (udp < 0 || bind(udp, (struct sockaddr *)&here, sizeof here) != 0)
         return -1;
-    return ipxr_make(&router, &network, 1) < 0 || ipxr_tunnel_make(&tunnel, &setting) < 0 ? -1 : 0;
+    return ipxr_make(&router, &network, 1) < 0 || ipxr_keyed_make(&tunnel, &setting) < 0 ? -1 : 0;
 }
 
 int main(int count, char **words)
