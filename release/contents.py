@@ -53,8 +53,9 @@ def parents(place):
         yield place or "."
 
 
-def linked(pieces):
-    """The pieces, where a link of a document to what isn't among them is only its text."""
+def linked(pieces, moved=MOVED):
+    """The pieces, where a link of a document to what isn't among them is only its text. `moved` has what lies elsewhere than in the
+    repository."""
     there = {it.place for it in pieces}
     folders = {folder for it in there for folder in parents(it)}
     for it in pieces:
@@ -65,8 +66,8 @@ def linked(pieces):
 
         def mended(found, folder=folder):
             target = posixpath.normpath(posixpath.join(folder, found[2]))
-            if target in MOVED and MOVED[target] in there:
-                return f"[{found[1]}]({posixpath.relpath(MOVED[target], folder)})"
+            if target in moved and moved[target] in there:
+                return f"[{found[1]}]({posixpath.relpath(moved[target], folder)})"
             is_there = "://" in found[2] or target in there or target in folders
             return found[0] if is_there else found[1]
 

@@ -11,6 +11,7 @@ import subprocess
 import sys
 
 import library_header
+import library_pages
 import modules
 import targets
 import wasm_c_file
@@ -102,6 +103,7 @@ def build():
         shutil.copy(f"{TOP}/build/{file}", FOLDER)
     for file in os.listdir(SOURCES):
         shutil.copy(f"{SOURCES}/{file}", FOLDER)
+    library_pages.put(FOLDER)
     return f"build/library/libipxr.c: {len(text)} bytes"
 
 

@@ -1,6 +1,8 @@
 """What is tried of the library as one file of C, by each compiler that is there: examples, every call, made-up events beside the library of
 this machine, and what the translator makes of each instruction."""
+import glob
 import os
+import re
 import shutil
 import subprocess
 import tempfile
@@ -8,6 +10,7 @@ from typing import NamedTuple
 
 import c_examples
 import library_c
+import library_pages
 import library_vectors
 import wasm_c_file
 import wasm_cases
@@ -236,6 +239,26 @@ def refusals():
     tell("a word that leads behind the data is refused", is_refused(words[3], words[4], begins=True))
 
 
+LINKED = re.compile(r"\]\(([^)#\s]+)(?:#[^)]*)?\)")
+
+
+def leading_nowhere():
+    """The links of the pages beside the file that lead to no file."""
+    for page in sorted(glob.glob(f"{FOLDER}/docs/*.md")):
+        targets = [it for it in LINKED.findall(text_of(page)) if "://" not in it]
+        yield from (f"{page}: {it}" for it in targets if not os.path.exists(f"{FOLDER}/docs/{it}"))
+
+
+def pages():
+    """The pages beside the file."""
+    missing = library_pages.missing()
+    print("".join(f"{it} isn't there\n" for it in missing), end="")
+    tell(f"the {len(library_pages.PAGES)} pages beside the file are all that a header names", not missing)
+    wrong = [*leading_nowhere()]
+    print("".join(f"{it}\n" for it in wrong), end="")
+    tell("and each of their links leads to a file", not wrong and os.path.isfile(f"{FOLDER}/docs/EMBED.md"))
+
+
 def again():
     """Another build, from the kept module on."""
     with tempfile.TemporaryDirectory() as folder:
@@ -255,4 +278,5 @@ def test(names):
     if not names:
         refusals()
         static()
+        pages()
         again()
