@@ -28,16 +28,16 @@
  *  6. Each pointer leads to as many values as its length says, aligned for their type. If a buffer is
  *     shorter than its length says, the call writes past its end.
  *  7. No two arguments of one call overlap, and no other code writes there during the call.
- *  8. malloc, realloc and free belong to one allocator (include/heap.c), and are not changed while a router exists.
+ *  8. malloc, realloc and free, or what takes their place, belong to one allocator, which is not changed while a router exists.
  *  9. No call from a signal handler, nor in the child of a fork of a process with threads.
  * 10. The stack has room for a call, as that of a thread with IPXR_STACK bytes has. Without room, a call overruns the stack.
  *
  * Everything else is answered with a number: a handle without a router, a second free, a port, a packet or a record that
  * doesn't exist, a buffer too short for a packet, ports from which no router can be made, memory that is refused.
  *
- * WHERE IT RUNS. The library exists for 64-bit Linux on x86-64 and on aarch64, and for 64-bit Windows on x86-64:
- * docs/LIBIPXR.md says how each is made. It is called like any C there. The header is plain C, from C89 on, and
- * plain C++, from C++98 on, if the compiler has stdint.h and stdbool.h.
+ * WHERE IT RUNS. The library is built for 64-bit Linux on x86-64 and on aarch64 and for 64-bit Windows on x86-64, and there is one
+ * file of C, libipxr.c, for any other system of 32 or 64 bits: docs/LIBIPXR.md says how each is made. It is called like any C there.
+ * The header is plain C, from C89 on, and plain C++, from C++98 on, if the compiler has stdint.h and stdbool.h.
  */
 #ifndef IPXR_H
 #define IPXR_H
@@ -228,7 +228,7 @@ typedef struct ipxr_service_entry {
     uint8_t node[6];
     uint16_t socket;
     uint16_t type;    /* its type, such as 4 for a file server */
-    uint16_t hops;    /* routers on the way: 16 where it is unreachable */
+    uint16_t hops;    /* routers on the way: 1 of a server's own service, and 16 where it is unreachable */
 } ipxr_service_entry;
 
 /* ---- Making and freeing ---- */

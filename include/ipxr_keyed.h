@@ -28,6 +28,10 @@
  * are, of the place and the minute, by another key or in another form: no cookie may be a node. Give each datagram with the cookie of
  * this minute and that of the last.
  *
+ * CLIENTS. A registration alone makes no client. A place becomes one by the first packet that names the node handed to it in the last
+ * nine seconds, or by the answer to a ping, the first of which is sent in the seventh second. Until then no packet goes there, and
+ * ipxr_keyed_send has no receiver for its node: ipxr_keyed_waiters counts it, and ipxr_keyed_clients doesn't.
+ *
  * WHAT C HAS TO PROMISE is what ipxr.h says, of this handle too. And:
  *
  * 11. The flags `is_trusted` and `may_register` are 0 or 1: any other byte there is no flag, and anything may happen.
@@ -113,8 +117,8 @@ IPXR_CALL int32_t ipxr_keyed_hear(ipxr_keyed *tunnel, const ipxr_keyed_sender *s
  * your clock, at most once for each turn of your loop: after a stall, clients shouldn't all be counted out at once. */
 IPXR_CALL int32_t ipxr_keyed_second(ipxr_keyed *tunnel);
 
-/* The router sends a packet on the tunnel's network to that node, or to all: ipxr_packet_sent has it. The receivers get its
- * bytes, which the tunnel doesn't need. Returns 0. */
+/* The router sends a packet on the tunnel's network to that node, or to all: ipxr_packet_sent has it. The receivers, who are
+ * clients, get its bytes, which the tunnel doesn't need. Returns 0. */
 IPXR_CALL int32_t ipxr_keyed_send(ipxr_keyed *tunnel, const uint8_t node[6]);
 
 /* ---- What came of the last event ----

@@ -119,7 +119,7 @@ extern "C" {
     /// shouldn't all be counted out at once.
     pub fn ipxr_keyed_second(tunnel: *mut ipxr_keyed) -> i32;
     /// The router sends a packet on the tunnel's network to that node, or to all: ipxr_packet_sent has it. The
-    /// receivers get its bytes, which the tunnel doesn't need. Returns 0.
+    /// receivers, who are clients, get its bytes, which the tunnel doesn't need. Returns 0.
     pub fn ipxr_keyed_send(tunnel: *mut ipxr_keyed, node: *const u8) -> i32;
     /// Datagrams of the tunnel's own: send them first. After a datagram there is at most one; after a second one for
     /// each silent client, and behind these one for each remembered place that is answered again or pinged.

@@ -352,7 +352,7 @@ pub struct ipxr_service_entry {
     pub socket: u16,
     /// its type, such as 4 for a file server
     pub r#type: u16,
-    /// routers on the way: 16 where it is unreachable
+    /// routers on the way: 1 of a server's own service, and 16 where it is unreachable
     pub hops: u16,
 }
 
