@@ -1,6 +1,6 @@
 """The pages of the library as one file of C: those to which its headers and docs/EMBED.md send a reader, and the programs in C that these
-show. They lie as in the repository, below the library's folder; there the headers lie at the top, and a link to what isn't there is only
-its text."""
+show. They lie as in the repository, below the library's folder, at whose top the headers and the server lie. A link to what isn't there is
+only its text."""
 import glob
 import os
 import re
@@ -12,8 +12,8 @@ PAGES = ("EMBED", "LIBIPXR", "PACKETS", "ROUTER", "TUNNEL", "KEYED", "SEGMENT", 
          "CONFIGURATION", "GATEWAY-REFERENCE", "TERMS")
 EXAMPLES = "examples/embed/c"
 NAMED = re.compile(r"docs/([\w-]+)\.md")
-# (the headers lie at the top)
-MOVED = {f"include/{it}": it for it in HEADERS}
+# What lies at the top, by its place in the repository.
+MOVED = {**{f"include/{it}": it for it in HEADERS}, "examples/embed/library/server.c": "server.c"}
 
 
 def places():
@@ -24,9 +24,9 @@ def places():
 
 def pages():
     """The files, with their links as they are in that folder."""
-    pieces = [layout.Piece("", it, layout.content(it)) for it in places()] + [layout.Piece("", it) for it in HEADERS]
+    pieces = [layout.Piece("", it, layout.content(it)) for it in places()] + [layout.Piece("", it) for it in MOVED.values()]
     mended = layout.tool("release/contents.py").linked(pieces, MOVED)
-    return [it for it in mended if it.place not in HEADERS]
+    return [it for it in mended if "/" in it.place]
 
 
 def put(folder):
