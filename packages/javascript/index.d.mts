@@ -52,10 +52,10 @@ export function load(source?: Source | PromiseLike<Source>): Promise<void>;
 export interface Port {
     readonly network: NumberLike;
     readonly node: NodeLike;
-    /** Ticks that a packet takes to cross the network: at least 1. */
-    readonly cost: number;
-    /** Bytes of the longest packet that may leave there: at least 576. */
-    readonly longest: number;
+    /** Ticks that a packet takes to cross the network: at least 1, which it is where nothing is said. */
+    readonly cost?: number;
+    /** Bytes of the longest packet that may leave there: at least 576, which it is where nothing is said. */
+    readonly longest?: number;
     /** How many routes and services may have come by it; any number where nothing is said. */
     readonly routes?: number;
     readonly services?: number;
@@ -66,7 +66,7 @@ export interface RouteEntry {
     readonly hops: number;
     readonly ticks: number;
 }
-/** A service of a packet: its name of 1 to 47 characters, where it is offered, its type, and routers on the way. */
+/** A service of a packet: its name of 1 to 47 characters, where it is offered, its type, and routers on the way: 1 of a server's own. */
 export type ServiceEntry = { readonly name: string; readonly type: number; readonly hops: number } & (
     | { readonly address: AddressLike }
     | { readonly network: NumberLike; readonly node: NodeLike; readonly socket: NumberLike }
@@ -159,7 +159,8 @@ declare class Held {
 
 /** A tunnel whose clients' nodes are their places. */
 export class Tunnel extends Held {
-    constructor(setting: { network: NumberLike; node: NodeLike; capacity: number; share: number });
+    /** Where nothing is said it takes 64 clients, 16 of an address. */
+    constructor(setting: { network: NumberLike; node: NodeLike; capacity?: number; share?: number });
     hear(sender: Sender, bytes: Uint8Array): Heard;
     second(): { owns: Own[]; leavers: Uint8Array[] };
     send(node: NodeLike): Uint8Array[];
@@ -167,8 +168,9 @@ export class Tunnel extends Held {
 }
 /** A tunnel whose clients have the nodes that you make for their places. */
 export class KeyedTunnel extends Held {
+    /** Where nothing is said it takes 64 clients, 16 of an address, and remembers 1,024 registrations, 64 of an address. */
     constructor(setting:
-        { network: NumberLike; node: NodeLike; capacity: number; share: number; remembered: number; rememberedShare: number });
+        { network: NumberLike; node: NodeLike; capacity?: number; share?: number; remembered?: number; rememberedShare?: number });
     hear(sender: KeyedSender, bytes: Uint8Array): Heard;
     second(): { owns: Own[]; pings: number; leavers: Member[] };
     send(node: NodeLike): Uint8Array[];
@@ -191,7 +193,8 @@ export interface Station {
     secondsLeft: number;
 }
 export class Segment extends Held {
-    constructor(setting: { network: NumberLike; node: NodeLike; links: number; capacity: number });
+    /** Where nothing is said it knows 1,024 stations. */
+    constructor(setting: { network: NumberLike; node: NodeLike; links: number; capacity?: number });
     change(link: number, to: Link): void;
     hear(link: number, source: NodeLike, destination: NodeLike): { isHeard: boolean; receivers: number[] };
     come(link: number, node: NodeLike): void;

@@ -1,7 +1,7 @@
 // The router and packets, as in ipxr.mjs, with addresses that may be texts; and packets that are read.
 import * as core from "./ipxr.mjs";
 import { addressOf, networkOf, nodeOf } from "./text.mjs";
-import { textOf } from "./values.mjs";
+import { ABSENT, textOf } from "./values.mjs";
 
 const { inside } = core;
 const [HEADER, ENTRY_OF_RIP, ENTRY_OF_SAP, NAME] = [30, 8, 64, 48];
@@ -15,7 +15,9 @@ function each(items, read) {
 }
 
 function portOf(port, k) {
-    return { network: networkOf(port.network, `the network of port ${k}`), node: nodeOf(port.node, `the node of port ${k}`) };
+    const { cost, longest } = ABSENT.ipxr_port;
+    const [network, node] = [networkOf(port.network, `the network of port ${k}`), nodeOf(port.node, `the node of port ${k}`)];
+    return { network, node, cost: port.cost ?? cost, longest: port.longest ?? longest };
 }
 
 const routeOf = (route, k) => ({ network: networkOf(route.network, `the network of route ${k}`) });

@@ -10,7 +10,13 @@ const TEXTS = [16, 48, 254];
 // Structs of which only some fields count, so that the others may be left away.
 const PARTLY = new Set(["ipxr_rule", "ipxr_plan_link", "ipxr_setting_host", "ipxr_setting_link"]);
 // What stands for a field that is left away.
-const ABSENT = { ipxr_port: { routes: raw.IPXR_NO_LIMIT, services: raw.IPXR_NO_LIMIT } };
+const OF_TUNNEL = { capacity: 64, share: 16 };
+export const ABSENT = {
+    ipxr_port: { cost: 1, longest: 576, routes: raw.IPXR_NO_LIMIT, services: raw.IPXR_NO_LIMIT },
+    ipxr_tunnel_setting: OF_TUNNEL,
+    ipxr_keyed_setting: { ...OF_TUNNEL, remembered: 1024, remembered_share: 64 },
+    ipxr_segment_setting: { capacity: 1024 },
+};
 // What is read as hexadecimal digits where it is a text.
 const NETWORKS = new Set(["network", "from", "to"]);
 

@@ -30,6 +30,13 @@ for (const it of ODD) {
     assert.throws(() => new ipxr.Line(it), TypeError);
     assert.throws(() => new ipxr.HouseholdLimits(it), TypeError);
 }
+// (what is left away has the numbers that it has in Python)
+const { network, node } = SETTING;
+for (const kind of [ipxr.Tunnel, ipxr.KeyedTunnel]) new kind({ network, node }).free();
+assert.throws(() => new ipxr.Segment({ network, node }), TypeError);
+assert.equal(new ipxr.Segment({ network, node, links: 1 }).link(0).share, 0);
+assert.equal(new ipxr.Router([{ network, node }]).start().sent.length, 2);
+assert.throws(() => new ipxr.Router([{ network, node, longest: 575 }]), fault(ipxr.Fault.BAD_LONGEST));
 assert.throws(() => new ipxr.Tunnel({ ...SETTING, capacity: 4097 }), fault(ipxr.Fault.MANY_CLIENTS));
 assert.throws(() => new ipxr.Tunnel({ ...SETTING, capacity: 65536 }), TypeError);
 assert.throws(() => new ipxr.Segment({ ...SETTING, links: 33, capacity: 9 }), fault(ipxr.Fault.MANY_LINKS));

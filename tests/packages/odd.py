@@ -56,6 +56,7 @@ segment = ipxr.Segment(*SETTING, links=2)
 faults(Fault.NO_LINK, segment.change, 2, 1, 1)
 faults(Fault.BAD_LINK, segment.change, 0, 3, 1)
 refuses(ValueError, segment.change, 256, 1, 1)
+refuses(TypeError, segment.change, 0, 1)
 
 # ---- Values of a call ----
 

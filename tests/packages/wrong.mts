@@ -5,7 +5,7 @@ import { AddressUse, Course, Edge, Fair, Keys, Limits, LimitsLink, LinkKind, Met
 const tunnel = new Tunnel({ network: "10", node: "020000000001", capacity: 4, share: 2 });
 const segment = new Segment({ network: 0x10, node: "020000000001", links: 2, capacity: 9 });
 const limits = new Limits({ link: LimitsLink.TUNNEL, rate: 1, share: 1 });
-new Tunnel({ network: "10", node: "020000000001", capacity: 4 }); // wrong
+new Tunnel({ network: "10", capacity: 4, share: 2 }); // wrong
 new Tunnel({ network: "10", node: "020000000001", capacity: "4", share: 2 }); // wrong
 new Router([{ network: 10n, node: "020000000001", cost: 1, longest: 576 }]); // wrong
 tunnel.hear("10.0.0.1:2130", new Uint8Array(30)); // wrong

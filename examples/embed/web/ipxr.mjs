@@ -207,7 +207,7 @@ let library;
 let loading;
 
 function loaded() {
-    if (!library) throw new Error("the library isn't loaded: await Router.load() comes first");
+    if (!library) throw new Error("the library isn't loaded: await Router.load() comes first, or load() of the package");
     return library;
 }
 

@@ -61,7 +61,7 @@ pub struct ServiceEntry {
     pub kind: u16,
     /// Where it is offered.
     pub address: Address,
-    /// Routers on the way: 16 where it is unreachable.
+    /// Routers on the way: 1 of a server's own service, and 16 where it is unreachable.
     pub hops: u16,
 }
 

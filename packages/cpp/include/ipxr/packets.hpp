@@ -65,7 +65,7 @@ inline ipxr_route_entry route_entry(std::uint32_t network, std::uint16_t hops, s
 }
 inline ipxr_route_entry all_routes() { return {0xFFFFFFFF, 0xFFFF, 0xFFFF}; }
 
-/// A service of a packet. Its name is no longer than 47 bytes: the rest of it is left out.
+/// A service of a packet. Its name is no longer than 47 bytes: the rest of it is left out. A server's own service has 1 hop.
 inline ipxr_service_entry service_entry(const std::string &name, std::uint16_t type, const ipxr_address &address, std::uint16_t hops)
 {
     ipxr_service_entry made = ipxr_service_entry();

@@ -26,7 +26,7 @@ class RouteEntry(NamedTuple):
 
 
 class ServiceEntry(NamedTuple):
-    """A service of a packet: its name of 1 to 47 characters, where it is offered, its type, and routers on the way."""
+    """A service of a packet: its name of 1 to 47 characters, where it is offered, its type, and routers on the way: 1 of a server's own."""
 
     name: str
     address: AddressLike

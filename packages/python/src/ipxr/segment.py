@@ -56,8 +56,9 @@ class Segment(Handle):
     def __exit__(self, *_: object) -> None:
         self.free()
 
-    def change(self, link: int, kind: LinkKind, share: int = 0) -> None:
-        """A link goes up or down, or changes. Its stations are forgotten in any case."""
+    def change(self, link: int, kind: LinkKind, share: int) -> None:
+        """A link goes up or down, or changes: what it is then, and the most stations of it that are known at one time, 0 if it is down. Its
+        stations are forgotten in any case."""
         to = packed(raw.ipxr_link, "the link", {"kind": kind, "share": share})
         judged(calls.ipxr_segment_change(self.handle, _link(link), byref(to)))
 
