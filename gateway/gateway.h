@@ -62,6 +62,8 @@ typedef struct network {
     ipxr_kinds kinds;      /* of frames, which its stations use, where they may use any; */
     uint64_t kind_told;    /* and where not, when one that used another was told last, or 0; */
     uint64_t claim_told;   /* and when a router that has another number for the cable was, or 0 */
+    uint32_t held;         /* services that were held against its rules for who asked for the nearest, */
+    uint64_t held_in;      /* in this second */
 } network;
 
 /* A port of the router: a network with its links. */

@@ -12,6 +12,9 @@
 /* Milliseconds from one try to open something to the next. */
 enum { BETWEEN = 1000 };
 
+/* Milliseconds until a link is opened again once more from an address that it left and came back to. */
+enum { BETWEEN_MOVES = 600000 };
+
 /* Milliseconds of silence, after which a name is asked for again: a gateway at the other end says something each minute. */
 enum { SILENT = 90000 };
 
@@ -217,11 +220,20 @@ static bool is_at_any_address(const network_setting *set)
            memcmp(set->local.six, ANY.six, sizeof ANY.six) == 0;
 }
 
+/* Whether a link was opened again lately, since another address than this seemed to lead there, and has this one again: ways may go by ports. */
+static bool came_back(const cable *it, const address *own)
+{
+    return it->moved != 0 && clock_now() - it->moved < BETWEEN_MOVES && same_address(&it->moved_from, own);
+}
+
 /* Where that is another address by now, as where the machine was given one, or a card came up that leads there, the link is opened again. */
 static void follow_own_address(cable *it)
 {
-    if (it->fd < 0 || !is_at_any_address(it->set) || datagram_has_address(it->fd))
+    address own;
+    if (it->fd < 0 || !is_at_any_address(it->set) || datagram_has_address(it->fd, &own) || came_back(it, &own))
         return;
+    it->moved_from = own;
+    it->moved = clock_now();
     it->was_lost = true;
     close_any(&it->fd);
     it->tried = 0;

@@ -22,6 +22,8 @@ typedef struct cable {
     unsigned kinds;             /* of frames that an interface's socket lets pass, of each the bit 1 << kind */
     address local;              /* where the socket is, with the port that it took */
     address peer;               /* who is connected */
+    address moved_from;         /* where it was when it was opened again last, since another address leads there, */
+    uint64_t moved;             /* and milliseconds of the clock then, or 0 */
     remote remote;              /* where what goes out goes */
     uint64_t starved;           /* milliseconds of the clock when the system had no room for what is to be received, or 0 */
     bool has_heard;             /* something came from there since one looked, */

@@ -21,6 +21,10 @@ enum { AT_OPERATION = HEADER, NEAREST_RESPONSE = 4, AT_SERVICE = HEADER + 2, TO_
 /* Where the service's address begins, behind its name; the hops of a server on the cable itself; and those from which on nothing is reached. */
 enum { AT_PLACE = 48, ON_CABLE = 1, UNREACHABLE = 16 };
 
+/* How many services are held against a network's rules in a second, at most, for those who ask for the nearest: what takes some ten milliseconds
+ * by 64 rules. */
+enum { MOST_HELD = 2048 };
+
 ipxr_port edge_port(const network *on)
 {
     ipxr_port it = {.network = on->set->network, .cost = ANY_COST, .longest = on->set->longest};
@@ -142,9 +146,18 @@ static bool is_told(const network *on, const ipxr_service_record *service, uint1
     return service->port != on->set->port && service->type == type && service->hops + 1 < UNREACHABLE;
 }
 
+/* Whether one more service may be held against a network's rules in this second. */
+static bool may_hold(const gateway *it, network *on)
+{
+    if (on->held_in != it->seconds)
+        on->held = 0;
+    on->held_in = it->seconds;
+    return on->held++ < MOST_HELD;
+}
+
 /* The router's answer names a service that the rules deny: it names the nearest of the type that they don't. Returns what goes out of it, 0 where
- * there is none. */
-static size_t name_permitted(gateway *it, const network *on, const ipxr_port *at, uint8_t *packet, size_t length)
+ * there is none, or where it would take too long to find it. */
+static size_t name_permitted(gateway *it, network *on, const ipxr_port *at, uint8_t *packet, size_t length)
 {
     uint8_t tried[LONGEST];
     uint16_t fewest = UNREACHABLE, type = get16(packet + AT_SERVICE);
@@ -153,6 +166,8 @@ static size_t name_permitted(gateway *it, const network *on, const ipxr_port *at
     for (size_t k = 0; ipxr_service(&it->router, k, &service) == 0; k++) {
         if (!is_told(on, &service, type) || service.hops >= fewest)
             continue;
+        if (!may_hold(it, on))
+            return 0;
         name_service(tried, &service);
         if (passes(on, IPXR_WAY_OUT, at, tried, length) != length)
             continue;

@@ -15,8 +15,8 @@
 int datagram_open(address *local, const address *remote);
 
 /* Whether the system would choose the same address again for a socket with a remote one: it is the machine's still, and the way to the other end
- * leaves from there. Also where that can't be said. */
-bool datagram_has_address(int fd);
+ * leaves from there. Also where that can't be said; else it is told the address. */
+bool datagram_has_address(int fd, address *own);
 
 /* The next datagrams of a socket, or the next frames of an interface's. Returns false where there is none; with ECONNREFUSED where
  * somebody said, as anybody can, that nobody hears what the socket sent. */

@@ -5,11 +5,12 @@ source package of tcpdump has.
 """
 import os
 import struct
+import time
 
 from cards import has_taps
 from changed import Changed
 from frames import FRONTS, Packets, Station, Udp
-from lab import (EVERYONE, GAME, RIP, SAP, Client, Clock, Gateway, address, comes_next, free_ports, packet, reaches, rip_response, sap_response,
+from lab import (AGAIN, EVERYONE, GAME, RIP, SAP, Client, Clock, Gateway, address, comes_next, free_ports, packet, reaches, rip_response, sap_response,
                  tunnels, until)
 from spaces import ip
 from systems import SYSTEM
@@ -154,6 +155,11 @@ def is_told_of_services(bytes_):
     return bytes_[28:30] == struct.pack(">H", SAP) and bytes_[16:18] == struct.pack(">H", GAME)
 
 
+def names_nearest(bytes_):
+    """Whether the router answers a query for the nearest server."""
+    return is_told_of_services(bytes_) and bytes_[30:32] == struct.pack(">H", 4)
+
+
 def nearest_for(asker, gateway):
     """The name and hops of the server that the router names as the nearest; None where it names none before it answers for all."""
     asker.say(address(0, gateway, SAP), struct.pack(">HH", 3, SERVER), kind=0)
@@ -202,6 +208,29 @@ def nearest_that_is_permitted():
         wire.send(framed(sap_response(CABLE, STATION, [(SERVER, "MAIN", CABLE, STATION, OFFERED, 1)])))
         until(lambda: "services: 7\n" in gate.report(), "seven services")
         assert nearest_for(station, gate.nodes[CABLE]) is None
+
+
+def many_are_held_against_rules():
+    """Of services that rules deny so many are looked through in a second for who asks for the nearest, and no more: then he asks again."""
+    wire, many, asked, a_second = Udp(), 301, 40, 2048 // 301 + 1
+    text = on_a_cable(wire).replace(" dosbox", f" 64 {many} dosbox")
+    with Gateway(text + "deny service * LAB* out\n") as gate:
+        station, far = unnumbered(gate, wire), Client(gate.ports[NETWORK])
+        station.network = CABLE
+        offers = [(SERVER, f"LAB{k}", 0x99, STATION, OFFERED, 2) for k in range(many - 1)] + [(SERVER, "MAIN", 0x99, STATION, OFFERED, 3)]
+        for first in range(0, many, 7):
+            far.send(sap_response(NETWORK, far.node, offers[first : first + 7]))
+            until(lambda of=first: f"services: {min(of + 7, many)}\n" in gate.report(), "seven services more")
+        began = time.monotonic()
+        for _ in range(asked):
+            station.say(address(0, gate.nodes[CABLE], SAP), struct.pack(">HH", 3, SERVER), kind=0)
+        station.say(address(0, gate.nodes[CABLE], SAP), struct.pack(">HH", 1, SERVER), kind=0)
+        found = 0
+        while station.hear(is_told_of_services)[30:32] == struct.pack(">H", 4):
+            found += 1
+        assert 0 < found <= a_second * (2 + int(time.monotonic() - began)), found
+        until(lambda: station.say(address(0, gate.nodes[CABLE], SAP), struct.pack(">HH", 3, SERVER), kind=0)
+              or (station.hear(names_nearest, AGAIN) or b"")[34:38] == b"MAIN", "who asks later is answered")
 
 
 def another_number():
@@ -358,7 +387,7 @@ def inside():
 
 def main():
     counts = tried(is_answered, is_found, routes_of_a_neighbour, neighbours_are_heard_beside, nobody_passes_for_a_neighbour, as_it_came,
-                   nearest_server, nearest_that_is_permitted, rules_come_in, rules_go_out, none_is_adopted)
+                   nearest_server, nearest_that_is_permitted, many_are_held_against_rules, rules_come_in, rules_go_out, none_is_adopted)
     if has_linux("rules that change, and what is told once a minute", "the status socket and the clock that a test sets are Linux' own"):
         counts.run(rules_change)
         counts.run(statics_change)

@@ -20,6 +20,8 @@ from trying import Counts, begin, can, left_out, tried, tried_inside
 
 HEADER = 30  # bytes of an IPX packet's
 ANY_PORTS = "32768 60999"  # as Linux begins
+TABLE = "77"  # of ways by ports
+LOOKS = 5  # seconds, in each of which a link looks where its way leaves
 
 
 def all_kinds():
@@ -163,6 +165,30 @@ def another_own_address():
             until(lambda: far.say(address(0x20, STATION, GAME), b"out") or time.sleep(AGAIN) or new in sources(wire), f"it sends by {new}")
             gate.told("network 00000020 is up")
         wire.close()
+    ip("link", "del", "v0")
+
+
+def opened_by_ports(*of_rule):
+    """How often a link at 0.0.0.0 is opened again where ways go by ports."""
+    ip("rule", "add", "ipproto", "udp", *of_rule, "lookup", TABLE)
+    with Gateway(tunnels(1) + "network 20 1 1490 qemu-udp 0.0.0.0:5001 10.77.0.9:5002 raw\n") as gate:
+        gate.until("network 00000020 up")
+        time.sleep(LOOKS)
+        gate.report()
+        again = sum("network 00000020 is down" in it for it in gate.lines)
+    ip("rule", "del", "ipproto", "udp", *of_rule, "lookup", TABLE)
+    return again
+
+
+def a_way_by_ports():
+    """Where ways go by ports, a link at 0.0.0.0 stays where it is: by its own port, which no other socket can ask for, it is opened again once."""
+    pair("v0", "v1")
+    ip("addr", "add", "10.77.0.1/24", "dev", "v0")
+    ip("addr", "add", "10.77.0.3/32", "dev", "v0")
+    ip("route", "add", "10.77.0.0/24", "dev", "v0", "src", "10.77.0.3", "table", TABLE)
+    ip("neigh", "add", "10.77.0.9", "lladdr", about("v1")["address"], "dev", "v0", "nud", "permanent")
+    assert opened_by_ports("dport", "5002") == 0
+    assert opened_by_ports("sport", "5001") <= 1
     ip("link", "del", "v0")
 
 
@@ -401,7 +427,7 @@ def inside():
         left_out("a connection with itself", "the ports that the system gives can't be set")
     if has_cards():
         counts += tried(all_kinds, a_short_mtu, a_cable_is_pulled, a_card_by_the_same_number, a_card_comes_later, an_address_comes_later,
-                        another_own_address, two_gateways, a_new_address, what_waits_on_a_card, a_dead_pc, *((a_narrow_way,) if has_six() else ()))
+                        another_own_address, a_way_by_ports, two_gateways, a_new_address, what_waits_on_a_card, a_dead_pc, *((a_narrow_way,) if has_six() else ()))
     else:
         left_out("interfaces", "no pair of them can be made")
     if has_taps():

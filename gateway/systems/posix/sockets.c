@@ -180,14 +180,13 @@ int datagram_open(address *local, const address *remote)
     return kept_if(is_bound(fd, local) && (remote == NULL || is_connected(fd, remote)), fd);
 }
 
-/* The address of a socket, or of the other end of one, without its port. Returns whether it is known. */
+/* The address of a socket, or of the other end of one. Returns whether it is known. */
 static bool address_of(int fd, int asks(int, struct sockaddr *, socklen_t *), address *it)
 {
     any_address at = untold();
     socklen_t size = sizeof at;
     bool is_known = asks(fd, &at.one, &size) == 0;
     *it = of_any(&at);
-    it->port = 0;
     return is_known;
 }
 
@@ -203,22 +202,24 @@ static bool is_gone(address own)
 /* Whether what goes to another machine would leave from another address than that. (a socket to there tells it) */
 static bool leaves_elsewhere(const address *own, const address *remote)
 {
-    address chosen, there = *remote;
-    there.port = 1; /* (any will do: nothing is sent) */
+    address chosen = {.port = 0};
     int fd = unwaiting(socket(family_of(own), SOCK_DGRAM, 0));
     if (fd >= 0 && own->is_six)
         set_six(fd);
-    bool is_so = fd >= 0 && is_connected(fd, &there) && address_of(fd, getsockname, &chosen) && !same_address(&chosen, own);
+    bool is_so = fd >= 0 && is_connected(fd, remote) && address_of(fd, getsockname, &chosen);
+    chosen.port = own->port;
+    is_so = is_so && !same_address(&chosen, own);
     close_any(&fd);
     return is_so;
 }
 
-bool datagram_has_address(int fd)
+bool datagram_has_address(int fd, address *own)
 {
-    address own, remote;
-    if (!address_of(fd, getsockname, &own) || !address_of(fd, getpeername, &remote))
+    address remote;
+    if (!address_of(fd, getsockname, own) || !address_of(fd, getpeername, &remote))
         return true;
-    return !is_gone(own) && !leaves_elsewhere(&own, &remote);
+    own->port = 0; /* (a socket for another one asks) */
+    return !is_gone(*own) && !leaves_elsewhere(own, &remote);
 }
 
 int listener_open(address *local)

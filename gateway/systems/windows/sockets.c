@@ -147,16 +147,17 @@ int datagram_open(address *local, const address *remote)
 }
 
 /* (a socket for another port at that address tells it) */
-bool datagram_has_address(int fd)
+bool datagram_has_address(int fd, address *own)
 {
     any_address at = {.six = {.sin6_family = AF_INET}};
     int size = sizeof at;
     if (getsockname((SOCKET)fd, &at.one, &size) != 0)
         return true;
-    address own = of_any(&at);
-    own.port = 0;
-    int other = unwaiting(socket(family_of(&own), SOCK_DGRAM, 0));
-    bool is_gone = other >= 0 && !is_bound(other, &own) && errno == EADDRNOTAVAIL;
+    *own = of_any(&at);
+    own->port = 0;
+    address another = *own;
+    int other = unwaiting(socket(family_of(own), SOCK_DGRAM, 0));
+    bool is_gone = other >= 0 && !is_bound(other, &another) && errno == EADDRNOTAVAIL;
     close_any(&other);
     return !is_gone;
 }
