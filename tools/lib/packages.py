@@ -18,7 +18,8 @@ MADE_UP = f"{TOP}/tests/packages/made_up.out"
 # The library as one file of C, with the headers that it was built with.
 LIBRARY = f"{TOP}/build/library"
 NO_LICENCE = "No licence has been named yet. Until the owner names one, nobody has given you permission to copy, change or pass on this.\n"
-SECONDS = 300
+# That a program may take: a compiler takes half a minute for the library, and many times that beside others.
+SECONDS = 1200
 IGNORED = shutil.ignore_patterns("__pycache__", "node_modules", "target", "*.pyc", "build", "dist", "*.egg-info")
 
 
