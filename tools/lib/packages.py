@@ -2,6 +2,7 @@
 import contextlib
 import os
 import shutil
+import signal
 import subprocess
 import tempfile
 
@@ -59,25 +60,36 @@ def elsewhere():
         yield folder
 
 
+def ended(words, how, complaints):
+    """How a command ended, what it printed, and what it complained of. One that takes too long is ended, with all that it started."""
+    words_of = {"stdin": subprocess.DEVNULL, "stdout": subprocess.PIPE, "stderr": complaints, "text": True, "start_new_session": True}
+    with subprocess.Popen(words, **words_of, **how) as run:
+        try:
+            printed, complained = run.communicate(timeout=SECONDS)
+        except subprocess.TimeoutExpired:
+            os.killpg(run.pid, signal.SIGKILL)
+            printed, complained = run.communicate()
+            say(f"{words[0]}: not within {SECONDS} seconds")
+    return run.returncode, printed, complained or ""
+
+
 def runs(*words, **how):
     """Whether a command ends well; what it said is shown where it doesn't."""
     try:
-        run = subprocess.run(words, stdin=subprocess.DEVNULL, stdout=subprocess.PIPE, stderr=subprocess.STDOUT, text=True, check=False,
-                             timeout=SECONDS, **how)
-    except (OSError, subprocess.TimeoutExpired) as why:
-        say(f"{words[0]}: {why}")
-        return False
-    if run.returncode:
-        say(run.stdout)
-    return run.returncode == 0
+        status, said, _ = ended(words, how, subprocess.STDOUT)
+    except OSError as why:
+        status, said = 1, f"{words[0]}: {why}"
+    if status:
+        say(said)
+    return status == 0
 
 
 def says_kept(kept, *words, **how):
     """Whether a program prints what a file has, and complains of nothing."""
-    run = subprocess.run(words, stdin=subprocess.DEVNULL, capture_output=True, text=True, check=False, timeout=SECONDS, **how)
-    is_alike = (run.returncode, run.stdout, run.stderr) == (0, text_of(kept), "")
+    status, printed, complained = ended(words, how, subprocess.PIPE)
+    is_alike = (status, printed, complained) == (0, text_of(kept), "")
     if not is_alike:
-        say(f"{run.stdout}{run.stderr}it ended with {run.returncode}")
+        say(f"{printed}{complained}it ended with {status}")
     return is_alike
 
 
