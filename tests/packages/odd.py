@@ -58,6 +58,14 @@ faults(Fault.BAD_LINK, segment.change, 0, 3, 1)
 refuses(ValueError, segment.change, 256, 1, 1)
 refuses(TypeError, segment.change, 0, 1)
 
+with ipxr.Router([PORT]) as router:
+    states = [router.is_running, router.is_up(0)]
+    router.start()
+    states += [router.is_running, router.is_up(0)]
+    router.port_down(0)
+    assert [*states, router.is_up(0)] == [False, False, True, True, False]
+    faults(Fault.NO_PORT, router.is_up, 1)
+
 # ---- Values of a call ----
 
 tunnel = ipxr.Tunnel(*SETTING)
