@@ -14,8 +14,8 @@
 
 #include "ipxr_keyed.h"
 
-/* Bytes of the longest packet, milliseconds, and the first bytes of nodes and of cookies. Only so many registrations count in a second:
- * each may bring its place four datagrams, and a place may be forged. */
+/* Bytes of the longest packet, since DOSBox has room for no more; milliseconds; and the first bytes of nodes and of cookies. Only so many
+ * registrations count in a second: each may bring its place four datagrams, and a place may be forged. */
 enum { LONGEST = 1424, SECOND = 1000, NODE = 2, COOKIE = 6, MOST_REGISTER = 16 };
 
 static int udp;
