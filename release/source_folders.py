@@ -1,9 +1,10 @@
-"""The archives of C for any other system: the program with its manual pages and stories, the library with a server, and the gateway's
-sources. Each is a folder in which a compiler, or make, is all that is needed."""
+"""The archives of C for any other system: the program with its manual pages and stories, the library with a server and the pages that its
+headers name, and the gateway's sources. Each is a folder in which a compiler, or make, is all that is needed."""
 import os
 
 import contents
 import layout
+import library_pages
 from systems import GATEWAY, HEADERS, LIBRARY, PORTABLE
 
 STORIES = ["examples", ":!examples/embed"]
@@ -42,6 +43,7 @@ def library(_):
     folder = os.path.dirname(LIBRARY.file)
     for name in [os.path.basename(LIBRARY.file), *HEADERS, *sorted(os.listdir(f"{layout.TOP}/{BESIDE}"))]:
         yield layout.Piece("ipxr", name, layout.content(f"{folder}/{name}"))
+    yield from (it._replace(package="ipxr") for it in library_pages.pages())
 
 
 def gateway(_):

@@ -46,7 +46,7 @@ HOLDS = {
     ARM32.name: f"{PAGES} {PROGRAMS}",
     WINDOWS.name: f"{PAGES} {GATEWAYS} {ON_WINDOWS}",
     PORTABLE.name: f"{PAPERS} ipxr.c README man/man1/ipxr.1 man/man5/ipxr-script.5",
-    LIBRARY.name: f"PROVENANCE libipxr.c server.c README.md {IN_C_HEADERS.replace('include/', '')}",
+    LIBRARY.name: f"PROVENANCE libipxr.c server.c README.md {IN_C_HEADERS.replace('include/', '')} docs/EMBED.md docs/KEYED.md",
     GATEWAY.name: "PROVENANCE Makefile README.md gateway.conf check.c ipxr-gateway.8 library/libipxr.c",
 }
 
