@@ -21,11 +21,12 @@ struct network {
     ipxr_segment segment;
 };
 
-/* Whether a place is a client's, and who that is. */
-static bool find_client(ipxr_keyed *tunnel, const uint8_t *place, ipxr_keyed_member *client)
+/* Whether a client is at a place and has a node. (what its place says under another node is a stranger's) */
+static bool is_client(ipxr_keyed *tunnel, const uint8_t *place, const uint8_t *node)
 {
-    for (size_t k = 0; ipxr_keyed_client(tunnel, k, client) == 0; k++)
-        if (memcmp(client->place, place, sizeof client->place) == 0)
+    ipxr_keyed_member client;
+    for (size_t k = 0; ipxr_keyed_client(tunnel, k, &client) == 0; k++)
+        if (memcmp(client.place, place, sizeof client.place) == 0 && memcmp(client.node, node, sizeof client.node) == 0)
             return true;
     return false;
 }
@@ -59,10 +60,10 @@ static void carry_over(struct network *on, const uint8_t *node, const ipxr_addre
 
 static ipxr_keyed_sender sender_at(const uint8_t *place)
 {
-    ipxr_keyed_sender sender = {.node = {2}, .former = {2}, .current = {6}, .previous = {6}, .may_register = true};
+    ipxr_keyed_sender sender = {.node = {2}, .current = {6}, .previous = {6}, .may_register = true};
     memcpy(sender.place, place, sizeof sender.place);
     memcpy(sender.node + 1, place + 1, sizeof sender.node - 1);
-    memcpy(sender.former + 1, place + 1, sizeof sender.former - 1);
+    memcpy(sender.former, place, sizeof sender.former);
     return sender;
 }
 
@@ -81,8 +82,8 @@ static void hear_datagram(struct network *on, const char *what, const uint8_t *p
         ipxr_segment_come(&on->segment, TUNNEL, client.node);
         printf("  came to the tunnel\n");
     }
-    if (said == IPXR_SPEAKS && find_client(&on->tunnel, place, &client))
-        carry_over(on, client.node, &destination);
+    if (said == IPXR_SPEAKS && is_client(&on->tunnel, place, source.node))
+        carry_over(on, source.node, &destination);
 }
 
 /* A frame comes to the card, from a node to a node. */
@@ -125,8 +126,9 @@ static void play(struct network *on)
     hear_datagram(on, "Anna calls all, and is a client by that", ANNA, anna, all);
     hear_frame(on, "the old PC writes to Anna", OLD_PC, ANNAS_NODE);
     hear_datagram(on, "Anna writes to the old PC", ANNA, anna, old_pc);
-    hear_datagram(on, "a stranger calls all", STRANGER, anna, all);
-    hear_datagram(on, "a stranger writes to the old PC", STRANGER, anna, old_pc);
+    hear_datagram(on, "Anna's place speaks under its former node", ANNA, address(ANNA, GAME_SOCKET), all);
+    hear_datagram(on, "a stranger calls all", STRANGER, address(STRANGER, GAME_SOCKET), all);
+    hear_datagram(on, "a stranger writes to the old PC in her name", STRANGER, anna, old_pc);
     hear_frame(on, "somebody at the card writes in Anna's name", ANNAS_NODE, EVERYONE);
     pass(on, 30);
     printf("stations: %zu\n", ipxr_segment_stations(&on->segment));
