@@ -546,6 +546,9 @@ def shown_while_links_go():
     if not has_six():
         left_out("links that go while they are shown", "no address of IPv6 here, whose words are long")
         return
+    if SYSTEM.words:
+        left_out("links that go while they are shown", "this C library's words for what they lack are too short to fill a viewer's room")
+        return
     several = "network 10 1 1424\n" + "".join("link " + udp.format(6000 + k) for k in range(32))
     single = "".join(f"network {0x20 + k:X} 1 1424 " + udp.format(7000 + k) for k in range(31))
     with Changed(SHORT) as gate:
