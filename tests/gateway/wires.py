@@ -9,7 +9,7 @@ import sys
 import tempfile
 import time
 
-from cards import TUN, about, has_cards, has_taps, own_address, pair
+from cards import TUN, about, has_cards, has_taps, hears_all_frames, own_address, pair
 from frames import KINDS, Packets, Station, Tcp
 from lab import AGAIN, GAME, Client, Gateway, address, comes_next, free_ports, is_routers, reaches, tunnels, until
 from links import NO_LIMIT, STATION, both_ways, connected, listening, places_joined
@@ -90,6 +90,8 @@ def a_cable_is_pulled():
 def a_card_by_the_same_number():
     """A card that was taken away is heard again, also where it has the number that it had: as one has that was lent to a container. On a
     network of several links what is for others is heard there again, too."""
+    if not hears_all_frames():
+        return
     (port,) = free_ports(1)
     below = f"network 20 1 1490 interface v0 raw\nnetwork 30 1 1424\nlink interface v0 llc\nlink dosbox 127.0.0.1:{port}\n"
     pair("v0", "v1")
