@@ -32,7 +32,7 @@ def copy_of_repository(folder):
         shutil.copy2(f"{TOP}/{name}", f"{folder}/{name}")
     for sources in (it for it in IN_C if layout.is_built(it.file)):
         place = os.path.dirname(sources.file)
-        shutil.copytree(f"{TOP}/{place}", f"{folder}/{place}")
+        shutil.copytree(f"{TOP}/{place}", f"{folder}/{place}", ignore=shutil.ignore_patterns("tried"))
 
 
 def try_copies(folder):
