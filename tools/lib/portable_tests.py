@@ -14,7 +14,7 @@ from systems import PROGRAM
 from telling import has, left_out, say, tell
 
 TRIED = "build/portable/tried"
-# (the optimizer takes minutes: it is at work where programs come from that others play)
+# (the optimizer takes minutes: it is at work for what others play, and for what an emulator makes slow)
 KINDS = {
     "gcc": Kind(["gcc", "-O2", "-std=c99"]),
     "clang": Kind(["clang", "-O2", "-std=c99"]),
@@ -24,10 +24,10 @@ KINDS = {
     "musl": Kind(["musl-gcc", "-O0", "-static"]),
     "i686": Kind(["i686-linux-gnu-gcc", "-O0", "-static"]),
     "arm": Kind(["arm-linux-gnueabihf-gcc", "-O2", "-static"], ["qemu-arm"]),
-    "aarch64": Kind(["aarch64-linux-gnu-gcc", "-O0", "-static"], ["qemu-aarch64"]),
-    "riscv64": Kind(["riscv64-linux-gnu-gcc", "-O0", "-static"], ["qemu-riscv64"]),
-    "mips": Kind(["mips-linux-gnu-gcc", "-O0", "-static"], ["qemu-mips"]),
-    "s390x": Kind(["s390x-linux-gnu-gcc", "-O0", "-static"], ["qemu-s390x"]),
+    "aarch64": Kind(["aarch64-linux-gnu-gcc", "-O1", "-static"], ["qemu-aarch64"]),
+    "riscv64": Kind(["riscv64-linux-gnu-gcc", "-O1", "-static"], ["qemu-riscv64"]),
+    "mips": Kind(["mips-linux-gnu-gcc", "-O1", "-static"], ["qemu-mips"]),
+    "s390x": Kind(["s390x-linux-gnu-gcc", "-O1", "-static"], ["qemu-s390x"]),
     "windows": Kind(["x86_64-w64-mingw32-gcc", "-O0"], ["wine"]),
 }
 # By whose programs a library is preloaded that refuses what they ask for.
