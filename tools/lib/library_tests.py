@@ -15,6 +15,7 @@ import library_vectors
 import wasm_c_file
 import wasm_cases
 import wasm_format
+import wine
 from c_library import put, text_of
 from telling import ends, has, left_out, prints, quietly, say, succeeds, tell
 
@@ -139,12 +140,24 @@ def try_kind(name, kind, right):
     compiler = kind.compiler
     c_examples.examples(name, compiler, folder, kind.runner, "libipxr.o")
     c_examples.counted_examples(name, compiler, folder, (), kind.runner, "libipx_c.o")
-    c_examples.thread(name, compiler, folder, kind.runner, "libipxr.o")
     play(name, kind, folder, right)
     if name == "windows":
-        left_out("windows: the server, which is one for POSIX", "its sockets")
+        left_out("windows: a thread's stack, and the server", "what POSIX has for them")
     else:
+        c_examples.thread(name, compiler, folder, kind.runner, "libipxr.o")
         serve(name, kind, folder)
+
+
+def by_wine(name, kind, right):
+    """The same with Wine, which has a folder of its own there."""
+    if not has("wine"):
+        left_out(name, "wine")
+        return
+    with wine.begun() as is_begun:
+        if is_begun:
+            try_kind(name, kind, right)
+        else:
+            left_out(name, wine.lacks())
 
 
 # ---- The file itself ----
@@ -274,7 +287,7 @@ def test(names):
             return
     right = Right()
     for name in names or KINDS:
-        try_kind(name, KINDS[name], right)
+        (by_wine if name == "windows" else try_kind)(name, KINDS[name], right)
     if not names:
         refusals()
         static()
