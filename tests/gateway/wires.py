@@ -170,15 +170,20 @@ def another_own_address():
     ip("link", "del", "v0")
 
 
-def opened_by_ports(*of_rule):
+def changed_rule(how, *ports):
+    """Makes a rule for ways by ports, or takes it away."""
+    ip("rule", how, "ipproto", "udp", *ports, "lookup", TABLE)
+
+
+def opened_by_ports(*ports):
     """How often a link at 0.0.0.0 is opened again where ways go by ports."""
-    ip("rule", "add", "ipproto", "udp", *of_rule, "lookup", TABLE)
+    changed_rule("add", *ports)
     with Gateway(tunnels(1) + "network 20 1 1490 qemu-udp 0.0.0.0:5001 10.77.0.9:5002 raw\n") as gate:
         gate.until("network 00000020 up")
         time.sleep(LOOKS)
         gate.report()
         again = sum("network 00000020 is down" in it for it in gate.lines)
-    ip("rule", "del", "ipproto", "udp", *of_rule, "lookup", TABLE)
+    changed_rule("del", *ports)
     return again
 
 
@@ -428,8 +433,13 @@ def inside():
     else:
         left_out("a connection with itself", "the ports that the system gives can't be set")
     if has_cards():
+        if can(lambda: changed_rule("add", "sport", "1")):
+            changed_rule("del", "sport", "1")
+            counts.run(a_way_by_ports)
+        else:
+            left_out("ways by ports", "this system has no such rules")
         counts += tried(all_kinds, a_short_mtu, a_cable_is_pulled, a_card_by_the_same_number, a_card_comes_later, an_address_comes_later,
-                        another_own_address, a_way_by_ports, two_gateways, a_new_address, what_waits_on_a_card, a_dead_pc, *((a_narrow_way,) if has_six() else ()))
+                        another_own_address, two_gateways, a_new_address, what_waits_on_a_card, a_dead_pc, *((a_narrow_way,) if has_six() else ()))
     else:
         left_out("interfaces", "no pair of them can be made")
     if has_taps():
