@@ -10,7 +10,7 @@ import time
 from lab import (AGAIN, COOKIE, EVERYONE, GAME, GATEWAY, KEYED, LIMIT, NOBODY, RIP, ROOM, SAP, TUNNEL, Client, Gateway, address, comes_next,
                  free_ports, is_ping, is_routers, packet, played_anew, reaches, reaches_again, registration, rip_response, sap_response, socket_of,
                  tunnels, until, until_wine_lets_go)
-from systems import SYSTEM, TOP, Windows
+from systems import SYSTEM, TOP, Arm, Windows
 from trying import begin, left_out, tried
 
 REMEMBERED, REMEMBERED_FOR = 64, 10  # registrations of one address; seconds for which they are
@@ -202,6 +202,9 @@ def catch_up(houses):
 @played_anew
 def four_thousand_clients():
     """As many clients as there may be, of an address each, are there, and one broadcast comes to all."""
+    if SYSTEM is Arm:
+        left_out("4,096 clients", "under qemu-arm the gateway doesn't read as much as comes from them")
+        return
     with Gateway(tunnels(1, extra="clients 4096\nrate none\nstrangers none\n")) as gate:
         houses = [House(gate.ports[0x10], number) for number in range(16)]
         for house in houses:

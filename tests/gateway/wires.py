@@ -15,7 +15,7 @@ from lab import AGAIN, GAME, Client, Gateway, address, comes_next, free_ports, i
 from links import NO_LIMIT, STATION, both_ways, connected, listening, places_joined
 from six import has_six
 from spaces import Space, ip
-from systems import SYSTEM
+from systems import SYSTEM, Arm
 from trying import Counts, begin, can, left_out, tried, tried_inside
 
 HEADER = 30  # bytes of an IPX packet's
@@ -296,6 +296,9 @@ def nobody_but_itself():
 
 def a_dead_pc():
     """A PC whose machine is gone without a word gives way after a minute (here 3 seconds), whether or not something was under way."""
+    if SYSTEM is Arm:
+        left_out("a PC that is gone without a word", "under qemu-arm it doesn't give way; with 32 bits of this machine's own it does")
+        return
     pair("v0", "v1")
     ways = (False, True)
     if SYSTEM.is_emulated:
