@@ -13,9 +13,9 @@ ADDRESS = f"file://{MADE}"
 FAR = "FFFF001E0000000000400000000000CC4003000000100000000000AA4003"
 # What a router sends is lost, since the other's port is down.
 LOST = """router
-port 10 101 1 576
+port 00000010 000000000101 1 576
 router
-port 10 201 1 576
+port 00000010 000000000201 1 576
 start 1
 down 1 0
 settle 100
@@ -328,7 +328,7 @@ def moving(b, _):
     script(b, "internet", LOST)
     b.run("const pane = page.panes.internet; await pane.show(pane.steps.length - 1)")
     b.waits("document.querySelector('#pane-internet .right .said').textContent.includes(': lost, the port is down')")
-    same(b.run("return page.panes.internet.drawing.shapes.filter((it) => it.text === '✕').length"), 2, "the port that is down, and the packet")
+    same(b.run("return page.panes.internet.drawing.shapes.filter((it) => it.text === '✕').length"), 1, "where the packet is lost")
     b.click("#pane-internet .fine input")
 
 
