@@ -169,7 +169,7 @@ class Windows:
     has_cards = False
     is_wide = True
     is_emulated = False
-    words = {}
+    calls = words = {}
     program = delivered = built("windows/ipxr-gateway.exe")
     siphash, queues, minutes = built("windows/siphash.exe"), built("windows/queues.exe"), built("windows/minutes.exe")
     quick = ["wine"]
