@@ -14,7 +14,7 @@ import time
 from frames import KINDS, Station, Tcp, Udp, frame
 from lab import (EVERYONE, GAME, LIMIT, Client, Clock, Gateway, address, comes_next, free_ports, is_routers, packet, played_anew, reaches, tunnels,
                  until)
-from systems import SYSTEM, Windows, words_of
+from systems import SYSTEM, Windows, fault_words
 from trying import begin, has_linux, left_out, tried
 
 STATION = bytes.fromhex("020000000AA1")
@@ -276,7 +276,7 @@ def no_room_for_a_connection():
         files = len(os.listdir(f"/proc/{process}/fd"))
         before = resource.prlimit(process, resource.RLIMIT_NOFILE, (files, resource.getrlimit(resource.RLIMIT_NOFILE)[1]))
         with socket.create_connection(("127.0.0.1", gate.ports[0x20])) as pc:
-            assert gate.told("nobody can come in at").endswith(f" now: {words_of(errno.EMFILE)}")
+            assert gate.told("nobody can come in at").endswith(f" now: {fault_words(errno.EMFILE)}")
             until(lambda: gate.counted(0x20, "not taken") >= 2, "it is tried again")
             report = gate.report()
             seconds = int(re.search(r"(?m)^report after (\d+) s$", report)[1])
@@ -369,7 +369,7 @@ def nobody_answers():
             it.setblocking(False)
             it.connect_ex(place)
         with Gateway(f"network 20 1 1490 qemu-tcp connect {place[1]} llc\n") as gate:
-            assert gate.told("can't connect").endswith(f": can't connect: {words_of(errno.ETIMEDOUT)}")
+            assert gate.told("can't connect").endswith(f": can't connect: {fault_words(errno.ETIMEDOUT)}")
             for it in others:
                 silent.accept()[0].close()
                 it.close()
@@ -413,7 +413,7 @@ def an_address_comes_later():
         else:
             lacks.insert(0, (40, "dosbox 192.0.2.1:2130: can't take the address"))
         for network, what in lacks:
-            assert gate.told(f"network 000000{network} is down").endswith(f": {what}: {words_of(errno.EADDRNOTAVAIL)}")
+            assert gate.told(f"network 000000{network} is down").endswith(f": {what}: {fault_words(errno.EADDRNOTAVAIL)}")
         assert reaches(Client(gate.ports[0x10]), Client(gate.ports[0x20]))
 
 

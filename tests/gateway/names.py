@@ -15,7 +15,7 @@ from lab import AGAIN, LIMIT, Client, Clock, Gateway, reaches, tunnels, until
 from links import STATION, both_ways
 from six import has_six
 from spaces import ip
-from systems import SYSTEM, Windows, words_of
+from systems import SYSTEM, Windows, fault_words
 from troubles import Trouble
 from trying import Counts, begin, left_out, tried, tried_inside
 from words import asked
@@ -226,7 +226,7 @@ def no_room_for_a_call():
             with trouble.fails("socket", errno.EMFILE):
                 first.accept()[0].close()
                 clock.let_pass(1)
-                assert gate.told("can't connect").endswith(f": {words_of(errno.EMFILE)}")
+                assert gate.told("can't connect").endswith(f": {fault_words(errno.EMFILE)}")
             until(lambda: clock.let_pass(1) or gate.report() and sum(" is up: qemu-tcp" in it for it in gate.lines) == 2, "one more call")
             assert told_with(gate, f"127.0.0.2:{port}")
 

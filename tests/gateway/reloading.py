@@ -24,7 +24,7 @@ from segments import hears, tells
 from six import has_six
 from spaces import ip
 from status import advertise, answer_of, asked
-from systems import SYSTEM, TOP, words_of
+from systems import SYSTEM, TOP, fault_words
 from trying import Counts, begin, has_linux, left_out, tried, tried_inside
 
 TIMES = 20  # that the configuration is read anew while others play
@@ -486,7 +486,7 @@ def a_link_is_taken():
         assert status == 1 and "1 link can't be opened, which is tried again each second" in out, out
         assert reaches(a, a)
         assert [it["state"] for it in gate.shown("links")] == ["up", "down"]
-        assert words_of(errno.EADDRINUSE) in gate.shown("links")[1]["lacks"]
+        assert fault_words(errno.EADDRINUSE) in gate.shown("links")[1]["lacks"]
         taken.close()
         gate.told("network 00000020 is up")
         assert reaches(Client(second), a)

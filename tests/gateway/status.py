@@ -15,7 +15,7 @@ import time
 from frames import frame
 from lab import (ALL_THERE_IS, EVERYONE, GAME, LIMIT, NOBODY, Client, Gateway, address, packet, reaches, rip_response, text_of, tunnels,
                  until)
-from systems import SYSTEM, words_of
+from systems import SYSTEM, fault_words
 from trying import Counts, begin, has_linux, left_out, tried
 
 SECTIONS = ("links", "clients", "stations", "routes", "services", "edge", "counts")
@@ -284,7 +284,7 @@ def who_may_ask():
     with Watched(tunnels(1)) as gate:
         assert stat.S_IMODE(os.stat(gate.path).st_mode) == 0o660
         run = begun_at(gate.path)
-        assert run.returncode == 1 and f"can't listen there: {words_of(errno.EADDRINUSE)}".encode() in run.stderr, run
+        assert run.returncode == 1 and f"can't listen there: {fault_words(errno.EADDRINUSE)}".encode() in run.stderr, run
         assert gate.shown("links")
         gate.run.kill()
         gate.run.communicate()
@@ -312,7 +312,7 @@ def who_takes_nobody():
                 one.setblocking(False)
                 one.connect(path)
         run = begun_at(path)
-        assert run.returncode == 1 and f"can't listen there: {words_of(errno.EADDRINUSE)}".encode() in run.stderr, run
+        assert run.returncode == 1 and f"can't listen there: {fault_words(errno.EADDRINUSE)}".encode() in run.stderr, run
 
 
 def many_ask():
@@ -342,7 +342,7 @@ def no_room_to_ask():
         files = len(os.listdir(f"/proc/{process}/fd"))
         before = resource.prlimit(process, resource.RLIMIT_NOFILE, (files, resource.getrlimit(resource.RLIMIT_NOFILE)[1]))
         with gate.connects(b"show links\n") as late:
-            assert gate.told("nobody can ask at").endswith(f" now: {words_of(errno.EMFILE)}")
+            assert gate.told("nobody can ask at").endswith(f" now: {fault_words(errno.EMFILE)}")
             used = processor_time(process)
             time.sleep(RESTED)
             used = processor_time(process) - used

@@ -183,6 +183,6 @@ SYSTEMS = {"": Linux, "aarch64": Aarch64, "arm": Arm, "i686": I686, "posix": Pos
 SYSTEM = SYSTEMS[os.environ.get("GATEWAY_SYSTEM", "")]
 
 
-def words_of(fault):
+def fault_words(fault):
     """What the gateway says of a fault of the system."""
     return SYSTEM.words.get(fault, os.strerror(fault))

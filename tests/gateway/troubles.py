@@ -14,7 +14,7 @@ from lab import (AGAIN, ALL_THERE_IS, EVERYONE, GAME, LIMIT, Client, Clock, Gate
 from links import STATION, connected, listening
 from orders import is_farewell
 from status import Watched, answer_of, processor_time
-from systems import SYSTEM, words_of
+from systems import SYSTEM, fault_words
 from trying import begin, left_out, tried
 
 
@@ -122,7 +122,7 @@ def a_fifo_cannot_be_opened():
             assert reaches(Client(gate.ports[0x10]), Client(gate.ports[0x20]))
             gate.run.order(SYSTEM.end)
             _, complaint = gate.run.communicate(timeout=LIMIT)
-            assert gate.run.returncode == 0 and complaint.decode() == f"ipxr-gateway: the capture ends: {words_of(errno.EMFILE)}\n", complaint
+            assert gate.run.returncode == 0 and complaint.decode() == f"ipxr-gateway: the capture ends: {fault_words(errno.EMFILE)}\n", complaint
 
 
 def knocks(gate):
@@ -182,7 +182,7 @@ def nobody_is_taken():
         for fault in errno.ENFILE, errno.EPERM:
             with trouble.fails("accept", fault):
                 late = gate.connects(b"show links\n")
-                assert gate.told("nobody can ask at").endswith(f" now: {words_of(fault)}")
+                assert gate.told("nobody can ask at").endswith(f" now: {fault_words(fault)}")
                 rests(gate, f"accept {fault}")
             with late:
                 assert answer_of(late).startswith(b"+")

@@ -7,7 +7,7 @@ import subprocess
 import tempfile
 
 from lab import LIMIT, Gateway, text_of, tunnels
-from systems import BUILD, SYSTEM, TOP, Windows, words_of
+from systems import BUILD, SYSTEM, TOP, Windows, fault_words
 from trying import begin, tried
 
 HERE = os.path.join(TOP, "tests", "gateway")
@@ -242,7 +242,7 @@ def what_cannot_be_opened():
         capture.flush()
         text = f"network 20 1 1424 dosbox {gate.ports[0x10]}\n".encode()
         status, _, complaint = asked("--pcap", capture.name, "/dev/stdin", stdin=text)
-        assert status == 1 and "line 1: dosbox 127.0.0.1:" in complaint and complaint.endswith(f": {words_of(errno.EADDRINUSE)}\n")
+        assert status == 1 and "line 1: dosbox 127.0.0.1:" in complaint and complaint.endswith(f": {fault_words(errno.EADDRINUSE)}\n")
         with open(capture.name, "rb") as it:
             assert it.read() == b"of another gateway"
     if SYSTEM.has_cards:
