@@ -31,7 +31,7 @@ _ipxr() {
 # What may stand behind a word that asks a gateway.
 _ipxr_gateway_asking() {
     case $1 in
-    show) echo "links clients stations routes services edge counts events --json --prometheus --status" ;;
+    show) echo "links clients stations peers routes services edge counts events --json --prometheus --status" ;;
     *) echo "--status" ;;
     esac
 }
@@ -42,14 +42,15 @@ _ipxr_gateway() {
     case ${COMP_WORDS[COMP_CWORD - 1]} in
     --pcap) _ipxr_files "$word" '*.pcap' && return ;;
     --status) _ipxr_files "$word" '*' && return ;;
+    --status-web) return ;;
     esac
     if [ "$COMP_CWORD" -gt 1 ] && [[ $first =~ ^(show|ping|trace|reload)$ ]]; then
         mapfile -t COMPREPLY < <(compgen -W "$(_ipxr_gateway_asking "$first")" -- "$word")
     elif [[ $word == -* ]]; then
-        mapfile -t COMPREPLY < <(compgen -W "--check --example --help --log --pcap --status --version" -- "$word")
+        mapfile -t COMPREPLY < <(compgen -W "--cards --check --example --help --log --pcap --status --status-web --version" -- "$word")
     else
         _ipxr_files "$word" '*.conf'
-        [ "$COMP_CWORD" != 1 ] || mapfile -t -O ${#COMPREPLY[@]} COMPREPLY < <(compgen -W "show ping trace reload try" -- "$word")
+        [ "$COMP_CWORD" != 1 ] || mapfile -t -O ${#COMPREPLY[@]} COMPREPLY < <(compgen -W "show ping trace reload try key" -- "$word")
     fi
 }
 

@@ -14,13 +14,16 @@
 #include "monitoring/capture.h"
 #include "monitoring/note.h"
 #include "monitoring/status.h"
+#include "monitoring/status_page.h"
 #include "monitoring/trial.h"
+#include "peers/turns.h"
 #include "systems/clock.h"
 #include "tunnel/tunnel.h"
+#include "web/turns.h"
 
 /* Frames and datagrams of one cable, after which the next has its turn; and how many turns what waits is heard before seconds that are late:
- * as many as a cable takes of which the system keeps all that it may. */
-enum { MOST_AT_ONCE = 64, MOST_TURNS_FIRST = 512 };
+ * as many as a cable takes of which the system keeps all that it may, but no longer than so many milliseconds. */
+enum { MOST_AT_ONCE = 64, MOST_TURNS_FIRST = 512, LONGEST_FIRST = 2000 };
 
 /* Milliseconds until it is looked again whether a narrow line has room for what waits. */
 enum { LOOKS_AGAIN = 20 };
@@ -70,7 +73,7 @@ uint32_t port_network(const gateway *it, uint8_t number)
 
 void gateway_put(network *on, const origin *by, const uint8_t *from, const uint8_t *node, const uint8_t *packet, size_t length)
 {
-    if (on->set->type == LINK_DOSBOX) {
+    if (has_tunnel(on->set)) {
         capture_packet(packet, length, from);
         tunnel_send(on, by, node, packet, length);
     } else {
@@ -99,6 +102,8 @@ void gateway_flush(gateway *it)
         outgoing_send(&it->networks[k]);
         ether_send_due(&it->networks[k]);
     }
+    sites_push();
+    peers_push_all(it);
     it->room_count = 0;
 }
 
@@ -107,6 +112,8 @@ void gateway_end_waiting(gateway *it)
     gateway_flush(it);
     for (size_t k = 0; k < it->count; k++)
         ether_send_waiting(&it->networks[k]);
+    sites_push();
+    peers_push_all(it);
 }
 
 uint8_t *gateway_room(gateway *it)
@@ -221,9 +228,11 @@ network *first_on(gateway *it, const cable *carrier)
 /* Hears what came on a cable, and sends what is to be sent for it. */
 static void hear_all(gateway *it, cable *carrier, arrivals *in)
 {
+    for (size_t k = 0; carrier->bare != NULL && k < carrier->bare->lost_count; k++)
+        gateway_lose(first_on(it, carrier), carrier->bare->lost[k]);
     for (size_t k = 0; k < in->count; k++) {
         arrival *next = &in->list[k];
-        if (carrier->set->type == LINK_DOSBOX)
+        if (has_tunnel(carrier->set))
             tunnel_hear(it, first_on(it, carrier), next->bytes, next->length, &next->from);
         else if (next->is_sent)
             ether_hear_sent(it, carrier, next->bytes, next->length);
@@ -251,13 +260,14 @@ static size_t receive_next(gateway *it, cable *carrier)
     return 0;
 }
 
-/* What came on a cable, as far as it is its turn. Returns whether there may be more. */
+/* What came on a cable, as far as it is its turn. Returns whether there may be more. (of pages a whole turn of frames is gone through at once,
+ * though the limits may let few of them through: those that went to other pages cost as much) */
 static bool receive(gateway *it, cable *carrier)
 {
     size_t heard = 0, next = 1;
-    while (next > 0 && heard < MOST_AT_ONCE && carrier->fd >= 0) {
+    while (next > 0 && heard < MOST_AT_ONCE && cable_is_open(carrier)) {
         next = receive_next(it, carrier);
-        heard += next;
+        heard += carrier->web != NULL && next > 0 ? MOST_AT_ONCE : next;
     }
     carrier->is_behind = heard >= MOST_AT_ONCE;
     return carrier->is_behind;
@@ -271,7 +281,7 @@ static void let_tunnels_pass(gateway *it, uint64_t passed)
     it->looked = passed;
     it->seconds++;
     for (size_t k = 0; k < it->count; k++)
-        if (it->networks[k].set->type == LINK_DOSBOX)
+        if (has_tunnel(it->networks[k].set))
             tunnel_second(&it->networks[k]);
     speakers_second();
     for (size_t k = 0; k < it->count; k++)
@@ -321,6 +331,9 @@ static void let_seconds_pass(gateway *it)
     let_router_pass(it, passed);
     statics_second(it);
     status_second(it);
+    status_page_second();
+    web_second(it);
+    peers_second(it);
 }
 
 /* Milliseconds to the next second, or until a client is to be pinged; none where something is there already. */
@@ -338,7 +351,7 @@ static int patience(const gateway *it)
         left = it->networks[k].again.count > 0 && left > LOOKS_AGAIN ? LOOKS_AGAIN : left;
         left = paced_patience(&it->networks[k].paced, left);
     }
-    return left;
+    return status_page_patience(left);
 }
 
 /* Pings those whose pings have waited. */
@@ -369,13 +382,20 @@ static bool hear(gateway *it, int milliseconds)
     size_t first[MOST_LINKS + 1] = {0};
     for (size_t k = 0; k < it->cable_count; k++)
         first[k + 1] = first[k] + cable_waits(&it->cables[k], list + first[k]);
-    size_t of_cables = first[it->cable_count], of_status = status_waits(list + of_cables);
-    bool is_known = watch_all(list, of_cables + of_status, milliseconds), is_more = !is_known;
+    watch *of_pages = list + first[it->cable_count], *of_status = of_pages + sites_wait(of_pages);
+    watch *of_page = of_status + status_waits(of_status), *end = of_page + status_page_waits(of_page);
+    bool is_known = watch_all(list, (size_t)(end - list), milliseconds), is_more = !is_known;
     limits_look_at_clock();
+    if (is_known)
+        sites_attend(of_pages, (size_t)(of_status - of_pages));
     for (size_t k = 0; is_known && k < it->cable_count; k++)
         is_more = attend(it, &it->cables[k], list + first[k], first[k + 1] - first[k]) || is_more;
-    if (is_known)
-        status_attend(it, list + of_cables, of_status);
+    web_turn(it);
+    peers_turn(it);
+    if (is_known) {
+        status_attend(it, of_status, (size_t)(of_page - of_status));
+        status_page_attend(it, of_page, (size_t)(end - of_page));
+    }
     return is_more;
 }
 
@@ -384,7 +404,8 @@ static bool hear(gateway *it, int milliseconds)
 void gateway_turn(gateway *it, bool waits)
 {
     (void)hear(it, waits ? patience(it) : 0);
-    for (int k = 0; seconds_due(it) > 1 && k < MOST_TURNS_FIRST && hear(it, 0); k++)
+    uint64_t until = clock_now() + LONGEST_FIRST;
+    for (int k = 0; seconds_due(it) > 1 && k < MOST_TURNS_FIRST && clock_now() < until && hear(it, 0); k++)
         ;
     let_seconds_pass(it);
     send_pings(it);

@@ -2,6 +2,7 @@
 #include <stdio.h>
 #include <string.h>
 
+#include "configuration/cards.h"
 #include "configuration/example.h"
 #include "configuration/reload.h"
 #include "configuration/settings.h"
@@ -11,7 +12,10 @@
 #include "monitoring/note.h"
 #include "monitoring/output.h"
 #include "monitoring/status.h"
+#include "monitoring/status_page.h"
 #include "monitoring/trial.h"
+#include "monitoring/web_address.h"
+#include "peers/key.h"
 #include "systems/local.h"
 #include "systems/orders.h"
 #include "systems/system.h"
@@ -21,9 +25,10 @@ enum { CANNOT_OPEN = 1, WRONG_CONFIGURATION = 2, WRONG_USE = 64 };
 
 /* What the command line says. */
 typedef struct {
-    bool is_check, is_help, is_version, is_log, is_example;
+    bool is_check, is_help, is_version, is_log, is_example, is_cards, is_key;
     const char *capture;
     const char *status;
+    const char *web; /* where the page of the status is */
     const char *configuration;
     unsigned trial; /* minutes, or 0 */
 } options;
@@ -43,7 +48,7 @@ static bool read_flag(options *it, const char *word)
         const char *word;
         bool *flag;
     } flags[] = {{"--check", &it->is_check}, {"--help", &it->is_help}, {"--version", &it->is_version}, {"--log", &it->is_log},
-                 {"--example", &it->is_example}};
+                 {"--example", &it->is_example}, {"--cards", &it->is_cards}};
     for (size_t k = 0; k < sizeof flags / sizeof *flags; k++)
         if (strcmp(word, flags[k].word) == 0) {
             *flags[k].flag = true;
@@ -52,10 +57,26 @@ static bool read_flag(options *it, const char *word)
     return false;
 }
 
-/* Where the name goes that stands behind a word; NULL where none does. */
-static const char **named_by(options *it, const char *word)
+/* Where the name goes that stands behind a word, and what it is; NULL where none does. */
+static const char **named_by(options *it, const char *word, const char **expected)
 {
-    return strcmp(word, "--pcap") == 0 ? &it->capture : strcmp(word, "--status") == 0 ? &it->status : NULL;
+    const struct {
+        const char *word, *expected, **name;
+    } names[] = {{"--pcap", "a file for the capture behind --pcap", &it->capture},
+                 {"--status", "the path of a socket behind --status", &it->status},
+                 {"--status-web", WEB_ADDRESS_WORDS, &it->web}};
+    for (size_t k = 0; k < sizeof names / sizeof *names; k++)
+        if (strcmp(word, names[k].word) == 0) {
+            *expected = names[k].expected;
+            return names[k].name;
+        }
+    return NULL;
+}
+
+static bool is_web_address(const char *words)
+{
+    address ignored;
+    return web_address_read(words, &ignored);
 }
 
 /* Reads the words of a trial. */
@@ -72,38 +93,58 @@ static bool read_trial(options *it, int count, char **words)
     return count < 5 || use_fault(words[4], "nothing more");
 }
 
+/* Whether something is printed that needs no configuration. */
+static bool is_shown_alone(const options *it)
+{
+    return it->is_help || it->is_version || it->is_example || it->is_cards || it->is_key;
+}
+
+/* Reads the words of a new key. */
+static bool read_key(options *it, int count, char **words)
+{
+    it->is_key = true;
+    return count < 3 || use_fault(words[2], "nothing more");
+}
+
 static bool read_options(options *it, int count, char **words)
 {
     if (count > 1 && strcmp(words[1], "try") == 0)
         return read_trial(it, count, words);
+    if (count > 1 && strcmp(words[1], "key") == 0)
+        return read_key(it, count, words);
     for (int k = 1; k < count; k++) {
-        const char **name = named_by(it, words[k]);
+        const char *expected, **name = named_by(it, words[k], &expected);
         if (name != NULL && k + 1 == count)
-            return use_fault(NULL, name == &it->capture ? "a file for the capture behind --pcap" : "the path of a socket behind --status");
+            return use_fault(NULL, expected);
         if (name != NULL)
             *name = words[++k];
         else if (read_flag(it, words[k]))
             continue;
         else if (words[k][0] == '-')
-            return use_fault(words[k], "--check, --log, --pcap, --status, --example, --version, --help or a configuration");
+            return use_fault(words[k], "--check, --log, --pcap, --status, --status-web, --example, --cards, --version, --help or a configuration");
         else if (it->configuration != NULL)
             return use_fault(words[k], "one configuration");
         else
             it->configuration = words[k];
     }
-    return it->is_help || it->is_version || it->is_example || it->configuration != NULL || use_fault(NULL, "a configuration");
+    if (it->web != NULL && !is_web_address(it->web))
+        return use_fault(it->web, WEB_ADDRESS_WORDS);
+    return is_shown_alone(it) || it->configuration != NULL || use_fault(NULL, "a configuration");
 }
 
 static void show_use(FILE *file)
 {
-    fprintf(file, "ipxr-gateway [--log] [--pcap FILE] [--status SOCKET] CONFIG   routes until it is told to stop\n"
+    fprintf(file, "ipxr-gateway [--log] [--pcap FILE] [--status SOCKET] [--status-web ADDRESS] CONFIG   routes until it is told to stop\n"
                   "ipxr-gateway try CONFIG [MINUTES]   does so beside other routers, for 10 minutes, and writes what they say\n"
                   "ipxr-gateway --check CONFIG   says what is wrong with a configuration\n"
                   "ipxr-gateway --example        prints one\n"
+                  "ipxr-gateway --cards          lists the Ethernet cards, and how a configuration names them\n"
+                  "ipxr-gateway key              prints a new key for a link by peers\n"
                   "ipxr-gateway --version        prints its version\n"
-                  "ipxr-gateway show [links | clients | stations | routes | services | edge | counts | events] [--json] [--status SOCKET]\n"
+                  "ipxr-gateway show [links | clients | stations | peers | routes | services | edge | counts | events] [--json] [--status SOCKET]\n"
                   "ipxr-gateway show counts --prometheus, ping NETWORK.NODE, trace NETWORK, reload   ask one that runs, by its SOCKET\n"
-                  "--log writes a line for each packet, --pcap captures them. The manual page is ipxr-gateway(8).\n");
+                  "--log writes a line for each packet, --pcap captures them; --status-web 127.0.0.1:8080 shows browsers who is there.\n"
+                  "The manual page is ipxr-gateway(8).\n");
 }
 
 /* Its release, which is the library's. */
@@ -129,6 +170,15 @@ static bool open_status(const char *path)
         complain("ipxr-gateway: %s: can't listen there: %s", path, fault_words());
     else
         return true;
+    return false;
+}
+
+/* Listens for browsers. */
+static bool open_page(const char *words)
+{
+    if (status_page_open(words))
+        return true;
+    complain("ipxr-gateway: --status-web %s: can't listen there: %s", words, fault_words());
     return false;
 }
 
@@ -159,6 +209,8 @@ static int route(const options *it, const settings *set)
         return CANNOT_OPEN;
     }
     if (it->status != NULL && !open_status(it->status))
+        return CANNOT_OPEN;
+    if (it->web != NULL && !open_page(it->web))
         return CANNOT_OPEN;
     if (it->trial > 0 && !trial_begin(it->trial)) {
         complain("ipxr-gateway: %s: can't be opened: %s", TRIAL_TEXT, fault_words());
@@ -206,6 +258,14 @@ static int written(void)
     return CANNOT_OPEN;
 }
 
+static int show_key(void)
+{
+    if (key_print(stdout))
+        return written();
+    fprintf(stderr, "ipxr-gateway: the system has no random numbers: %s\n", fault_words());
+    return CANNOT_OPEN;
+}
+
 int gateway_main(int count, char **words)
 {
     static settings set;
@@ -216,8 +276,10 @@ int gateway_main(int count, char **words)
         (count > 1 ? show_use : show_beginning)(stderr);
         return WRONG_USE;
     }
-    if (it.is_help || it.is_version || it.is_example) {
-        (it.is_help ? show_use : it.is_version ? show_version : example_show)(stdout);
+    if (it.is_key)
+        return show_key();
+    if (is_shown_alone(&it)) {
+        (it.is_help ? show_use : it.is_version ? show_version : it.is_example ? example_show : cards_show)(stdout);
         return written();
     }
     int fault = read_configuration(&set, it.configuration);

@@ -4,6 +4,7 @@
 
 #include "gateway.h"
 #include "ipx.h"
+#include "links/among.h"
 #include "links/links.h"
 #include "links/node.h"
 #include "links/segment.h"
@@ -11,10 +12,12 @@
 #include "monitoring/note.h"
 #include "monitoring/output.h"
 #include "monitoring/status.h"
+#include "monitoring/status_page.h"
 #include "systems/clock.h"
 #include "systems/system.h"
 #include "tunnel/nodes.h"
 #include "tunnel/tunnel.h"
+#include "web/turns.h"
 
 /* ---- Links ---- */
 
@@ -91,12 +94,12 @@ static void take_links(gateway *it)
             cable_hears(it->networks[k].cable, kinds_for_socket(it, &it->networks[k]));
 }
 
-/* Each link with frames has a queue of its own, as long as there are numbers: tunnels take none of these. */
+/* Each link with frames has a queue of its own. */
 static void number_links(gateway *it)
 {
     size_t count = 0;
     for (size_t k = 0; k < it->count; k++)
-        if (it->networks[k].set->type != LINK_DOSBOX)
+        if (!has_tunnel(it->networks[k].set))
             speaker_be_network(&it->networks[k].speaks, count++);
 }
 
@@ -147,7 +150,7 @@ static void tell_start(const gateway *it)
 void gateway_tell_nodes(const gateway *it)
 {
     for (size_t k = 0; k < it->count; k++)
-        if (it->networks[k].set->type == LINK_DOSBOX)
+        if (has_tunnel(it->networks[k].set))
             nodes_tell();
 }
 
@@ -157,7 +160,7 @@ static int32_t open_tunnels(gateway *it)
     int32_t made = 0;
     for (size_t k = 0; made >= 0 && k < it->count; k++) {
         network *on = &it->networks[k];
-        if (on->set->type == LINK_DOSBOX)
+        if (has_tunnel(on->set))
             made = tunnel_open(it, on);
         else
             throttle_set(&on->throttle, on->set);
@@ -185,6 +188,7 @@ bool gateway_start(gateway *it)
 {
     char words[WORDS];
     kinds_key(it->key);
+    among_key(it->key);
     int32_t made = make(it);
     if (made >= 0)
         made = open_tunnels(it);
@@ -246,6 +250,7 @@ void gateway_renew(gateway *it)
 void gateway_stop(gateway *it)
 {
     status_close();
+    status_page_close();
     ipxr_stop(&it->router);
     gateway_send_all(it);
     gateway_end_waiting(it);
@@ -259,4 +264,5 @@ void gateway_stop(gateway *it)
     }
     for (size_t k = 0; k < it->cable_count; k++)
         cable_close(&it->cables[k]);
+    web_turn(it);
 }

@@ -18,11 +18,12 @@
  *     if (ipxr_configuration_internal(&all, &own)) ...;
  *     for (k = 0; ipxr_configuration_link(&all, k, &link); k++) ...;
  *
- * A line that is wrong leaves networks and links as they were; of a wrong `extend`, `allow` or `trust` the words before the wrong one count.
+ * A line that is wrong leaves networks and links as they were; of a wrong `extend`, `allow`, `trust` or `origins` the words before the wrong
+ * one count.
  * Lines below a wrong network or link aren't looked at.
  *
- * WHAT C HAS TO PROMISE is what ipxr.h says. Flags that you give are 0 or 1. Everything else is answered: any bytes, any number, also in a
- * configuration. No call takes memory, and no value needs to be freed. */
+ * WHAT C HAS TO PROMISE is what ipxr.h says. Everything else is answered: any bytes, any number, also in a configuration. No call takes
+ * memory, and no value needs to be freed. */
 #ifndef IPXR_CONFIGURATION_H
 #define IPXR_CONFIGURATION_H
 
@@ -38,6 +39,8 @@ extern "C" {
 #define IPXR_ALL_LINKS 64    /* the most links of all networks together */
 #define IPXR_ALL_SOCKETS 16  /* the most sockets that a network extends */
 #define IPXR_ALL_RANGES 16   /* the most ranges of a list */
+#define IPXR_ALL_ORIGINS 16  /* the most origins of a link */
+#define IPXR_ALL_PEERS 32    /* the most other places of a network */
 #define IPXR_ALL_RULES 64    /* the most rules of a network, as many as a filter has */
 #define IPXR_ALL_STATIC_ROUTES 64   /* the most routes by way of nodes on a network, */
 #define IPXR_ALL_STATIC_SERVICES 64 /* and services */
@@ -46,8 +49,8 @@ extern "C" {
 
 #define IPXR_EXPECTED_BELOW_NETWORK 32           /* a network above */
 #define IPXR_EXPECTED_BELOW_LINK 33              /* a link above: there is none yet below the network's line */
-#define IPXR_EXPECTED_BELOW_TUNNEL 34            /* a network of DOSBox' above */
-#define IPXR_EXPECTED_BELOW_TUNNEL_LINK 35       /* a link of DOSBox' above */
+#define IPXR_EXPECTED_BELOW_TUNNEL 34            /* a network of DOSBox' above, or one of clients by WebSocket */
+#define IPXR_EXPECTED_BELOW_TUNNEL_LINK 35       /* a link of DOSBox' above, or one of clients by WebSocket */
 #define IPXR_EXPECTED_BELOW_SEVERAL 36           /* above, a network that names no link itself */
 #define IPXR_EXPECTED_FEWER_NETWORKS 37          /* at most IPXR_MOST_PORTS networks, with the router's own */
 #define IPXR_EXPECTED_FEWER_LINKS 38             /* at most IPXR_ALL_LINKS links */
@@ -63,11 +66,19 @@ extern "C" {
 #define IPXR_EXPECTED_SAME_KILOBITS 48           /* the kilobits numbers[0], as `line` says them */
 #define IPXR_EXPECTED_OTHER_SOCKET 49            /* a socket that isn't there already */
 #define IPXR_EXPECTED_FEWER_SOCKETS 50           /* at most IPXR_ALL_SOCKETS sockets */
-#define IPXR_EXPECTED_FEWER_RANGES 51            /* at most IPXR_ALL_RANGES ranges */
+#define IPXR_EXPECTED_FEWER_RANGES 51            /* at most IPXR_ALL_RANGES ranges, or IPXR_ALL_ORIGINS origins */
 #define IPXR_EXPECTED_FEWER_RULES 60             /* at most IPXR_ALL_RULES rules */
 #define IPXR_EXPECTED_FEWER_ROUTES 68            /* at most IPXR_ALL_STATIC_ROUTES routes (61 to 67 are in ipxr_settings.h) */
 #define IPXR_EXPECTED_FEWER_SERVICES 69          /* at most IPXR_ALL_STATIC_SERVICES services */
 #define IPXR_EXPECTED_OTHER_SERVICE 70           /* another name of a service: `line` has one of the type with this one */
+#define IPXR_EXPECTED_BELOW_WEB 77               /* below a link by WebSocket (71 to 76 are in ipxr_settings.h) */
+#define IPXR_EXPECTED_BELOW_PEERS 80             /* in a network with a link of peers or by RFC 1234 above (78 and 79 are in ipxr_settings.h) */
+#define IPXR_EXPECTED_OTHER_PEER 81              /* another place: `line` has this one */
+#define IPXR_EXPECTED_FEWER_PEERS 82             /* at most IPXR_ALL_PEERS other places */
+#define IPXR_EXPECTED_PEER_OF_FOUR 83            /* an address of IPv4, as the link's own is */
+#define IPXR_EXPECTED_PEER_OF_SIX 84             /* one of IPv6, alike */
+#define IPXR_EXPECTED_ONE_PEERS 85               /* another link: `line` has the network's link of peers */
+#define IPXR_EXPECTED_OWN_LINE 86                /* on the line of a network: the link is the only one of its network */
 
 /* ---- What is kept of a configuration. It is the library's to write; ipxr_configuration_link says what comes of it. ---- */
 
@@ -75,9 +86,10 @@ extern "C" {
 typedef struct ipxr_carrier {
     uint8_t number;           /* one of IPXR_OVER_.. */
     uint8_t frames;           /* one of IPXR_FRAME_.., or IPXR_NO_FRAME */
-    ipxr_setting_host local;  /* where datagrams and connections come in */
+    ipxr_setting_host local;  /* where datagrams and connections come in, or with port 0 the address of the card of a group */
     ipxr_setting_host remote; /* where they go, */
-    uint8_t host[254];        /* or the name of the host there, with zeros behind it, all of them where there is none */
+    uint8_t host[254];        /* or the name of the host there, or the path of a switch or of a key's file, with zeros behind it, all of them
+                               * where there is none */
     uint8_t name[16];         /* of a TAP or an interface, alike */
 } ipxr_carrier;
 
@@ -91,6 +103,29 @@ typedef struct ipxr_setting_ranges {
     ipxr_setting_range list[16];
     size_t count;
 } ipxr_setting_ranges;
+
+/* Origins of pages, alike. */
+typedef struct ipxr_origin {
+    uint8_t text[89];        /* with zeros behind it */
+} ipxr_origin;
+
+typedef struct ipxr_origins {
+    ipxr_origin list[16];
+    size_t count;
+} ipxr_origins;
+
+/* Another place of a network. */
+typedef struct ipxr_setting_peer {
+    size_t line;             /* the number of the line that says it */
+    ipxr_setting_host at;    /* where it is, */
+    uint8_t host[254];       /* or the name of the host there, with zeros behind it, all of them where there is none */
+} ipxr_setting_peer;
+
+/* Those of a network, in the order of their lines: no two are the same. */
+typedef struct ipxr_setting_peers {
+    ipxr_setting_peer list[32];
+    size_t count;
+} ipxr_setting_peers;
 
 /* Rules, in the order of their lines. */
 typedef struct ipxr_rules {
@@ -148,6 +183,7 @@ typedef struct ipxr_network_setting {
     ipxr_rules rules;
     ipxr_static_routes static_routes;
     ipxr_static_services static_services;
+    ipxr_setting_peers peers;
 } ipxr_network_setting;
 
 /* What a link's own line says, and those below it. */
@@ -162,6 +198,7 @@ typedef struct ipxr_link_setting {
     ipxr_setting_ranges allowed;
     ipxr_setting_ranges trusted;
     size_t nodes_line;       /* the number of the line that says that clients' nodes may be their addresses, or 0 */
+    ipxr_origins origins;
 } ipxr_link_setting;
 
 typedef struct ipxr_network_list {
@@ -197,7 +234,7 @@ typedef struct ipxr_line_wrong {
     size_t word;               /* the number of the word that is wrong, from 0, where the number of words is the line's end */
     size_t line;               /* of another line, or 0 */
     uint32_t numbers[2];
-    ipxr_flag is_below_tunnel; /* the line stands below a link of DOSBox' */
+    ipxr_flag is_below_tunnel; /* the line stands below a link of DOSBox', or by WebSocket without frames */
 } ipxr_line_wrong;
 
 /* A link, with all that lines say of it and of its network, and what holds where none says it. */
@@ -214,7 +251,7 @@ typedef struct ipxr_configured {
     ipxr_flag has_node;      /* the line says the gateway's node there */
     uint8_t node[6];
     ipxr_carrier carrier;
-    uint16_t clients;        /* the most clients of DOSBox', */
+    uint16_t clients;        /* the most clients, of DOSBox' or by WebSocket, */
     uint16_t of_address;     /* and of one address */
     uint32_t rate;           /* packets a second that a client receives, or a link with frames of clients, or 0 for any number */
     uint32_t share;          /* those of an address that says little */
@@ -224,18 +261,20 @@ typedef struct ipxr_configured {
     ipxr_sockets sockets;    /* whose broadcasts are extended */
     ipxr_setting_ranges allowed; /* who may be a client, or none where all may */
     ipxr_setting_ranges trusted; /* who may be one though he answers no ping */
+    ipxr_origins origins;        /* where pages may come from whose programs are clients by WebSocket, or none where no line says it */
     ipxr_flag nodes_by_address;  /* clients' nodes may be their addresses */
     ipxr_flag adopts;            /* what comes from the cable goes through ipxr_edge_enter */
     ipxr_rules rules;            /* of the network's filter */
     ipxr_static_routes static_routes;     /* by way of nodes on the network that say nothing themselves, */
     ipxr_static_services static_services; /* and services */
+    ipxr_setting_peers peers;             /* other places of the network, or none where no line says one */
 } ipxr_configured;
 
 /* ---- Calls ---- */
 
-/* Reads the next line, with its end or without; `line` is its number, from 1. `has_cards` is whether this system has TAPs and interfaces.
- * Tells what its words say, up to the first that is wrong, and what is wrong. Returns one of IPXR_EXPECTED_..; or 0, and then the line is
- * right, or isn't looked at, since what stands above it is wrong. */
+/* Reads the next line, with its end or without; `line` is its number, from 1. `has_cards` is one of IPXR_CARDS_.., and any other number is
+ * that of all. Tells what its words say, up to the first that is wrong, and what is wrong. Returns one of IPXR_EXPECTED_..; or 0, and then
+ * the line is right, or isn't looked at, since what stands above it is wrong. */
 IPXR_CALL uint8_t ipxr_configuration_line(ipxr_configuration *it, const uint8_t *text, size_t length, size_t line, uint8_t has_cards,
                                           ipxr_setting *said, ipxr_line_wrong *wrong);
 

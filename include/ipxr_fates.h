@@ -128,7 +128,10 @@ extern "C" {
 #define IPXR_LOST_TOO_MUCH_FOR_ROUTER   25 /* all else that the router would hear, of an address that said too much */
 #define IPXR_LOST_FROM_AFAR            26 /* what only neighbours may say to the router, which another router carried there */
 #define IPXR_LOST_DENIED               27 /* a rule of the network denies it */
-#define IPXR_NO_REASON                  28 /* how many there are; of a limit, that it refuses nothing */
+#define IPXR_LOST_NOT_SEALED           28 /* a datagram of a place that isn't sealed by the key of its network */
+#define IPXR_LOST_REPEATED             29 /* one that was heard before, or comes too late to tell */
+#define IPXR_LOST_OTHER_SESSION        30 /* one for another session than the gateway's own: recorded, or its sender doesn't know that one yet */
+#define IPXR_NO_REASON                  31 /* how many there are; of a limit, that it refuses nothing */
 
 /* Where a packet is on its way. With all bytes 0 it is at an end, where nothing is counted. */
 typedef struct ipxr_course {
@@ -150,7 +153,7 @@ IPXR_CALL void ipxr_course_answer(ipxr_course *course, uint16_t answer);
 
 typedef struct ipxr_counts {
     uint64_t in;           /* packets that came */
-    uint64_t lost[28];     /* packets, and all else, that are lost, by the reason */
+    uint64_t lost[31];     /* packets, and all else, that are lost, by the reason */
     uint64_t dropped[190]; /* packets that the router dropped, by its number */
 } ipxr_counts;
 

@@ -43,16 +43,29 @@ extern "C" {
 #define IPXR_SETTING_DENY 14     /* deny: the same */
 #define IPXR_SETTING_ROUTE 15    /* route: `route` */
 #define IPXR_SETTING_SERVICE 16  /* service: `service` */
+#define IPXR_SETTING_ORIGINS 17  /* origins: the other words are origins of pages */
+#define IPXR_SETTING_PEER 18     /* peer: of `link` where the other place is, `remote` and `host` */
 
 /* ---- What carries a link. These numbers have no words. ---- */
 
 #define IPXR_OVER_NONE 0      /* not all of it was read */
 #define IPXR_OVER_TUNNEL 1    /* dosbox */
-#define IPXR_OVER_UDP 2       /* qemu-udp */
+#define IPXR_OVER_UDP 2       /* qemu-udp, or udp */
 #define IPXR_OVER_LISTEN 3    /* qemu-tcp listen */
 #define IPXR_OVER_CONNECT 4   /* qemu-tcp connect */
 #define IPXR_OVER_TAP 5       /* tap */
 #define IPXR_OVER_INTERFACE 6 /* interface */
+#define IPXR_OVER_GROUP 7     /* qemu-mcast: `remote` is the group, and local.four the address of the card by which its frames come and go */
+#define IPXR_OVER_SWITCH 8    /* vde: `host` is the path of the switch */
+#define IPXR_OVER_WEB 9       /* web: clients by WebSocket, of DOSBox' datagrams where `frames` is IPXR_NO_FRAME, or else of frames */
+#define IPXR_OVER_PEERS 10    /* peers: other places, whose datagrams are sealed; `host` is the path of the file with the key */
+#define IPXR_OVER_RFC1234 11  /* rfc1234: other places by RFC 1234; `local` is the address of a card */
+
+/* ---- Which cards and switches a system has. These numbers have no words. ---- */
+
+#define IPXR_CARDS_NONE 0       /* none: the words tap, interface and vde begin no link there */
+#define IPXR_CARDS_ALL 1        /* TAPs, Ethernet interfaces and switches of VDE */
+#define IPXR_CARDS_INTERFACES 2 /* Ethernet interfaces alone */
 
 /* The kind of frames of a link that has any: the number behind IPXR_FRAME_SNAP. */
 #define IPXR_FRAME_ANY (IPXR_FRAME_KINDS + 1)
@@ -66,7 +79,7 @@ extern "C" {
 #define IPXR_EXPECTED_ROUTES 5           /* the most routes, 0 to 65535 */
 #define IPXR_EXPECTED_SERVICES 6         /* the most services, 0 to 65535 */
 #define IPXR_EXPECTED_LINK 7             /* one of the words that begin a link */
-#define IPXR_EXPECTED_LINK_OF_SYSTEM 8   /* one of them for a system without cards: this one is a card's */
+#define IPXR_EXPECTED_LINK_OF_SYSTEM 8   /* one of them that this system has: it has no such card or switch */
 #define IPXR_EXPECTED_ADDRESS 9          /* a numeric address with a port, or a port alone */
 #define IPXR_EXPECTED_ADDRESS_OF_FOUR 10 /* one of IPv4: this one is of IPv6 */
 #define IPXR_EXPECTED_REMOTE 11          /* an address or the name of a host, with a port that isn't 0 */
@@ -105,6 +118,15 @@ extern "C" {
 #define IPXR_EXPECTED_ONE_TYPE 65        /* the type of a service, 1 to FFFE */
 #define IPXR_EXPECTED_SERVICE_NAME 66    /* the name of a service: 1 to 47 printable characters of ASCII, without a * */
 #define IPXR_EXPECTED_SERVICE_ADDRESS 67 /* where a service is offered: network, node and socket, with a . between each two */
+#define IPXR_EXPECTED_GROUP 71           /* an address of IPv4 from 224.0.0.0 to 239.255.255.255 with a port that isn't 0 (68 to 70 are in
+                                          * ipxr_configuration.h) */
+#define IPXR_EXPECTED_VIA_OR_FRAMES 72   /* via, or a kind of frames */
+#define IPXR_EXPECTED_CARD 73            /* the address of a card: of IPv4, without a port, and not 0.0.0.0, a group's or 255.255.255.255 */
+#define IPXR_EXPECTED_SWITCH 74          /* the path of a switch, of 1 to 90 bytes, none of them 0 */
+#define IPXR_EXPECTED_FRAMES_OR_NOTHING 75 /* a kind of frames, or nothing more */
+#define IPXR_EXPECTED_ORIGIN 76          /* *, or http:// or https:// and 1 to 80 printable characters of ASCII without / */
+#define IPXR_EXPECTED_KEY_FILE 78        /* the path of a file with a key, of 1 to 253 bytes, none of them 0 (77 is in ipxr_configuration.h) */
+#define IPXR_EXPECTED_CARD_AND_PORT 79   /* one like IPXR_EXPECTED_CARD, with a port that isn't 0 */
 
 /* ---- Bytes that are enough for any words. These numbers have no words. ---- */
 
@@ -126,9 +148,10 @@ typedef struct ipxr_setting_link {
     uint8_t carrier;          /* one of IPXR_OVER_.. */
     uint8_t frames;           /* one of IPXR_FRAME_.., or IPXR_NO_FRAME */
     ipxr_flag has_word;       /* a word of it was read */
-    ipxr_setting_host local;  /* where datagrams and connections come in */
+    ipxr_setting_host local;  /* where datagrams and connections come in, or with port 0 the address of the card of a group */
     ipxr_setting_host remote; /* where they go, */
-    uint8_t host[254];        /* or the name of the host there, with zeros behind it, all of them where there is none */
+    uint8_t host[254];        /* or the name of the host there, or the path of a switch or of a key's file, with zeros behind it, all of them
+                               * where there is none */
     uint8_t name[16];         /* of a TAP or an interface, alike */
 } ipxr_setting_link;
 
@@ -165,7 +188,7 @@ typedef struct ipxr_setting {
     uint8_t kind;              /* one of IPXR_SETTING_.. */
     uint8_t bits;              /* see IPXR_EXPECTED_FIRST */
     ipxr_setting_network network;
-    ipxr_setting_link link;       /* of a network's line, or of a link's */
+    ipxr_setting_link link;       /* of a network's line, or of a link's; of a line `peer` its `remote` and `host` alone */
     uint32_t numbers[3];       /* what other lines say */
     ipxr_rule rule;            /* what a rule says, where all its words were read, and else all bytes 0, */
     ipxr_static_route route;   /* what a line `route` says, alike, */
@@ -180,9 +203,10 @@ typedef struct ipxr_setting_range {
 
 /* ---- Calls ---- */
 
-/* Reads a line, with its end or without. `has_cards` is whether this system has TAPs and interfaces; `is_below_tunnel`, whether the line
- * stands below that of a link of DOSBox, and `most_clients`, how many clients a network may have. Returns one of IPXR_EXPECTED_.., and
- * then the word with the number `said->read` is wrong, or the line's end; or 0, and then the whole line is right. */
+/* Reads a line, with its end or without. `has_cards` is one of IPXR_CARDS_.., and any other number is that of all; `is_below_tunnel` is
+ * whether the line stands below a link whose clients send datagrams, by `dosbox`, or by `web` without a kind of frames; and `most_clients`
+ * is how many clients a network may have. Returns one of IPXR_EXPECTED_.., and then the word with the number `said->read` is wrong, or the
+ * line's end; or 0, and then the whole line is right. */
 IPXR_CALL uint8_t ipxr_settings_line(const uint8_t *text, size_t length, uint8_t has_cards, uint8_t is_below_tunnel,
                                      uint16_t most_clients, ipxr_setting *said);
 

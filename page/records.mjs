@@ -5,7 +5,8 @@ const [IS_PACKET, BEHIND_KIND] = [11, 3];
 const UNREACHABLE = 16;
 const ASKED = 65535;
 const SHOWN = 3;
-export const SOCKETS = { "0451": "NCP", "0452": "SAP", "0453": "RIP", "0455": "NetBIOS", "0456": "diagnostics" };
+export const SOCKETS = { "0451": "NCP", "0452": "SAP", "0453": "RIP", "0455": "NetBIOS", "0456": "diagnostics",
+    "0457": "serialization" };
 // The kinds of frames, in words of the trade beside those of `ipxr`.
 export const FRAMES = { Raw: "802.3 raw", Llc: "802.2", EthernetII: "Ethernet II", Snap: "SNAP" };
 // (what is RIP or SAP, its socket says; else a packet of type 1 or 4 is what some program says)

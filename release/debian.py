@@ -48,6 +48,8 @@ fi
 """
 # Which packages are of use beside one: the documents are in ipxr, and it reads what the gateway captures.
 SUGGESTED = {"ipxr": "ipxr-gateway, libipxr-dev", "libipxr-dev": "ipxr", "ipxr-gateway": "ipxr"}
+# What one loads while it runs, if that is there; a program that is linked statically can't.
+RECOMMENDED = {"ipxr-gateway": "libsodium23"}
 
 # Of each package its section, what it is in a line and in a paragraph, and what else it depends on.
 ABOUT = {
@@ -96,11 +98,12 @@ def control(name, pieces, release, system):
     depends = ([f"libc6 (>= {libc})"] if libc else []) + ([more.format(version=release.version)] if more else [])
     asks = f"Depends: {', '.join(depends)}\n" if depends else ""
     kilobytes = sum(len(it.content) for it in pieces) // 1024 + 1
+    recommends = f"Recommends: {RECOMMENDED[name]}\n" if libc and name in RECOMMENDED else ""
     suggests = f"Suggests: {SUGGESTED[name]}\n" if name in SUGGESTED else ""
     same = "Multi-Arch: same\n" if name.startswith("lib") else ""
     return (
         f"Package: {name}\nVersion: {release.version}\nArchitecture: {system.debian}\nMaintainer: {release.author}\n"
-        f"Installed-Size: {kilobytes}\n{asks}{suggests}Section: {section}\nPriority: optional\n{same}"
+        f"Installed-Size: {kilobytes}\n{asks}{recommends}{suggests}Section: {section}\nPriority: optional\n{same}"
         f"Description: {line}\n {paragraph}\n"
     )
 

@@ -61,7 +61,7 @@ static cable *move_cable(gateway *it, const cable *was, const network_setting *s
     if (*moved == NULL) {
         *moved = &it->cables[it->cable_count++];
         **moved = *was;
-        (*moved)->set = set;
+        cable_follow(*moved, set);
     }
     return *moved;
 }
@@ -240,7 +240,7 @@ static void remove_networks(gateway *it, changed *what)
         network *on = &it->networks[k];
         if (next.fates[k].becomes != IPXR_NO_ONE)
             continue;
-        if (on->set->type == LINK_DOSBOX)
+        if (has_tunnel(on->set))
             tunnel_end(on);
         line_end(&on->speaks.line);
         tell_removed(on);

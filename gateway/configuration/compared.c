@@ -35,11 +35,29 @@ static bool same_ranges(const ranges *a, const ranges *b)
     return k == a->count && k == b->count;
 }
 
-/* Whether the same may be clients, within the same limits. (a link with frames has only a rate and a share) */
+/* Whether pages of the same origins are let in. */
+static bool same_origins(const network_setting *a, const network_setting *b)
+{
+    return a->origin_count == b->origin_count && memcmp(a->origins, b->origins, a->origin_count * sizeof *a->origins) == 0;
+}
+
+/* Whether a link is with the same other places, in the same order. (another line may say the same) */
+static bool same_peers(const network_setting *a, const network_setting *b)
+{
+    size_t k = 0;
+    while (k < a->peer_count && k < b->peer_count && same_address(&a->peers[k].at, &b->peers[k].at) && strcmp(a->peers[k].host, b->peers[k].host) == 0)
+        k++;
+    return k == a->peer_count && k == b->peer_count;
+}
+
+/* Whether the same may be clients, within the same limits. (a link with frames has only a rate and a share, and pages that its
+ * clients come from, or other places) */
 static bool has_same_clients(const network_setting *a, const network_setting *b)
 {
-    if (a->type != LINK_DOSBOX || b->type != LINK_DOSBOX)
-        return a->type != LINK_DOSBOX && b->type != LINK_DOSBOX && a->rate == b->rate && a->share == b->share;
+    if (has_tunnel(a) != has_tunnel(b) || !same_origins(a, b) || !same_peers(a, b))
+        return false;
+    if (!has_tunnel(a))
+        return a->rate == b->rate && a->share == b->share;
     return a->clients == b->clients && a->per_address == b->per_address && a->rate == b->rate && a->share == b->share &&
            a->household == b->household && a->kilobits == b->kilobits && a->strangers == b->strangers &&
            a->nodes_by_address == b->nodes_by_address && same_ranges(&a->allowed, &b->allowed) && same_ranges(&a->trusted, &b->trusted);
@@ -100,7 +118,7 @@ static uint32_t number_of(const both *all, size_t place, bool (*is_same)(const n
 
 static uint8_t carrier_of(const network_setting *set)
 {
-    if (set->type == LINK_DOSBOX)
+    if (has_tunnel(set))
         return IPXR_CARRIER_TUNNEL;
     if (set->type == LINK_INTERFACE)
         return IPXR_CARRIER_CARD;
@@ -114,7 +132,7 @@ static ipxr_plan_link link_at(const both *all, size_t place)
     return (ipxr_plan_link){
         .network = set->network,
         .carrier = carrier_of(set),
-        .udp_port = set->type == LINK_DOSBOX ? set->local.port : 0,
+        .udp_port = set->type == LINK_DOSBOX ? set->local.port : 0, /* (by WebSocket clients don't outlast their connections) */
         .number = number_of(all, place, has_same_carrier),
         .frames = set->kind,
         .port = number_of(all, place, has_same_port),
@@ -162,7 +180,7 @@ static void compare_old(compared *it, const gateway *gate, const both *all)
         ipxr_plan_link *link = &it->old[k];
         *link = link_at(all, k);
         link->is_first = begins_network(all, 0, k);
-        if (link->carrier == IPXR_CARRIER_TUNNEL)
+        if (all->list[k]->type == LINK_DOSBOX)
             link->udp_port = old_port(gate, all, k);
         memcpy(link->node, gate->networks[k].node, NODE);
         link->has_node = true;

@@ -8,7 +8,7 @@
 
 /* What is told of each fault in which nothing else is. */
 static const char *const TOLD[] = {
-    [IPXR_EXPECTED_LINE] = "expected network, link, extend, clients, allow, trust, rate, strangers, line, nodes, internal, adopt, permit, deny, route or service",
+    [IPXR_EXPECTED_LINE] = "expected network, link, extend, clients, allow, trust, rate, strangers, line, nodes, internal, adopt, permit, deny, route, service, origins or peer",
     [IPXR_EXPECTED_NETWORK] = "expected the number of a network in hexadecimal digits, 1 to FFFFFFFD",
     [IPXR_EXPECTED_COST] = "expected the cost in ticks, 1 to 65535",
     [IPXR_EXPECTED_ROUTES] = "expected the most routes, 0 to 65535",
@@ -40,18 +40,42 @@ static const char *const TOLD[] = {
     [IPXR_EXPECTED_VIA] = "expected via",
     [IPXR_EXPECTED_ONE_TYPE] = "expected the type of a service in hexadecimal digits, 1 to FFFE",
     [IPXR_EXPECTED_SERVICE_NAME] = "expected the name of a service, of at most 47 printable characters, without *",
+    [IPXR_EXPECTED_GROUP] = "expected the address and port of a group, such as 230.0.0.1:1234",
+    [IPXR_EXPECTED_VIA_OR_FRAMES] = "expected via and the address of a card, or the kind of frames: " KIND_WORDS,
+    [IPXR_EXPECTED_CARD] = "expected the numeric address of a card of this machine, such as 192.168.1.2",
+    [IPXR_EXPECTED_SWITCH] = "expected the path of a switch's folder or socket, of at most 90 bytes",
+    [IPXR_EXPECTED_FRAMES_OR_NOTHING] = "expected nothing more, or the kind of frames: " KIND_WORDS,
+    [IPXR_EXPECTED_ORIGIN] = "expected where pages come from, such as https://games.example, or * for all of them",
+    [IPXR_EXPECTED_KEY_FILE] = "expected the path of the file with the key, of at most 253 bytes",
+    [IPXR_EXPECTED_CARD_AND_PORT] = "expected the numeric address of a card of this machine and a port, such as 192.168.1.2:213",
     [IPXR_EXPECTED_SERVICE_ADDRESS] = "expected network, node and socket, such as A1.000000000001.451",
     [IPXR_EXPECTED_BELOW_NETWORK] = "expected below the line of a network",
     [IPXR_EXPECTED_BELOW_LINK] = "expected below the line of a link",
-    [IPXR_EXPECTED_BELOW_TUNNEL] = "expected below the line of a network of dosbox",
-    [IPXR_EXPECTED_BELOW_TUNNEL_LINK] = "expected below the line of a link of dosbox",
+    [IPXR_EXPECTED_BELOW_TUNNEL] = "expected below the line of a network of dosbox, or of web without a kind of frames",
+    [IPXR_EXPECTED_BELOW_TUNNEL_LINK] = "expected below the line of a link of dosbox, or of web without a kind of frames",
+    [IPXR_EXPECTED_BELOW_WEB] = "expected below the line of a network or a link of web",
+    [IPXR_EXPECTED_BELOW_PEERS] = "expected below the line of a network or a link of peers, or of rfc1234",
+    [IPXR_EXPECTED_PEER_OF_FOUR] = "expected an address of IPv4, like the gateway's own on this link",
+    [IPXR_EXPECTED_PEER_OF_SIX] = "expected an address of IPv6, like the gateway's own on this link",
+    [IPXR_EXPECTED_OWN_LINE] = "expected on the line of a network, of which it is the only link",
     [IPXR_EXPECTED_BELOW_SEVERAL] = "expected below the line of a network that names no link itself",
     [IPXR_EXPECTED_OTHER_SOCKET] = "expected another socket: this one is there already",
 };
 
+#define LINK_WORDS "dosbox, web, peers, rfc1234, qemu-udp, udp, qemu-tcp"
+
+/* The words of links that a system has, by its cards; and what of cards and switches it has. */
+static const struct {
+    const char *links, *cards;
+} CHOICES[] = {
+    [IPXR_CARDS_NONE] = {LINK_WORDS " or qemu-mcast", "this system has no TAPs, interfaces or switches of VDE"},
+    [IPXR_CARDS_ALL] = {LINK_WORDS ", qemu-mcast, tap, interface or vde", "this system has TAPs, interfaces and switches of VDE"},
+    [IPXR_CARDS_INTERFACES] = {LINK_WORDS ", qemu-mcast or interface", "this system has interfaces, but no TAPs and no switches of VDE"},
+};
+
 static const char *link_choices(void)
 {
-    return has_cards() ? "dosbox, qemu-udp, qemu-tcp, tap or interface" : "dosbox, qemu-udp or qemu-tcp";
+    return CHOICES[has_cards()].links;
 }
 
 /* Who receives what a rate limits: clients of DOSBox, or a link with frames. */
@@ -80,7 +104,7 @@ static bool tell_line(reader *r, const char *word)
     case IPXR_EXPECTED_LINK:
         return !reader_fault(r, word, "expected %s", link_choices());
     case IPXR_EXPECTED_LINK_OF_SYSTEM:
-        return !reader_fault(r, word, "expected %s: only Linux has TAPs and interfaces", link_choices());
+        return !reader_fault(r, word, "expected %s: %s", link_choices(), CHOICES[has_cards()].cards);
     case IPXR_EXPECTED_TAP:
         return !fault_of_name(r, word, "a TAP");
     case IPXR_EXPECTED_INTERFACE:
@@ -126,6 +150,8 @@ static bool tell_too_much(reader *r, const char *word)
         return !reader_fault(r, word, "expected at most %d routes of a network", IPXR_ALL_STATIC_ROUTES);
     case IPXR_EXPECTED_FEWER_SERVICES:
         return !reader_fault(r, word, "expected at most %d services of a network", IPXR_ALL_STATIC_SERVICES);
+    case IPXR_EXPECTED_FEWER_PEERS:
+        return !reader_fault(r, word, "expected at most %d of them in a network", IPXR_ALL_PEERS);
     default:
         return false;
     }
@@ -140,6 +166,8 @@ static bool tell_other_line(reader *r, const char *word)
         return !reader_fault(r, word, "expected another network, this one is that of line %zu", line);
     case IPXR_EXPECTED_OTHER_SERVICE:
         return !reader_fault(r, word, "expected another name, line %zu says a service of this type that has it", line);
+    case IPXR_EXPECTED_OTHER_PEER:
+        return !reader_fault(r, word, "expected another place, line %zu has this one", line);
     case IPXR_EXPECTED_ONCE:
         return !reader_fault(r, word, "expected only once: line %zu has it", line);
     case IPXR_EXPECTED_SAME_KILOBITS:
@@ -149,12 +177,18 @@ static bool tell_other_line(reader *r, const char *word)
     }
 }
 
+/* The address that a link would take: of a group that is the group's own. */
+static address address_taken(const ipxr_setting_link *it)
+{
+    return address_said(it->carrier == IPXR_OVER_GROUP ? &it->remote : &it->local);
+}
+
 /* The same of what is wrong with a link whose words are right: that, and not the word, is shown. */
 static bool tell_link(reader *r)
 {
     char words[ADDRESS_ROOM], longest[12];
     const char *kind = kind_word(r->said.link.frames);
-    address local = address_said(&r->said.link.local), remote = address_said(&r->said.link.remote);
+    address taken = address_taken(&r->said.link), remote = address_said(&r->said.link.remote);
     size_t line = r->wrong.line;
     switch (r->expected) {
     case IPXR_EXPECTED_OTHER_LINK:
@@ -164,7 +198,9 @@ static bool tell_link(reader *r)
     case IPXR_EXPECTED_OTHER_KIND:
         return !reader_fault(r, kind, "expected another kind of frames, line %zu has these there", line);
     case IPXR_EXPECTED_OTHER_PORT:
-        return !reader_fault(r, address_words(&local, words), "expected another port, line %zu has this one", line);
+        return !reader_fault(r, address_words(&taken, words), "expected another port, line %zu has this one", line);
+    case IPXR_EXPECTED_ONE_PEERS:
+        return !reader_fault(r, "peers", "expected another link, line %zu has that of the network's peers", line);
     case IPXR_EXPECTED_OTHER_MACHINE:
         return !reader_fault(r, address_words(&remote, words), "expected QEMU's address, this is the gateway's own");
     case IPXR_EXPECTED_LONGEST_OF_LINK:

@@ -14,8 +14,7 @@
 /* Seconds for which a registration is remembered; and how many are left when its answer goes out again. */
 enum { REMEMBERED = 9, ANSWERED_AT = 8 };
 
-/* The new tunnel hears a packet without data from somebody, who names a node and says it to another. */
-static void hear(network *on, const ipxr_keyed_sender *sender, const uint8_t node[NODE], const uint8_t to_node[NODE])
+void readmit(network *on, const ipxr_keyed_sender *sender, const uint8_t node[NODE], const uint8_t to_node[NODE])
 {
     uint8_t packet[HEADER];
     ipxr_address from = {.socket = TUNNEL_SOCKET}, to = {.socket = TUNNEL_SOCKET};
@@ -34,7 +33,7 @@ static bool is_let_in(const gateway *it, network *on, const known_client *client
         return false;
     ipxr_keyed_sender sender = tunnel_sender(it, on, &client->at);
     memcpy(sender.former, client->node, NODE);
-    hear(on, &sender, client->node, sender.current);
+    readmit(on, &sender, client->node, sender.current);
     return ipxr_keyed_clients(&on->tunnel) > before;
 }
 
@@ -62,7 +61,7 @@ static void keep_waiters_with(const gateway *it, network *on, network *old, uint
         address from = address_of(waiter.place);
         ipxr_keyed_sender sender = tunnel_sender(it, on, &from);
         if (waiter.seconds_left == left && stays_remembered(on, old, &from, &waiter))
-            hear(on, &sender, NOBODY, NOBODY);
+            readmit(on, &sender, NOBODY, NOBODY);
     }
 }
 

@@ -9,6 +9,9 @@
  * remembered, too. (none of this takes memory) */
 void tunnel_again(const gateway *it, network *on, const network *made);
 
+/* The new tunnel of a network hears a packet without data from somebody, who names a node and says it to another. */
+void readmit(network *on, const ipxr_keyed_sender *sender, const uint8_t node[6], const uint8_t to_node[6]);
+
 /* All clients leave, and the tunnel ends. */
 void tunnel_end(network *on);
 

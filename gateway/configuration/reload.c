@@ -40,7 +40,7 @@ static size_t read_anew(settings *set, char **faults)
     if (file != NULL)
         fclose(file);
     if (complaints != NULL)
-        fclose(complaints);
+        text_close(complaints, faults, &length);
     return count;
 }
 

@@ -17,7 +17,8 @@ static const char KINDS[][KIND_ROOM] = {"", "ethernet2", "raw", "llc", "snap", "
 typedef char has_word_for_each_kind[sizeof KINDS / sizeof *KINDS == ANY_KIND + 1 ? 1 : -1];
 typedef char has_room_for_all[IPXR_ALL_LINKS <= MOST_LINKS && IPXR_ALL_SOCKETS <= MOST_SOCKETS && IPXR_ALL_RANGES <= MOST_RANGES &&
                               IPXR_ALL_RULES <= MOST_RULES && IPXR_ALL_STATIC_ROUTES <= MOST_STATICS &&
-                              IPXR_ALL_STATIC_SERVICES <= MOST_STATICS ? 1 : -1];
+                              IPXR_ALL_STATIC_SERVICES <= MOST_STATICS && IPXR_ALL_ORIGINS <= MOST_ORIGINS &&
+                              sizeof(ipxr_origin) == ORIGIN_ROOM && IPXR_ALL_PEERS <= MOST_PEERS ? 1 : -1];
 
 const char *kind_word(uint8_t kind)
 {
@@ -30,6 +31,8 @@ const char *kind_word(uint8_t kind)
 static const link_type CARRIERS[] = {
     [IPXR_OVER_UDP] = LINK_QEMU_UDP, [IPXR_OVER_LISTEN] = LINK_QEMU_LISTEN, [IPXR_OVER_CONNECT] = LINK_QEMU_CONNECT,
     [IPXR_OVER_TAP] = LINK_TAP, [IPXR_OVER_INTERFACE] = LINK_INTERFACE, [IPXR_OVER_TUNNEL] = LINK_DOSBOX,
+    [IPXR_OVER_GROUP] = LINK_QEMU_MCAST, [IPXR_OVER_SWITCH] = LINK_VDE, [IPXR_OVER_WEB] = LINK_WEB, [IPXR_OVER_PEERS] = LINK_PEERS,
+    [IPXR_OVER_RFC1234] = LINK_RFC1234,
 };
 
 address address_said(const ipxr_setting_host *said)
@@ -44,7 +47,7 @@ address address_said(const ipxr_setting_host *said)
 static void take_carrier(network_setting *it, const ipxr_carrier *said)
 {
     it->type = CARRIERS[said->number];
-    it->kind = said->frames;
+    it->kind = said->number == IPXR_OVER_RFC1234 ? IPXR_FRAME_ETHERNET2 : said->frames; /* (whose packets are framed here) */
     it->local = address_said(&said->local);
     it->remote = address_said(&said->remote);
     memcpy(it->host, said->host, sizeof it->host);
@@ -56,6 +59,28 @@ static void take_ranges(ranges *into, const ipxr_setting_ranges *said)
     for (into->count = 0; into->count < said->count; into->count++) {
         memcpy(into->list[into->count].host, said->list[into->count].first, sizeof said->list->first);
         into->list[into->count].bits = said->list[into->count].bits;
+    }
+}
+
+static void take_origins(network_setting *it, const ipxr_origins *said)
+{
+    it->origin_count = said->count;
+    memcpy(it->origins, said->list, said->count * sizeof *it->origins);
+}
+
+/* Whether a link is with the other places that its network's lines say. */
+static bool is_with_peers(const network_setting *it)
+{
+    return it->type == LINK_PEERS || it->type == LINK_RFC1234;
+}
+
+static void take_peers(network_setting *it, const ipxr_setting_peers *said)
+{
+    it->peer_count = is_with_peers(it) ? said->count : 0;
+    for (size_t k = 0; k < it->peer_count; k++) {
+        it->peers[k].line = said->list[k].line;
+        it->peers[k].at = address_said(&said->list[k].at);
+        memcpy(it->peers[k].host, said->list[k].host, sizeof it->peers[k].host);
     }
 }
 
@@ -95,6 +120,8 @@ static void take_link(network_setting *it, const ipxr_configured *said)
     it->kilobits = said->kilobits;
     take_ranges(&it->allowed, &said->allowed);
     take_ranges(&it->trusted, &said->trusted);
+    take_origins(it, &said->origins);
+    take_peers(it, &said->peers);
     it->nodes_by_address = said->nodes_by_address;
 }
 
@@ -123,11 +150,18 @@ const internal_setting *internal_of(const settings *set)
     return set->has_internal ? &set->internal : NULL;
 }
 
+/* Whether each link that says the same is on the same: with port 0 each has a port of its own, and so have pages and peers, which are each network's
+ * own. */
+static bool is_fixed(const network_setting *it)
+{
+    return (it->local.port != 0 && it->type != LINK_WEB && it->type != LINK_PEERS) || it->type == LINK_QEMU_CONNECT || it->type == LINK_QEMU_MCAST || it->type == LINK_VDE ||
+           it->name[0] != '\0';
+}
+
 bool same_link(const network_setting *a, const network_setting *b)
 {
     return a->type == b->type && strcmp(a->name, b->name) == 0 && strcmp(a->host, b->host) == 0 &&
-           same_address(&a->remote, &b->remote) && same_address(&a->local, &b->local) &&
-           (a->local.port != 0 || a->type == LINK_QEMU_CONNECT || a->name[0] != '\0');
+           same_address(&a->remote, &b->remote) && same_address(&a->local, &b->local) && is_fixed(a);
 }
 
 /* ---- Lines ---- */
@@ -188,6 +222,8 @@ size_t settings_read(settings *it, FILE *file, const char *name, FILE *complaint
 static const uint8_t OVER[] = {
     [LINK_DOSBOX] = IPXR_OVER_TUNNEL, [LINK_QEMU_UDP] = IPXR_OVER_UDP, [LINK_QEMU_LISTEN] = IPXR_OVER_LISTEN,
     [LINK_QEMU_CONNECT] = IPXR_OVER_CONNECT, [LINK_TAP] = IPXR_OVER_TAP, [LINK_INTERFACE] = IPXR_OVER_INTERFACE,
+    [LINK_QEMU_MCAST] = IPXR_OVER_GROUP, [LINK_VDE] = IPXR_OVER_SWITCH, [LINK_WEB] = IPXR_OVER_WEB, [LINK_PEERS] = IPXR_OVER_PEERS,
+    [LINK_RFC1234] = IPXR_OVER_RFC1234,
 };
 
 const char *link_words(const network_setting *it, char words[LINK_ROOM])

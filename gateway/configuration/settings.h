@@ -20,8 +20,11 @@
 enum {
     MOST_RATE = 1000000, /* that a line may say */
     MOST_KILOBITS = 10000000, /* alike: ten gigabits */
+    MOST_ORIGINS = 16, /* that lines below a link may name */
+    ORIGIN_ROOM = 89,  /* bytes of an origin, with the 0 behind */
     MOST_SOCKETS = 16, /* that a network's `extend` may name */
     MOST_RULES = 64,   /* that lines below a network may say */
+    MOST_PEERS = 32,   /* other places that lines below a network may name */
     MOST_STATICS = 64, /* routes by way of nodes on a network that lines below it may say, and services */
     SHORTEST_LONGEST = 576, /* bytes that the longest packet of a network has at least */
     NAME_ROOM = 16,    /* bytes of the name of a TAP or an interface, with the 0 behind */
@@ -36,7 +39,22 @@ typedef enum {
     LINK_QEMU_CONNECT, /* the same on a connection that goes out */
     LINK_TAP,         /* frames of a TAP */
     LINK_INTERFACE,   /* frames of an Ethernet interface */
+    LINK_QEMU_MCAST,  /* a frame a datagram, to and from a group */
+    LINK_VDE,         /* frames of a port of a switch of VDE */
+    LINK_WEB,         /* messages of WebSockets: datagrams of the tunnel where it has no kind of frames, or else frames */
+    LINK_PEERS,       /* a frame a datagram, sealed by a key, from and to other places */
+    LINK_RFC1234,     /* a packet a datagram, as RFC 1234 has it */
 } link_type;
+
+/* Where pages come from, as a browser names it: a scheme and a host, perhaps with a port; or * for all. */
+typedef char page_origin[ORIGIN_ROOM];
+
+/* Another place of a network: where it is, or the name of the machine there, whose port that has; without one it is empty. */
+typedef struct peer_setting {
+    size_t line; /* the number of its line, for messages */
+    address at;
+    char host[HOST_ROOM];
+} peer_setting;
 
 /* A network on a link, as its line says it. Where links stand in lines below it, each of them is one, with what its network's line says. */
 typedef struct network_setting {
@@ -48,9 +66,10 @@ typedef struct network_setting {
     uint16_t longest;          /* bytes of the longest packet */
     uint16_t routes, services; /* shares of the tables, or IPXR_NO_LIMIT */
     link_type type;
-    address local;             /* where datagrams and connections come in */
+    address local;             /* where datagrams and connections come in; of a group the address of the card, with port 0 */
     address remote;            /* where they go; */
-    char host[HOST_ROOM];      /* or the name of the machine there, whose port that has; without one it is empty */
+    char host[HOST_ROOM];      /* or the name of the machine there, whose port that has, or the path of a switch or of a key's file; without one
+                                * it is empty */
     char name[NAME_ROOM];      /* of a TAP or an interface */
     uint8_t kind;              /* of its frames; ANY_KIND where any may come; IPXR_NO_FRAME in the tunnel */
     bool has_node;             /* whether the line says the gateway's node there */
@@ -74,7 +93,17 @@ typedef struct network_setting {
     ranges allowed;            /* who may be a client; none where all may */
     ranges trusted;            /* who may be one though he answers no ping */
     bool nodes_by_address;     /* whether a client's node may be its address and port */
+    page_origin origins[MOST_ORIGINS]; /* of pages that are let in beside those of the same host; * is all */
+    size_t origin_count;
+    peer_setting peers[MOST_PEERS]; /* other places, of a link of peers or by RFC 1234 */
+    size_t peer_count;
 } network_setting;
+
+/* Whether the other end of a link is a name. */
+static inline bool has_name(const network_setting *it)
+{
+    return it->type != LINK_VDE && it->type != LINK_PEERS && it->host[0] != '\0';
+}
 
 /* The router's own network, which no cable carries. */
 typedef struct internal_setting {
@@ -92,6 +121,12 @@ typedef struct settings {
     internal_setting internal;
 } settings;
 
+/* Whether a link is DOSBox' tunnel, by whatever carries it: then it has clients. */
+static inline bool has_tunnel(const network_setting *set)
+{
+    return set->type == LINK_DOSBOX || (set->type == LINK_WEB && set->kind == IPXR_NO_FRAME);
+}
+
 /* The router's own network, or NULL where there is none. */
 const internal_setting *internal_of(const settings *set);
 
@@ -99,7 +134,7 @@ const internal_setting *internal_of(const settings *set);
  * was expected. `name` is the file's, for the messages. */
 size_t settings_read(settings *it, FILE *file, const char *name, FILE *complaints);
 
-/* Whether two networks are on one link, which is opened once for both. */
+/* Whether two networks are on one link, which is opened once for both. (clients by WebSocket are each network's own, at whatever address) */
 bool same_link(const network_setting *a, const network_setting *b);
 
 enum { LINK_ROOM = IPXR_LONGEST_LINK + 1 /* bytes of a link in words, with the 0 behind */ };

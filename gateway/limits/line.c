@@ -18,8 +18,8 @@ static ipxr_line line;
 /* Whether it was wider before it was set last, or there was none. */
 static bool is_narrower;
 
-/* What the router uses of it. */
-static line_use router;
+/* What the router uses of it: by what it says to all, which others make it say, and by what it says to one, so its answers. */
+static line_use router_to_all, router_to_one;
 
 /* The packet whose copies are sent: the number of who says it, what he uses, and its bytes; and the rank of the copy that found room. */
 static struct {
@@ -95,21 +95,27 @@ void line_end(line_use *it)
 
 void line_router_second(void)
 {
-    line_second(&router);
+    line_second(&router_to_all);
+    line_second(&router_to_one);
 }
 
 void line_router_end(void)
 {
-    line_end(&router);
+    line_end(&router_to_all);
+    line_end(&router_to_one);
 }
 
 void line_begin(line_use *from, size_t length)
 {
-    line_use *speaks = from != NULL ? from : &router;
-    copies.number = ipxr_line_speak(&line, &speaks->at);
-    copies.said = &speaks->said;
+    copies.number = ipxr_line_speak(&line, &from->at);
+    copies.said = &from->said;
     copies.length = length;
     copies.is_of_pings = false;
+}
+
+void line_begin_router(bool is_to_all, size_t length)
+{
+    line_begin(is_to_all ? &router_to_all : &router_to_one, length);
 }
 
 void line_begin_ping(size_t length)

@@ -12,7 +12,7 @@
 #include "limits/strangers.h"
 #include "siphash.h"
 
-/* What an address uses of the line, or a network of another kind, or the router. */
+/* What an address uses of the line, or a link with frames, or the router. */
 typedef struct line_use {
     ipxr_line_address at;
     uint64_t said;     /* the moment until which its part of what it says to all is used, */
@@ -29,15 +29,16 @@ bool line_is_narrower(void);
 void line_join(line_use *it);
 void line_leave(line_use *it);
 
-/* A second passes for an address, a network or the router: who was silent for long has no part any more. And one of them is gone. */
+/* A second passes for an address, a link or the router: who was silent for long has no part any more. And one of them is gone. */
 void line_second(line_use *it);
 void line_end(line_use *it);
 void line_router_second(void);
 void line_router_end(void);
 
-/* Copies of a packet of so many bytes are to go out: an address says it, which has clients there or on another network; or a network of
- * another kind; or the router itself, where that is NULL. If it belongs to pings, it goes out beyond all parts. */
+/* Copies of a packet of so many bytes are to go out: an address says it, which has clients there or on another network, or a link with frames;
+ * or the router itself, to all or to one, each of which has parts of its own. If it belongs to pings, it goes out beyond all parts. */
 void line_begin(line_use *from, size_t length);
+void line_begin_router(bool is_to_all, size_t length);
 void line_begin_ping(size_t length);
 
 /* Whether there is room for a copy to an address; and it is sent. */

@@ -42,7 +42,7 @@ speaker *speaker_join(const uint8_t host[4])
 
 void speaker_be_network(speaker *it, size_t number)
 {
-    it->queue = (uint8_t)(OF_NETWORKS + number % (OF_ADDRESSES - OF_NETWORKS));
+    it->queue = (uint8_t)(OF_NETWORKS + number);
 }
 
 uint8_t speaker_speaks(speaker *it)
@@ -100,6 +100,7 @@ static void forget(speaker *it)
     account_forget(&it->handed);
     account_forget(&it->advertised);
     memset(&it->used, 0, sizeof it->used);
+    memset(&it->answers, 0, sizeof it->answers);
 }
 
 void speaker_leave(speaker *it)

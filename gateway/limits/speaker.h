@@ -6,14 +6,15 @@
 #include <stddef.h>
 #include <stdint.h>
 
+#include "configuration/settings.h"
 #include "limits/account.h"
 #include "limits/line.h"
 #include "limits/meter.h"
 #include "limits/receiver.h"
 
-/* The numbers of the queues by which clients receive: what the router says itself, answers to pings, and what comes from networks of
- * another kind; all behind these are of addresses that speak. Where more speak than there are numbers, the library has some share one. */
-enum { OF_ROUTER, OF_PINGS, OF_NETWORKS, OF_ADDRESSES = 16 };
+/* The numbers of the queues by which clients receive: what the router says itself, answers to pings, and what comes from each link of another
+ * kind; all behind these are of addresses that speak. Where more speak than there are numbers, the library has some share one. */
+enum { OF_ROUTER, OF_PINGS, OF_NETWORKS, OF_ADDRESSES = OF_NETWORKS + MOST_LINKS };
 
 /* What all clients of an address receive on networks with one limit for that. */
 typedef struct household {
@@ -32,6 +33,7 @@ typedef struct speaker {
     household first;  /* what all its clients receive; of other limits in a list behind it */
     ipxr_address_use used; /* of the limits that are the same on all networks, */
     uint64_t used_clock;   /* when that was looked at last */
+    meter answers;      /* to pings of others */
     account handed;     /* to the router */
     account advertised; /* of these, what routers tell */
     line_use line;    /* what it uses of a line that is narrow */

@@ -2,6 +2,10 @@
 
 #include <string.h>
 
+/* Pings to all of a network, a second, and how many seconds' worth come at once. Each client answers each; of a link with frames it isn't known
+ * how many are there, and of an address no more count. */
+enum { PINGS = 4, SECONDS_AT_ONCE = 2, MOST_WHO_ANSWER = 16 };
+
 /* What the library's decisions are called here, by their numbers. Of what a client said, or asked for, most count for it, too. */
 typedef struct decision {
     reason why;
@@ -36,7 +40,7 @@ static reason counted(member *client, uint8_t decided)
 
 void throttle_set(throttle *it, const network_setting *set)
 {
-    uint8_t link = set->type == LINK_DOSBOX ? IPXR_LIMITS_TUNNEL : IPXR_LIMITS_FRAMES;
+    uint8_t link = has_tunnel(set) ? IPXR_LIMITS_TUNNEL : IPXR_LIMITS_FRAMES;
     memset(it, 0, sizeof *it);
     it->is_off = !ipxr_limits_make(&it->limits, link, set->rate, set->share, set->routes, set->services);
     it->has_household = ipxr_household_make(&it->household, set->household);
@@ -72,6 +76,14 @@ reason throttle_lets_say(throttle *it, const origin *by)
 {
     member *from = by->client;
     return it->is_off ? REASONS : counted(from, ipxr_limits_says(&it->limits, by->kind, used_by(from), meter_now(&it->pinged)));
+}
+
+void throttle_note(origin *by)
+{
+    size_t clients = by->speaks->clients, answer = clients > 0 && clients < MOST_WHO_ANSWER ? clients : MOST_WHO_ANSWER;
+    bool is_answer = by->kind == IPXR_KIND_ANSWER;
+    uint64_t each = SECOND_NS / (PINGS * answer), at_once = (uint64_t)SECONDS_AT_ONCE * SECOND_NS;
+    by->is_beyond_pings = is_answer && ipxr_meter_lets(meter_now(&by->speaks->answers), at_once, each) == 0;
 }
 
 reason throttle_lets_in(throttle *it, uint8_t kind)
@@ -119,7 +131,7 @@ uint8_t throttle_queue(const origin *by)
 {
     if (by == NULL)
         return OF_ROUTER;
-    bool is_of_pings = by->kind == IPXR_KIND_PING || by->kind == IPXR_KIND_ANSWER;
+    bool is_of_pings = by->kind == IPXR_KIND_PING || (by->kind == IPXR_KIND_ANSWER && !by->is_beyond_pings);
     return is_of_pings ? OF_PINGS : speaker_speaks(by->speaks);
 }
 

@@ -1,7 +1,7 @@
 /* What clients of a tunnel receive and say within limits, so that who floods loses, and not who plays. A client receives so many packets a
  * second, no more than it can read, so that it hears pings and stays. Where more comes for it, each address that speaks to it has the
- * same part of that, however many clients it has, and what one doesn't use the others have. Answers to pings have one part together. A
- * link with frames receives what clients say in the same way, since a PC there may read no faster. What all clients of an address receive
+ * same part of that, however many clients it has, and what one doesn't use the others have. Answers to pings have one part together, as far
+ * as their speakers may be pinged. A link with frames receives what clients say in the same way, since a PC there may read no faster. What all clients of an address receive
  * has a limit too: else whoever has many that only listen would make each packet cost a copy for each of them.
  *
  * What passes the library decides (ipxr_limits.h, docs/LIMITS.md): here it is asked, with what has been used. All of this stands behind the
@@ -32,11 +32,14 @@ typedef struct origin {
     speaker *speaks;
     member *client; /* or NULL */
     uint8_t kind;
-    line_use *line; /* what it uses of a narrow line: all links of a network have that in common */
+    bool is_beyond_pings; /* it looks like an answer to a ping, and so much of that kind answers none */
 } origin;
 
 /* Sets the limits of a network, by its line and those below it. */
 void throttle_set(throttle *it, const network_setting *set);
+
+/* Somebody says a packet: what looks like answers to more pings than others may send him goes by his own queue. */
+void throttle_note(origin *by);
 
 /* Why a client's packet is dropped before anybody gets it; REASONS where it isn't. */
 reason throttle_lets_say(throttle *it, const origin *by);

@@ -4,9 +4,11 @@
 #include <string.h>
 
 #include "links/pc.h"
+#include "links/plugged.h"
 #include "systems/card.h"
 #include "systems/clock.h"
 #include "systems/fault.h"
+#include "systems/multicast.h"
 #include "systems/sockets.h"
 
 /* Milliseconds from one try to open something to the next. */
@@ -55,6 +57,53 @@ static const char *open_datagrams(cable *it)
     return "the address there is the gateway's own";
 }
 
+static void close_group(cable *it)
+{
+    int why = errno;
+    close_any(&it->fd);
+    close_any(&it->says);
+    errno = why;
+}
+
+/* Opens both ends of a group. (the card's number is known before: where another card has the address since, it is seen) */
+static const char *open_group(cable *it)
+{
+    const network_setting *set = it->set;
+    (void)multicast_card(&set->local, &it->index);
+    it->fd = multicast_join(&set->remote, &set->local);
+    if (it->fd >= 0)
+        it->says = multicast_speak(&set->remote, &set->local, &it->own);
+    if (it->says >= 0)
+        return NULL;
+    close_group(it);
+    if (errno == ENODEV || errno == EADDRNOTAVAIL)
+        return "no card has that address";
+    return errno == ENOBUFS ? "the system lets nobody join one more group" : "can't join the group";
+}
+
+/* Opens a link by peers: what it has to have, and then its socket. */
+static const char *open_peers(cable *it)
+{
+    const char *lacks = NULL;
+    if (it->peers == NULL)
+        it->peers = peers_open(it->set, &lacks);
+    if (it->peers == NULL)
+        return lacks;
+    it->fd = datagram_open(&it->local, NULL);
+    return it->fd < 0 ? "can't take the address" : NULL;
+}
+
+/* Opens a link whose datagrams are packets. */
+static const char *open_bare(cable *it)
+{
+    if (it->bare == NULL)
+        it->bare = rfc1234_open(it->set);
+    if (it->bare == NULL)
+        return "out of memory";
+    it->fd = datagram_open(&it->local, NULL);
+    return it->fd < 0 ? "can't take the address" : NULL;
+}
+
 /* Opens it. Returns NULL, or what went wrong. */
 static const char *open_link(cable *it)
 {
@@ -67,8 +116,18 @@ static const char *open_link(cable *it)
     case LINK_QEMU_LISTEN:
         it->listener = listener_open(&it->local);
         return it->listener < 0 ? "can't listen there" : NULL;
+    case LINK_WEB:
+        it->web = web_open(it->set, &it->local);
+        return it->web == NULL ? "can't listen there" : NULL;
     case LINK_QEMU_CONNECT:
+    case LINK_VDE:
         return NULL; /* (it is tried as soon as one asks whether it is up) */
+    case LINK_QEMU_MCAST:
+        return open_group(it);
+    case LINK_PEERS:
+        return open_peers(it);
+    case LINK_RFC1234:
+        return open_bare(it);
     case LINK_TAP:
         it->fd = tap_open(it->set->name, &it->index);
         return it->fd < 0 ? "can't open the TAP" : NULL;
@@ -94,19 +153,29 @@ static bool is_not_there_yet(int fault)
            fault == EHOSTUNREACH;
 }
 
+/* Whether it lacks what somebody has to put there for its peers: a key, or libsodium. */
+static bool lacks_of_peers(const cable *it)
+{
+    return it->set->type == LINK_PEERS && it->peers == NULL;
+}
+
 const char *cable_open(cable *it, const network_setting *set)
 {
     it->set = set;
     it->kinds = kind_bits(set->kind);
-    it->fd = it->listener = -1;
+    it->fd = it->listener = it->says = it->plug.call = -1;
+    it->web = NULL;
+    it->peers = NULL;
+    it->bare = NULL;
     stream_clear(&it->stream);
-    remote_begin(&it->remote, set);
+    far_end far = far_end_of(set);
+    remote_begin(&it->remote, &far);
     it->tried = clock_now();
     it->lacks = opened(it);
     it->fault = errno;
     if (it->lacks != NULL)
-        return is_not_there_yet(errno) ? NULL : it->lacks;
-    if (is_connection(it)) {
+        return is_not_there_yet(errno) || lacks_of_peers(it) ? NULL : it->lacks;
+    if (is_connection(it) || set->type == LINK_VDE) {
         it->lacks = it->listener >= 0 ? "nobody is connected" : "not connected yet";
         it->fault = 0;
         it->tried = 0;
@@ -127,10 +196,38 @@ void cable_hears(cable *it, unsigned kinds)
         it->kinds = kinds;
 }
 
+void cable_follow(cable *it, const network_setting *set)
+{
+    it->set = set;
+    if (it->web != NULL)
+        web_follow(it->web, set);
+    if (it->peers != NULL)
+        peers_follow(it->peers, set);
+    if (it->bare != NULL)
+        rfc1234_follow(it->bare, set);
+}
+
+bool cable_is_open(const cable *it)
+{
+    return it->fd >= 0 || it->web != NULL;
+}
+
 void cable_close(cable *it)
 {
+    if (it->plug.call >= 0)
+        plug_end(&it->plug, &it->fd);
     close_any(&it->fd);
+    close_any(&it->says);
     close_any(&it->listener);
+    if (it->web != NULL)
+        web_close(it->web);
+    if (it->peers != NULL)
+        peers_close(it->peers);
+    if (it->bare != NULL)
+        rfc1234_close(it->bare);
+    it->web = NULL;
+    it->peers = NULL;
+    it->bare = NULL;
     remote_end(&it->remote);
 }
 
@@ -140,14 +237,22 @@ static bool looks_later(const cable *it)
     return pc_is_held_up(it) || (it->starved != 0 && clock_now() - it->starved < PC_LOOKS);
 }
 
+/* Whether frames may come and go: of a switch only by a port that it gave. */
+static bool has_port(const cable *it)
+{
+    return it->set->type != LINK_VDE || it->is_settled;
+}
+
 size_t cable_waits(const cable *it, watch list[2])
 {
     size_t count = 0;
     bool is_under_way = is_connection(it) && (!it->stream.is_connected || it->stream.out > 0);
     if (looks_later(it))
         return 0;
-    if (it->fd >= 0)
+    if (it->fd >= 0 && has_port(it))
         list[count++] = (watch){.fd = it->fd, .sends = is_under_way};
+    if (it->plug.call >= 0)
+        list[count++] = (watch){.fd = it->plug.call};
     if (it->listener >= 0 && pc_may_come(it))
         list[count++] = (watch){.fd = it->listener};
     return count;
@@ -160,7 +265,7 @@ bool cable_is_new(const cable *it)
 
 bool cable_has_more(const cable *it)
 {
-    return it->is_settled && stream_has_frame(&it->stream);
+    return it->web != NULL ? web_has_more(it->web) : it->is_settled && stream_has_frame(&it->stream);
 }
 
 int cable_patience(const cable *it, int left)
@@ -186,7 +291,7 @@ const address *cable_with(const cable *it)
 {
     if (is_connection(it))
         return it->set->type == LINK_QEMU_LISTEN || it->set->host[0] != '\0' ? &it->peer : NULL;
-    return it->set->host[0] != '\0' ? &it->remote.at : NULL;
+    return has_name(it->set) ? &it->remote.at : NULL;
 }
 
 /* ---- Whether it is up ---- */
@@ -205,7 +310,8 @@ static bool may_be_gone(cable *it)
 /* Looks for the address of a name. Where it is another one, what goes out goes there from now on, which is told; a connection stays. */
 static void follow_name(cable *it)
 {
-    if (it->set->host[0] == '\0' || !remote_look(&it->remote, it->set, may_be_gone(it)) || it->stream.is_connected)
+    far_end far = far_end_of(it->set);
+    if (!has_name(it->set) || !remote_look(&it->remote, &far, may_be_gone(it)) || it->stream.is_connected)
         return;
     it->was_lost = true;
     close_any(&it->fd);
@@ -243,7 +349,8 @@ static void follow_own_address(cable *it)
 static bool opens_now(cable *it)
 {
     uint64_t now = clock_now();
-    if (it->fd >= 0 || it->listener >= 0 || it->set->type == LINK_QEMU_CONNECT)
+    bool is_called = it->set->type == LINK_QEMU_CONNECT || it->set->type == LINK_VDE;
+    if (it->fd >= 0 || it->listener >= 0 || it->web != NULL || is_called)
         return true;
     if (it->tried != 0 && now - it->tried < BETWEEN)
         return false;
@@ -254,15 +361,17 @@ static bool opens_now(cable *it)
     return lacks == NULL;
 }
 
+/* What a card lacks that isn't up. */
+static const char *const CARD_LACKS[] = {[CARD_ABSENT] = "it isn't there", [CARD_OTHER] = "it isn't Ethernet",
+    [CARD_OFF] = "it is switched off", [CARD_UNPLUGGED] = "no carrier"};
+
 /* Whether a card is up; else what it lacks. Where the system can't say it, all is as it was. */
-static bool card_is_up(cable *it, card_state state)
+static bool card_is_up(cable *it, card_state state, const char *const lacks[])
 {
-    static const char *const LACKS[] = {[CARD_ABSENT] = "it isn't there", [CARD_OTHER] = "it isn't Ethernet",
-        [CARD_OFF] = "it is switched off", [CARD_UNPLUGGED] = "no carrier"};
     if (state == CARD_UNKNOWN)
         return it->lacks == NULL;
     it->fault = 0;
-    it->lacks = state == CARD_UP ? NULL : LACKS[state];
+    it->lacks = state == CARD_UP ? NULL : lacks[state];
     return state == CARD_UP;
 }
 
@@ -283,7 +392,7 @@ static bool interface_is_up(cable *it)
     card_state state = interface_state(it->set->name, &index, it->card);
     bool is_there = state != CARD_UNKNOWN && state != CARD_ABSENT && state != CARD_OTHER;
     if (!is_there || (index == it->index && interface_is_heard(it->fd, index)) || hears_again(it, index))
-        return card_is_up(it, state);
+        return card_is_up(it, state, CARD_LACKS);
     it->fault = errno;
     it->lacks = "can't open the interface";
     return false;
@@ -296,10 +405,24 @@ static bool tap_is_up(cable *it)
     uint8_t of_host[6];
     card_state state = interface_state(it->set->name, &index, of_host);
     if (state == CARD_UNKNOWN || index == it->index)
-        return card_is_up(it, state);
+        return card_is_up(it, state, CARD_LACKS);
     close_any(&it->fd);
     it->tried = 0;
-    return opens_now(it) && card_is_up(it, interface_state(it->set->name, &index, of_host));
+    return opens_now(it) && card_is_up(it, interface_state(it->set->name, &index, of_host), CARD_LACKS);
+}
+
+/* A group is heard by the card that has the address, for as long as it has it: then another may. */
+static bool group_is_up(cable *it)
+{
+    static const char *const LACKS[] = {[CARD_ABSENT] = "no card has that address", [CARD_OTHER] = "it isn't Ethernet",
+        [CARD_OFF] = "its card is switched off", [CARD_UNPLUGGED] = "its card has no carrier"};
+    unsigned index;
+    card_state state = multicast_card(&it->set->local, &index);
+    if (state == CARD_UNKNOWN || index == it->index)
+        return card_is_up(it, state, LACKS);
+    close_group(it);
+    it->tried = 0;
+    return opens_now(it) && card_is_up(it, multicast_card(&it->set->local, &index), LACKS);
 }
 
 bool cable_is_up(cable *it)
@@ -316,6 +439,13 @@ bool cable_is_up(cable *it)
         return tap_is_up(it);
     case LINK_INTERFACE:
         return interface_is_up(it);
+    case LINK_QEMU_MCAST:
+        return group_is_up(it);
+    case LINK_VDE:
+        return plugged_is_up(it);
+    case LINK_RFC1234:
+        rfc1234_look(it->bare);
+        return true;
     default:
         return true;
     }
@@ -347,9 +477,56 @@ static bool receive_frame(cable *it, arrivals *in)
     return length >= 0;
 }
 
+/* The next of a group. What the gateway says itself comes back, and counts as sent by this machine. */
+static bool receive_of_group(cable *it, arrivals *in)
+{
+    bool has_come = multicast_receive(it->fd, &it->set->remote, in);
+    for (size_t k = 0; has_come && k < in->count; k++)
+        in->list[k].is_sent = same_address(&in->list[k].from, &it->own);
+    return has_come;
+}
+
+/* The next of peers whose datagrams are packets, as frames. */
+static bool receive_bare(cable *it, arrivals *in)
+{
+    bool has_come = datagrams_receive(it->fd, in);
+    if (has_come)
+        rfc1234_receive(it->bare, in);
+    return has_come;
+}
+
+/* The next that came by a port of a switch, if there is one. */
+static bool receive_of_switch(cable *it, arrivals *in)
+{
+    errno = EAGAIN;
+    return has_port(it) && plug_receive(&it->plug, it->fd, in);
+}
+
+static bool receive(cable *it, arrivals *in)
+{
+    switch (it->set->type) {
+    case LINK_QEMU_LISTEN:
+    case LINK_QEMU_CONNECT:
+    case LINK_TAP:
+        return receive_frame(it, in);
+    case LINK_QEMU_MCAST:
+        return receive_of_group(it, in);
+    case LINK_VDE:
+        return receive_of_switch(it, in);
+    case LINK_PEERS:
+        return peers_receive(it->peers, it->fd, in);
+    case LINK_RFC1234:
+        return receive_bare(it, in);
+    default:
+        return datagrams_receive(it->fd, in);
+    }
+}
+
 bool cable_receive(cable *it, arrivals *in)
 {
-    bool has_come = is_connection(it) || it->set->type == LINK_TAP ? receive_frame(it, in) : datagrams_receive(it->fd, in);
+    if (it->web != NULL)
+        return web_receive(it->web, in);
+    bool has_come = receive(it, in);
     int fault = errno;
     it->starved = !has_come && is_for_want_of_room(fault) ? clock_now() : 0;
     errno = fault;
@@ -359,19 +536,32 @@ bool cable_receive(cable *it, arrivals *in)
 
 bool cable_send(cable *it, const uint8_t *bytes, size_t length)
 {
-    if (it->fd < 0)
+    if (it->web != NULL)
+        return web_send(it->web, bytes, length);
+    if (it->fd < 0 || !has_port(it))
         return false;
     if (is_connection(it))
         return it->stream.is_connected && stream_send(&it->stream, it->fd, bytes, length);
-    return it->set->type == LINK_TAP ? tap_send(it->fd, bytes, length) : datagram_send(it->fd, bytes, length);
+    if (it->set->type == LINK_TAP)
+        return tap_send(it->fd, bytes, length);
+    if (it->peers != NULL)
+        return peers_send(it->peers, it->fd, bytes, length);
+    if (it->bare != NULL)
+        return rfc1234_send(it->bare, it->fd, bytes, length);
+    return datagram_send(it->set->type == LINK_QEMU_MCAST ? it->says : it->fd, bytes, length);
 }
 
 bool cable_send_to(cable *it, const departure *what)
 {
-    return datagram_send_to(it->fd, what);
+    return it->web != NULL ? web_send_to(it->web, what) : datagram_send_to(it->fd, what);
 }
 
 size_t cable_send_all(cable *it, const departure *list, size_t count)
 {
-    return datagrams_send(it->fd, list, count);
+    size_t sent = 0;
+    if (it->web == NULL)
+        return datagrams_send(it->fd, list, count);
+    while (sent < count && web_send_to(it->web, &list[sent]))
+        sent++;
+    return sent;
 }

@@ -7,18 +7,28 @@
 
 #include "configuration/settings.h"
 #include "links/remote.h"
+#include "links/rfc1234.h"
 #include "links/stream.h"
+#include "peers/peers.h"
 #include "systems/datagram.h"
+#include "systems/plug.h"
 #include "systems/watch.h"
+#include "web/web.h"
 
 typedef struct cable {
     const network_setting *set; /* of its first network */
     int fd;                     /* what is read and written, or -1 */
     int listener;               /* where connections come in, or -1 */
+    int says;                   /* what sends to a group, or -1; */
+    address own;                /* and from where */
+    plug plug;                  /* in a switch */
+    web *web;                   /* what is there by WebSocket; or NULL */
+    peers *peers;               /* who is there of other places; or NULL */
+    rfc1234 *bare;              /* who is there whose datagrams are packets; or NULL */
     stream stream;              /* what of a connection is under way */
     bool was_lost;              /* a connection was, since one looked */
     uint64_t tried;             /* milliseconds of the clock when it was opened, or a connection begun, last */
-    unsigned index;             /* of the TAP or the interface */
+    unsigned index;             /* of the TAP, the interface, or a group's card */
     unsigned kinds;             /* of frames that an interface's socket lets pass, of each the bit 1 << kind */
     address local;              /* where the socket is, with the port that it took */
     address peer;               /* who is connected */
@@ -61,6 +71,12 @@ size_t cable_waits(const cable *it, watch list[2]);
  * doesn't wait for: a machine of which it isn't known yet whether it stays, or what the system had no room to give. */
 bool cable_has_more(const cable *it);
 int cable_patience(const cable *it, int left);
+
+/* The same link by another configuration. */
+void cable_follow(cable *it, const network_setting *set);
+
+/* Whether anything can come on it now. */
+bool cable_is_open(const cable *it);
 
 /* The next frames or datagrams. Returns false where there is none now. */
 bool cable_receive(cable *it, arrivals *in);

@@ -44,7 +44,7 @@ static void look_for_claims(network *on, const ipxr_port *at, const uint8_t *pac
 {
     char node[WORDS];
     uint32_t number;
-    if (on->set->type == LINK_DOSBOX || ipxr_edge_claim(at, packet, length, &number) != 1)
+    if (has_tunnel(on->set) || ipxr_edge_claim(at, packet, length, &number) != 1)
         return;
     uint64_t now = clock_now();
     if (on->claim_told != 0 && now - on->claim_told < BETWEEN)
@@ -123,7 +123,7 @@ static bool is_of_one_kind(const network *on)
  * wait for each other. And a client of a tunnel could say falsely that there is one) */
 static bool is_needless(gateway *it, const network *on, const ipxr_port *at, const uint8_t *packet, size_t length)
 {
-    bool has_clients = on->set->type == LINK_DOSBOX || on->set->is_of_several;
+    bool has_clients = has_tunnel(on->set) || on->set->is_of_several;
     if (has_clients || !on->set->adopts || !names_nearest(packet, length) || !is_of_one_kind(on))
         return false;
     return has_server(it, on, get16(packet + AT_SERVICE)) && ipxr_edge_is_needless(at, ON_CABLE, packet, length) == 1;

@@ -86,7 +86,7 @@ static void send_now(network *on, const uint8_t *from, const uint8_t *node, cons
 /* (it goes nowhere where the link was lost since, or another configuration makes it one of DOSBox') */
 static void send_paced(network *on, const paced_packet *next)
 {
-    if (on->is_up && on->set->type != LINK_DOSBOX)
+    if (on->is_up && !has_tunnel(on->set))
         send_now(on, next->from, ALL_NODES, next->bytes, next->length);
 }
 
@@ -157,7 +157,7 @@ static bool is_client_elsewhere(gateway *it, const network *on, const uint8_t *n
 {
     port *router_port = port_of(it, on);
     for (network *other = first_of(it, router_port); other < first_of(it, router_port) + router_port->count; other++)
-        if (other != on && other->set->type == LINK_DOSBOX && roster_of_node(&other->roster, node) != NULL)
+        if (other != on && has_tunnel(other->set) && roster_of_node(&other->roster, node) != NULL)
             return true;
     return false;
 }
@@ -230,6 +230,7 @@ typedef struct incoming {
     size_t length;
     uint8_t kind;
     bool is_there;   /* a network has such frames on the cable */
+    bool is_of_twin; /* it looks for loops, for another gateway with the same node */
     bool is_whole;   /* it holds a packet with its length, */
     size_t rest;     /* and bytes behind its front, padding too */
     origin by;       /* who said it: the network itself, whoever is there */
@@ -249,8 +250,8 @@ static uint8_t kind_on(const network *on, const uint8_t *packet, size_t length)
 static reason lets_in(incoming *in)
 {
     arrived *what = &in->carried;
-    line_use *line = &first_of(in->it, port_of(in->it, what->on))->speaks.line;
-    in->by = (origin){.speaks = &what->on->speaks, .kind = kind_on(what->on, what->packet, in->rest), .line = line};
+    in->by = (origin){.speaks = &what->on->speaks, .kind = kind_on(what->on, what->packet, in->rest)};
+    throttle_note(&in->by);
     in->is_whole = has_length(what->packet, in->rest);
     what->length = in->is_whole ? get16(what->packet + AT_LENGTH) : in->rest;
     what->by = in->is_whole ? &in->by : NULL;
@@ -263,6 +264,10 @@ static reason lets_in(incoming *in)
 static void put_on_links(incoming *in)
 {
     const arrived *what = &in->carried;
+    if (in->is_of_twin) {
+        in->on_links = (heard){.links = segment_repeat(in->it, what->on, &in->by, what->packet, what->length)};
+        return;
+    }
     in->on_links = segment_hear(in->it, what->on, &in->by, in->frame + NODE, in->frame, what->packet, what->length);
     if (in->on_links.by_router || in->on_links.links > 0)
         look_for_twins(in->it, what->on, in->frame + NODE);
@@ -322,11 +327,11 @@ static uint16_t answer(incoming *in, uint8_t next)
     case IPXR_NEXT_FRAME_IS_TOO_LONG:
         return in->length > IPXR_LONGEST_FRAME;
     case IPXR_NEXT_FRAME_IS_OWN:
-        return same_node(from, on->node);
+        return same_node(from, on->node) && !in->is_of_twin;
     case IPXR_NEXT_FRAME_IS_PROBE:
         return loop_hears(in->it, on, packet, in->rest);
     case IPXR_NEXT_FRAME_IS_OF_ITS_KIND:
-        return is_of_its_kind(on, in->kind, in->frame, packet, in->rest);
+        return in->is_of_twin || is_of_its_kind(on, in->kind, in->frame, packet, in->rest);
     case IPXR_NEXT_FRAME_IS_FOR_ANOTHER:
         return on->segment == NULL && !is_broadcast(to) && !same_node(to, on->node);
     case IPXR_NEXT_FRAME_CAPTURE:
@@ -347,6 +352,14 @@ static network *looks_for_loops(const incoming *in)
     return NULL;
 }
 
+/* Whether a frame is for all, from the gateway's own node, and yet another's that looks for loops. */
+static bool is_of_twin(const incoming *in)
+{
+    const network *on = in->carried.on;
+    return in->is_there && in->kind != IPXR_NO_FRAME && is_broadcast(in->frame) && same_node(in->frame + NODE, on->node) &&
+           loop_is_of_twin(in->it, on, in->carried.packet, in->rest);
+}
+
 /* A frame as it was read. */
 static incoming read_frame(gateway *it, cable *carrier, const uint8_t *frame, size_t length)
 {
@@ -361,6 +374,7 @@ static incoming read_frame(gateway *it, cable *carrier, const uint8_t *frame, si
         in.carried.on = own;
         in.is_there = true;
     }
+    in.is_of_twin = is_of_twin(&in);
     return in;
 }
 

@@ -9,25 +9,39 @@
 #include "links/links.h"
 
 enum {
-    SEAL = 8,       /* bytes by which the gateway knows its own packet */
-    MOST_ROOM = 64, /* frames that go, at most, so that there is room for it */
+    SEAL = 8,       /* bytes by which the gateway knows its own packet, and as many by which it knows that it was */
+    MOST_ROOM = 64, /* frames that are looked at, so that some go, and there is room for it */
 };
 
 /* The data of such a packet: the link, the second, and a hash of both that nobody can make but this gateway. Once links have changed, their
- * numbers mean others: so it is also a hash of how often they have. */
-enum { AT_LINK = 0, AT_SECOND = 1, AT_SEAL = 9, DATA = AT_SEAL + SEAL };
+ * numbers mean others: so it is also a hash of how often they have. Behind it stands one that isn't: by that the gateway knows its packets of
+ * before. */
+enum { AT_LINK = 0, AT_SECOND = 1, AT_SEAL = 9, AT_MARK = AT_SEAL + SEAL, DATA = AT_MARK + SEAL };
 
 /* ---- The packets ---- */
 
+/* What is hashed: for the seal all of it, for the mark all but how often links have changed. */
+enum { AT_NETWORK = AT_SEAL, AT_CHANGES = AT_NETWORK + 4, SEALED = AT_CHANGES + 4 };
+
+static void put_hash(const gateway *it, const network *on, size_t length, size_t at, uint8_t data[DATA])
+{
+    uint8_t sealed[SEALED];
+    memcpy(sealed, data, AT_SEAL);
+    put32(sealed + AT_NETWORK, on->set->network);
+    put32(sealed + AT_CHANGES, it->changes);
+    uint64_t hash = siphash(it->key, sealed, length);
+    for (size_t k = 0; k < SEAL; k++)
+        data[at + k] = (uint8_t)(hash >> 8 * k);
+}
+
 static void put_seal(const gateway *it, const network *on, uint8_t data[DATA])
 {
-    uint8_t sealed[AT_SEAL + sizeof on->set->network + sizeof it->changes];
-    memcpy(sealed, data, AT_SEAL);
-    put32(sealed + AT_SEAL, on->set->network);
-    put32(sealed + AT_SEAL + sizeof on->set->network, it->changes);
-    uint64_t hash = siphash(it->key, sealed, sizeof sealed);
-    for (int k = 0; k < SEAL; k++)
-        data[AT_SEAL + k] = (uint8_t)(hash >> 8 * k);
+    put_hash(it, on, SEALED, AT_SEAL, data);
+}
+
+static void put_mark(const gateway *it, const network *on, uint8_t data[DATA])
+{
+    put_hash(it, on, AT_CHANGES, AT_MARK, data);
 }
 
 static void put_second(uint8_t data[DATA], uint64_t second)
@@ -44,7 +58,7 @@ static uint64_t second_of(const uint8_t data[DATA])
 /* Whether the link is one of several and carries frames, so that a bridge may join it to another. */
 static bool is_cable(const network *on)
 {
-    return on->segment != NULL && on->set->type != LINK_DOSBOX;
+    return on->segment != NULL && !has_tunnel(on->set);
 }
 
 /* Whether there is another such link on the network. */
@@ -68,6 +82,7 @@ static void send_one(const gateway *it, network *on)
     data[AT_LINK] = on->link;
     put_second(data, it->seconds);
     put_seal(it, on, data);
+    put_mark(it, on, data);
     int32_t length = ipxr_write_packet(&from, &to, 0, 0, data, DATA, packet, sizeof packet);
     if (length > 0)
         (void)!ether_put(on, on->node, ALL, packet, (size_t)length);
@@ -126,10 +141,30 @@ static bool is_own(const gateway *it, const network *on, const uint8_t *packet)
     return memcmp(made, data, DATA) == 0;
 }
 
+/* Whether a packet is one of these, whichever gateway sent it. */
+static bool is_probe(const network *on, const uint8_t *packet, size_t length)
+{
+    return is_cable(on) && length >= HEADER + DATA && get16(packet + AT_TO_SOCKET) == LOOP_SOCKET;
+}
+
+/* Whether the gateway sent one of these, now or before its links have changed. */
+static bool was_own(const gateway *it, const network *on, const uint8_t *packet)
+{
+    uint8_t made[DATA];
+    memcpy(made, packet + HEADER, DATA);
+    put_mark(it, on, made);
+    return memcmp(made, packet + HEADER, DATA) == 0;
+}
+
+bool loop_is_of_twin(const gateway *it, const network *on, const uint8_t *packet, size_t length)
+{
+    return is_probe(on, packet, length) && !was_own(it, on, packet);
+}
+
 /* The link on which the gateway sent such a packet of its own that came on another, or on itself; NULL where it is none. */
 static network *sent_on(gateway *it, const network *on, const uint8_t *packet, size_t length)
 {
-    if (!is_cable(on) || length < HEADER + DATA || get16(packet + AT_TO_SOCKET) != LOOP_SOCKET || !is_own(it, on, packet))
+    if (!is_probe(on, packet, length) || !is_own(it, on, packet))
         return NULL;
     port *router_port = port_of(it, on);
     uint8_t link = packet[HEADER + AT_LINK];
@@ -187,13 +222,29 @@ void loop_hears_sent(gateway *it, network *on, const uint8_t *packet, size_t len
     }
 }
 
-/* Where three links or more are one cable, each packet comes back more than once, and soon the system's room for what waits is full: then a probe
- * that comes back is lost. So some of what waits goes, unheard; as much would find no room anyway. */
+/* Hears of what came what is for one node alone. */
+static void hear_of_one(gateway *it, cable *carrier, arrivals *in)
+{
+    for (size_t k = 0; k < in->count; k++) {
+        arrival *next = &in->list[k];
+        bool is_for_one = next->length > 0 && (next->bytes[0] & 1) == 0;
+        if (is_for_one && next->is_sent)
+            ether_hear_sent(it, carrier, next->bytes, next->length);
+        else if (is_for_one)
+            ether_hear(it, carrier, next->bytes, next->length);
+    }
+    gateway_flush(it);
+}
+
+/* Where three links or more are one cable, each packet for all comes back more than once, and soon the system's room for what waits is full: then
+ * a probe that comes back is lost. So some of them that wait go, unheard; as many would find no room anyway. */
 static void make_room(gateway *it, network *on)
 {
-    size_t gone = 0;
-    while (on->cable->is_behind && on->cable->fd >= 0 && gone < MOST_ROOM && cable_receive(on->cable, &it->arrivals))
-        gone += it->arrivals.count;
+    size_t looked_at = 0;
+    while (on->cable->is_behind && on->cable->fd >= 0 && looked_at < MOST_ROOM && cable_receive(on->cable, &it->arrivals)) {
+        looked_at += it->arrivals.count;
+        hear_of_one(it, on->cable, &it->arrivals);
+    }
 }
 
 /* Whether a second counts of those for which a link stays shut: one of two does, by chance. (so of two gateways that shut links in one moment, each

@@ -45,6 +45,10 @@ bool loop_sent(struct gateway *it, const struct network *on, const uint8_t *pack
 /* Whether a packet of the gateway's own that came on a link is one of these; what follows of it is done. */
 bool loop_hears(struct gateway *it, struct network *on, const uint8_t *packet, size_t length);
 
+/* Whether a packet is one of another gateway's, though its frame is from this one's own node: both have one node, as two gateways of a machine
+ * may. It is no frame of this gateway's: what the other looks for isn't found unless it is handed on. */
+bool loop_is_of_twin(const struct gateway *it, const struct network *on, const uint8_t *packet, size_t length);
+
 /* What follows of one that this machine sends on the link's card. */
 void loop_hears_sent(struct gateway *it, struct network *on, const uint8_t *packet, size_t length);
 

@@ -32,9 +32,20 @@ static uint64_t hash_of(const network_setting *set)
     return siphash(KEY, (const uint8_t *)words, (size_t)length);
 }
 
+void node_of_address(const uint8_t host[4], uint8_t node[6])
+{
+    enum { HOST = 4 };
+    memset(node, 0, NODE - HOST);
+    memcpy(node + NODE - HOST, host, HOST);
+}
+
 void node_choose(const network_setting *set, const uint8_t card[6], uint8_t node[6])
 {
-    ipxr_node_choose(set->type == LINK_DOSBOX, set->is_of_several, set->has_node, set->node, card, hash_of(set), node);
+    if (set->type == LINK_RFC1234) {
+        node_of_address(set->local.host, node);
+        return;
+    }
+    ipxr_node_choose(has_tunnel(set), set->is_of_several, set->has_node, set->node, card, hash_of(set), node);
 }
 
 size_t internal_port_add(const internal_setting *internal, ipxr_port ports[IPXR_MOST_PORTS], size_t count)

@@ -63,14 +63,19 @@ static wanted wanted_by(const network_setting *set)
     return set->local.is_six ? ADDRESS_OF_IPV6 : ADDRESS_OF_IPV4;
 }
 
-/* The question for a setting's name, that is under way; or NULL. */
-static question *begin(const network_setting *set)
+far_end far_end_of(const network_setting *set)
+{
+    return (far_end){has_name(set) ? set->host : "", set->remote, wanted_by(set)};
+}
+
+/* The question for a name, that is under way; or NULL. */
+static question *begin(const far_end *of)
 {
     question *made = calloc(1, sizeof *made);
     if (made == NULL)
         return NULL;
-    strcpy(made->host, set->host);
-    made->which = wanted_by(set);
+    strcpy(made->host, of->host);
+    made->which = of->which;
     if (resolver_begin(run, made))
         return made;
     free(made);
@@ -78,11 +83,11 @@ static question *begin(const network_setting *set)
 }
 
 /* (where there is no memory, no thread or no place it is asked again with the next look) */
-static void ask(remote *it, const network_setting *set)
+static void ask(remote *it, const far_end *of)
 {
     if (!takes_place())
         return;
-    question *made = begin(set);
+    question *made = begin(of);
     if (made == NULL) {
         give_place();
         return;
@@ -150,24 +155,24 @@ static size_t turn_of(const remote *it)
     return 0;
 }
 
-void remote_begin(remote *it, const network_setting *set)
+void remote_begin(remote *it, const far_end *of)
 {
-    *it = (remote){.is_known = set->host[0] == '\0', .at = set->remote};
+    *it = (remote){.is_known = of->host[0] == '\0', .at = of->at};
     if (!it->is_known)
-        ask(it, set);
+        ask(it, of);
 }
 
-bool remote_look(remote *it, const network_setting *set, bool is_wanted)
+bool remote_look(remote *it, const far_end *of, bool is_wanted)
 {
     answers found;
-    if (set->host[0] == '\0')
+    if (of->host[0] == '\0')
         return false;
     if (takes_answer(it, &found) && found.count > 0) {
         it->found = found;
-        return use(it, turn_of(it), set->remote.port);
+        return use(it, turn_of(it), of->at.port);
     }
     if (it->question == NULL && (it->asked == 0 || ((is_wanted || !it->is_known) && clock_now() - it->asked >= MINUTE)))
-        ask(it, set);
+        ask(it, of);
     return false;
 }
 

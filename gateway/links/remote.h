@@ -12,6 +12,13 @@
 
 struct question;
 
+/* The other end as a configuration says it. */
+typedef struct far_end {
+    const char *host; /* its name, or "": then it is the address, */
+    address at;       /* whose port it has in any case; */
+    wanted which;     /* and which of the name's addresses may be used */
+} far_end;
+
 typedef struct remote {
     bool is_known;
     address at;                /* where it is, if that is known */
@@ -24,12 +31,15 @@ typedef struct remote {
 /* What a link lacks whose other end isn't known. */
 extern const char REMOTE_UNKNOWN[];
 
-/* The other end as a configuration says it; a name is asked for. */
-void remote_begin(remote *it, const network_setting *set);
+/* The other end of a link. */
+far_end far_end_of(const network_setting *set);
+
+/* A name is asked for. */
+void remote_begin(remote *it, const far_end *of);
 
 /* Hears the answer where there is one, and asks again after a minute where that is wanted. Returns whether the address in use is another
  * one now. It stays as long as the name has it among its addresses, or isn't known any more. */
-bool remote_look(remote *it, const network_setting *set, bool is_wanted);
+bool remote_look(remote *it, const far_end *of, bool is_wanted);
 
 /* Nobody is at the address in use: the next one of the name has its turn. */
 void remote_fails(remote *it);

@@ -15,7 +15,7 @@ enum { STATIONS = 512 };
 /* The most stations of a link that are known: of a tunnel as many as it has clients. */
 static uint16_t share_of(const network_setting *link)
 {
-    return link->type == LINK_DOSBOX ? link->clients : STATIONS;
+    return has_tunnel(link) ? link->clients : STATIONS;
 }
 
 static uint16_t capacity_of(const network_setting *links, size_t count)
@@ -52,7 +52,7 @@ void segment_close(port *router_port)
 
 void segment_change(network *on)
 {
-    bool is_tunnel = on->set->type == LINK_DOSBOX;
+    bool is_tunnel = has_tunnel(on->set);
     ipxr_link to = {.kind = !on->is_up ? IPXR_LINK_DOWN : is_tunnel ? IPXR_LINK_SURE : IPXR_LINK_CABLE, .share = share_of(on->set)};
     ipxr_keyed_member client;
     if (on->segment == NULL)
@@ -86,6 +86,20 @@ heard segment_hear(gateway *it, network *on, const origin *by, const uint8_t *fr
     heard what = {.by_router = ipxr_segment_hear(on->segment, on->link, from, to) == 1};
     what.links = put(it, port_of(it, on), by, from, to, packet, length);
     return what;
+}
+
+size_t segment_repeat(gateway *it, network *on, const origin *by, const uint8_t *packet, size_t length)
+{
+    static const uint8_t ALL[NODE] = {0xFF, 0xFF, 0xFF, 0xFF, 0xFF, 0xFF};
+    port *router_port = port_of(it, on);
+    size_t count = 0;
+    for (network *other = first_of(it, router_port); on->is_up && other < first_of(it, router_port) + router_port->count; other++) {
+        if (other == on || !other->is_up || other->set->type == LINK_DOSBOX)
+            continue;
+        gateway_put(other, by, on->node, ALL, packet, length);
+        count++;
+    }
+    return count;
 }
 
 void segment_send(gateway *it, port *router_port, const origin *by, const uint8_t *node, const uint8_t *packet, size_t length)

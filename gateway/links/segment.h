@@ -29,6 +29,10 @@ typedef struct heard {
 heard segment_hear(gateway *it, network *on, const origin *by, const uint8_t *from, const uint8_t *to, const uint8_t *packet,
     size_t length);
 
+/* A packet for all came in a frame from the gateway's own node, and isn't its own: it is put on the other links with frames, and nobody is
+ * learned by it. Returns how many these are. */
+size_t segment_repeat(gateway *it, network *on, const origin *by, const uint8_t *packet, size_t length);
+
 /* The router sends a packet to a node or to all. */
 void segment_send(gateway *it, port *router_port, const origin *by, const uint8_t *node, const uint8_t *packet, size_t length);
 

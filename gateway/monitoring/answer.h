@@ -11,6 +11,6 @@ enum { MOST_ASKED = 256 /* bytes of a question, which is a line */ };
 #define IS_NOT_WELL '1'
 
 /* The sections that can be shown, in words. */
-#define SECTION_WORDS "links, clients, stations, routes, services, edge, counts or events"
+#define SECTION_WORDS "links, clients, stations, peers, routes, services, edge, counts or events"
 
 #endif

@@ -78,6 +78,23 @@ static bool read_word(question *q, const char *word)
     return true;
 }
 
+/* Writes the line that asks it. Returns how many bytes it has; 0 where it is too long to be heard. */
+static size_t put_line(const question *q, char line[MOST_ASKED])
+{
+    const char *word = q->count > 0 ? q->words[0] : "", *form = q->kind == kind_of("show") ? q->form : "";
+    int length = snprintf(line, MOST_ASKED, "%s %s%s%s\n", QUESTIONS[q->kind].word, word, q->count > 0 ? " " : "", form);
+    return length > 0 && length < MOST_ASKED ? (size_t)length : 0;
+}
+
+/* Whether it can be asked, with its words. */
+static bool can_be_asked(const question *q)
+{
+    char line[MOST_ASKED];
+    if (q->count < QUESTIONS[q->kind].least)
+        return use_fault(NULL, QUESTIONS[q->kind].expected);
+    return put_line(q, line) > 0 || use_fault(q->words[0], QUESTIONS[q->kind].expected);
+}
+
 static bool read_words(question *q, int count, char **words)
 {
     for (int k = 2; k < count; k++) {
@@ -89,8 +106,8 @@ static bool read_words(question *q, int count, char **words)
         else if (!read_word(q, words[k]))
             return false;
     }
-    if (q->count < QUESTIONS[q->kind].least)
-        return use_fault(NULL, QUESTIONS[q->kind].expected);
+    if (!can_be_asked(q))
+        return false;
     if (strcmp(q->form, "prometheus") == 0 && (q->count == 0 || strcmp(q->words[0], "counts") != 0))
         return use_fault("--prometheus", "show counts before it");
     return true;
@@ -137,9 +154,8 @@ static int hear(int fd, const char *path)
 static bool say_to(int fd, const question *q)
 {
     char line[MOST_ASKED];
-    const char *word = q->count > 0 ? q->words[0] : "", *form = q->kind == kind_of("show") ? q->form : "";
-    int length = snprintf(line, sizeof line, "%s %s%s%s\n", QUESTIONS[q->kind].word, word, q->count > 0 ? " " : "", form);
-    return length > 0 && (size_t)length < sizeof line && connection_send(fd, (const uint8_t *)line, (size_t)length) == length;
+    size_t length = put_line(q, line);
+    return connection_send(fd, (const uint8_t *)line, length) == (ssize_t)length;
 }
 
 static int ask(const question *q)
@@ -158,7 +174,7 @@ static int ask(const question *q)
 
 int ask_gateway(int count, char **words)
 {
-    question q = {.kind = kind_of(words[1]), .form = "columns", .path = USUAL_STATUS};
+    question q = {.kind = kind_of(words[1]), .form = "columns", .path = local_usual()};
     if (!has_local()) {
         use_fault(words[1], "a configuration: there is no status socket on this system");
         return WRONG_USE;

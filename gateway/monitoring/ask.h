@@ -4,9 +4,6 @@
 
 #include <stdbool.h>
 
-/* Where a gateway is asked that is told nothing else; the service listens there. */
-#define USUAL_STATUS "/run/ipxr-gateway/status"
-
 /* Whether a command line that begins with this word asks a gateway. */
 bool is_asking(const char *word);
 

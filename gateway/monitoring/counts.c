@@ -34,6 +34,9 @@ static const char *const WORDS_OF[REASONS] = {
     [TOO_MUCH_FOR_ROUTER] = "too much for the router",
     [FROM_AFAR] = "from afar",
     [DENIED] = "denied",
+    [NOT_SEALED] = "not sealed by the key",
+    [REPEATED] = "repeated",
+    [OTHER_SESSION] = "of another session",
 };
 
 const char *reason_words(reason why)

@@ -7,8 +7,10 @@
 #include "configuration/words.h"
 #include "links/links.h"
 #include "monitoring/note.h"
+#include "monitoring/recent.h"
 #include "monitoring/sheet.h"
 #include "monitoring/status.h"
+#include "monitoring/status_page.h"
 #include "systems/clock.h"
 #include "systems/system.h"
 
@@ -33,6 +35,13 @@ static void tell(happening *h)
     sheet_put(&h->line, "\n");
     sheet_put(&h->json, "}\n");
     status_tell(h->line_room, h->json_room);
+    if (status_page_is_open())
+        recent_keep(h->json_room);
+}
+
+bool events_are_followed(void)
+{
+    return status_page_is_open() || status_is_followed();
 }
 
 /* ---- Fields of JSON ---- */
@@ -65,13 +74,28 @@ void events_client(const network *on, const uint8_t node[6], const address *at, 
 {
     char words[WORDS], where[ADDRESS_ROOM];
     happening h;
-    if (!status_is_followed())
+    if (!events_are_followed())
         return;
     begin(&h, comes ? "client comes" : "client leaves");
     sheet_put(&h.line, "client %s %s %08" PRIX32 ", %s", node_words(node, words), comes ? "comes to" : "leaves", on->set->network,
               address_words(at, where));
     put_network(&h, "network", on->set->network);
     put_text(&h, "client", words);
+    put_text(&h, "address", where);
+    tell(&h);
+}
+
+void events_place(const network *on, const address *at, place_event what)
+{
+    static const char *const EVENTS[] = {[PLACE_COMES] = "peer comes", [PLACE_LEAVES] = "peer leaves", [PLACE_MOVES] = "peer moves"};
+    static const char *const WORDS_OF[] = {[PLACE_COMES] = "comes to", [PLACE_LEAVES] = "leaves", [PLACE_MOVES] = "moves on"};
+    char where[ADDRESS_ROOM];
+    happening h;
+    if (!events_are_followed())
+        return;
+    begin(&h, EVENTS[what]);
+    sheet_put(&h.line, "peer %s %s %08" PRIX32, address_words(at, where), WORDS_OF[what], on->set->network);
+    put_network(&h, "network", on->set->network);
     put_text(&h, "address", where);
     tell(&h);
 }
@@ -83,7 +107,7 @@ void events_link(const network *on)
     const cable *carrier = on->cable;
     int fault;
     const char *lacks = link_lacks(on, &fault);
-    if (!status_is_followed())
+    if (!events_are_followed())
         return;
     begin(&h, on->is_up ? "link up" : "link down");
     sheet_put(&h.line, "%snetwork %08" PRIX32 " is %s: %s", part_of(on), on->set->network, on->is_up ? "up" : "down",
@@ -105,7 +129,7 @@ void events_removed(const network *on)
 {
     char link[LINK_ROOM];
     happening h;
-    if (!status_is_followed())
+    if (!events_are_followed())
         return;
     cable_words(on->cable, on->set, link);
     begin(&h, "link removed");

@@ -1,4 +1,4 @@
-/* What happens, for those who follow it by the status socket: clients, links, routes and services that come and go. */
+/* What happens, for those who follow it by the status socket: clients, places, links, routes and services that come and go. */
 #ifndef EVENTS_H
 #define EVENTS_H
 
@@ -8,6 +8,13 @@
 void events_client(const network *on, const uint8_t node[6], const address *at, bool comes);
 void events_link(const network *on);
 void events_removed(const network *on);
+
+/* A place came to a network, left it, or is somewhere else now. */
+typedef enum { PLACE_COMES, PLACE_LEAVES, PLACE_MOVES } place_event;
+void events_place(const network *on, const address *at, place_event what);
+
+/* Whether somebody follows what happens, or the page of the status shows it. */
+bool events_are_followed(void);
 
 /* From now on somebody follows: what the router has learned by now is nothing new. */
 void events_begin(gateway *it);

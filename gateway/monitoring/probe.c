@@ -71,9 +71,9 @@ static network *own_network(gateway *it, uint32_t number, const uint8_t node[NOD
         network *on = &it->networks[k];
         if (on->set->network != number)
             continue;
-        if (on->set->type == LINK_DOSBOX && roster_of_node(&on->roster, node) != NULL)
+        if (has_tunnel(on->set) && roster_of_node(&on->roster, node) != NULL)
             return on;
-        if (found == NULL || found->set->type == LINK_DOSBOX)
+        if (found == NULL || has_tunnel(found->set))
             found = on;
     }
     return found;
@@ -109,7 +109,7 @@ static network *way_to(gateway *it, const ipxr_address *to, uint8_t hop[NODE])
 /* Whether it is a client of a tunnel here, which answers as DOSBox does. */
 static bool is_dosbox(const probe *p, const network *on)
 {
-    return !p->has_socket && on->set->type == LINK_DOSBOX && on->set->network == p->to.network;
+    return !p->has_socket && has_tunnel(on->set) && on->set->network == p->to.network;
 }
 
 /* ---- Asking ---- */
@@ -212,7 +212,7 @@ void probe_ping(gateway *it, viewer *v, const char *word, unsigned number)
         viewer_complain(v, why, p->to.network);
         return;
     }
-    if (on->set->type == LINK_DOSBOX && on->set->network == p->to.network && roster_of_node(&on->roster, p->to.node) == NULL) {
+    if (has_tunnel(on->set) && on->set->network == p->to.network && roster_of_node(&on->roster, p->to.node) == NULL) {
         viewer_complain(v, "%s is no client", station_words(&p->to, words));
         return;
     }

@@ -23,11 +23,15 @@ static void show_network(const gateway *it, network *on)
         say("  kinds: %s", kinds_words(&on->kinds, kinds));
     if (set->type == LINK_QEMU_LISTEN)
         say("  connected: %d", on->cable->stream.is_connected ? 1 : 0);
+    if (on->cable->web != NULL)
+        say("  connected: %zu", on->cable->web->count);
+    if (on->cable->peers != NULL)
+        say("  peers: %zu", peers_present(on->cable->peers));
     if (on->counts.refused > 0)
         say("  refused: %" PRIu64, on->counts.refused);
     if (set->type == LINK_QEMU_LISTEN && on->cable->not_taken > 0)
         say("  not taken: %" PRIu64, on->cable->not_taken);
-    if (set->type == LINK_DOSBOX)
+    if (has_tunnel(set))
         tunnel_show(on, it->seconds);
 }
 

@@ -9,6 +9,8 @@
 #include "ipx.h"
 #include "links/links.h"
 #include "monitoring/note.h"
+#include "monitoring/recent.h"
+#include "peers/calling.h"
 #include "systems/clock.h"
 #include "systems/system.h"
 #include "tunnel/tunnel.h"
@@ -54,10 +56,10 @@ static const char *lack_words(const network *on, char words[LACK_ROOM])
     return words;
 }
 
-/* The kinds of frames in which a broadcast goes out there, or NULL. */
+/* The kinds of frames in which a broadcast goes out there, or NULL. (by RFC 1234 none does: packets have frames in the gateway alone) */
 static const char *kinds_on(const network *on, char words[KINDS_ROOM])
 {
-    if (on->set->kind == IPXR_NO_FRAME)
+    if (on->set->kind == IPXR_NO_FRAME || on->set->type == LINK_RFC1234)
         return NULL;
     return on->set->kind == ANY_KIND ? kinds_words(&on->kinds, words) : kind_word(on->set->kind);
 }
@@ -136,6 +138,64 @@ static bool next_client(gateway *it, cursor *so_far, sheet *s)
     field_number(s, dropped_of(&client));
     record_end(s);
     return true;
+}
+
+/* ---- Peers: places that are there, and behind them those that are called ---- */
+
+static const column PEER_COLUMNS[] = {{"network", "NETWORK", 8}, {"peer", "PEER", 21}, {"state", "STATE", 6}, {"heard", "HEARD", 5},
+                                      {"in", "IN", 10},         {"out", "OUT", 0},    {0}};
+
+static void show_place(const network *on, const place *it, const address *at, sheet *s)
+{
+    char where[ADDRESS_ROOM];
+    record_begin(s, PEER_COLUMNS);
+    field_network(s, on->set->network);
+    field_text(s, address_words(at, where));
+    field_text(s, "there");
+    field_number(s, (clock_now() - it->heard) / 1000);
+    field_number(s, it->in);
+    field_number(s, it->out);
+    record_end(s);
+}
+
+static void show_called(const network *on, const called *who, sheet *s)
+{
+    char where[PEER_ROOM];
+    record_begin(s, PEER_COLUMNS);
+    field_network(s, on->set->network);
+    field_text(s, peer_words(who, where));
+    field_text(s, "called");
+    for (int k = 0; k < 3; k++)
+        field_text(s, NULL);
+    record_end(s);
+}
+
+/* The next of a network, from one on; `index` goes behind it. Returns false where there is none. */
+static bool peer_of(const network *on, size_t *index, sheet *s)
+{
+    address at;
+    const peers *of = on->cable->peers;
+    for (; of != NULL && *index < IPXR_MOST_PEERS + of->called_count; ++*index) {
+        size_t number = *index;
+        if (number < IPXR_MOST_PEERS && peers_where(of, number, &at))
+            show_place(on, &of->places[number], &at, s);
+        else if (number >= IPXR_MOST_PEERS && !calling_reaches(of, number - IPXR_MOST_PEERS))
+            show_called(on, &of->called[number - IPXR_MOST_PEERS], s);
+        else
+            continue;
+        ++*index;
+        return true;
+    }
+    return false;
+}
+
+static bool next_peer(gateway *it, cursor *so_far, sheet *s)
+{
+    while (so_far->network < it->count && !peer_of(&it->networks[so_far->network], &so_far->index, s)) {
+        so_far->network++;
+        so_far->index = 0;
+    }
+    return so_far->network < it->count;
 }
 
 /* ---- Stations of networks that have several links, and of links of any kind ---- */
@@ -236,6 +296,21 @@ static bool next_service(gateway *it, cursor *so_far, sheet *s)
     return true;
 }
 
+/* ---- Events ---- */
+
+static const column EVENT_COLUMNS[] = {{0}};
+
+/* (they are kept as objects of JSON) */
+static bool next_event(gateway *it, cursor *so_far, sheet *s)
+{
+    (void)it;
+    const char *event = recent_next(&so_far->index);
+    if (event == NULL)
+        return false;
+    sheet_put(s, "%s", event);
+    return true;
+}
+
 /* ---- Sections ---- */
 
 static const struct {
@@ -244,10 +319,11 @@ static const struct {
     bool (*next)(gateway *it, cursor *so_far, sheet *s);
 } SECTIONS[] = {
     {"links", LINK_COLUMNS, next_link},    {"clients", CLIENT_COLUMNS, next_client},    {"stations", STATION_COLUMNS, next_station},
+    {"peers", PEER_COLUMNS, next_peer},
     {"routes", ROUTE_COLUMNS, next_route}, {"services", SERVICE_COLUMNS, next_service}, {"edge", EDGE_COLUMNS, shown_edge},
-    {"counts", COUNT_COLUMNS, shown_count},
+    {"counts", COUNT_COLUMNS, shown_count}, {"events", EVENT_COLUMNS, next_event},
 };
-enum { SECTION_COUNT = sizeof SECTIONS / sizeof *SECTIONS };
+enum { WITH_EVENTS = sizeof SECTIONS / sizeof *SECTIONS, SECTION_COUNT = WITH_EVENTS - 1 };
 
 bool shown_begin(cursor *so_far, const char *word)
 {
@@ -262,11 +338,27 @@ bool shown_begin(cursor *so_far, const char *word)
     return so_far->section < SECTION_COUNT;
 }
 
+void shown_begin_with_events(cursor *so_far)
+{
+    shown_begin(so_far, NULL);
+    so_far->has_events = true;
+    so_far->behind = WITH_EVENTS;
+}
+
+/* What stands before all sections. */
+static void begin_all(const gateway *it, const cursor *so_far, sheet *s)
+{
+    uint64_t now = clock_now();
+    sheet_put(s, "{\"release\": \"%s\", \"seconds\": %" PRIu64 ",\n", IPXR_RELEASE, (now - it->began) / 1000);
+    if (so_far->has_events)
+        sheet_put(s, "\"clock\": %" PRIu64 ".%03" PRIu64 ",\n", now / 1000, now % 1000);
+}
+
 /* What stands before a section, or is its headings. */
 static void begin_section(gateway *it, cursor *so_far, sheet *s)
 {
     if (s->form == AS_JSON && so_far->is_whole && so_far->section == 0)
-        sheet_put(s, "{\"release\": \"%s\", \"seconds\": %" PRIu64 ",\n", IPXR_RELEASE, (clock_now() - it->began) / 1000);
+        begin_all(it, so_far, s);
     if (s->form == AS_JSON && so_far->is_whole)
         sheet_put(s, "\"%s\": ", SECTIONS[so_far->section].word);
     if (s->form == AS_JSON)

@@ -1,4 +1,4 @@
-/* What `show` shows: links, clients, stations, routes, services, edge and counts, piece by piece, each record as it is when it is written. */
+/* What `show` shows: links, clients, stations, peers, routes, services, edge and counts, piece by piece, each record as it is when it is written. */
 #ifndef SHOWN_H
 #define SHOWN_H
 
@@ -9,6 +9,7 @@
 typedef struct cursor {
     size_t section, behind; /* the section, and the one behind the last */
     bool is_whole;          /* all of them are shown, in one object of JSON */
+    bool has_events;        /* and behind them the last events, with the time that it is by their clock */
     bool has_begun;         /* the section has its headings */
     size_t written;         /* records of it so far */
     size_t network, index;  /* the record that is next */
@@ -17,6 +18,9 @@ typedef struct cursor {
 
 /* Begins with a section by its word, or with all where there is none. Returns false where there is no such section. */
 bool shown_begin(cursor *so_far, const char *word);
+
+/* Begins with all, and the last events behind them (recent.h), for JSON. */
+void shown_begin_with_events(cursor *so_far);
 
 /* Writes the next piece, of at most MOST_RECORD bytes. Returns false where all is written. */
 bool shown_next(gateway *it, cursor *so_far, sheet *s);

@@ -19,7 +19,15 @@ enum {
     TIME_TO_ASK = 10000,  /* milliseconds in which somebody asks who has connected */
     TIME_TO_TAKE = 60000, /* and in which he takes something of what is for him */
     REST = 1000,          /* and for which nobody is taken where the system has no room for one more connection */
+    TIME_TO_HEAR = 1000,  /* and in which he hears it who is told that too many ask */
+    MOST_REFUSED = 8,     /* of whom so many are waited for */
 };
+
+/* Somebody who was told so. */
+typedef struct refused {
+    int fd;
+    uint64_t since; /* milliseconds of the clock */
+} refused;
 
 /* (there is one gateway in a program) */
 static struct {
@@ -27,6 +35,8 @@ static struct {
     int listener;
     viewer viewers[MOST_VIEWERS];
     size_t turn; /* whose turn it is to be shown something */
+    refused refused[MOST_REFUSED]; /* who came first stands first */
+    size_t refused_count;
     bool rests;           /* the system had no room for one more connection, which was told, */
     uint64_t rests_since; /* when it was asked last */
 } the = {.listener = -1};
@@ -38,11 +48,20 @@ bool status_open(const char *path)
     return the.listener >= 0;
 }
 
+/* Closes the connection of the first of those who were refused. */
+static void let_go(void)
+{
+    local_end(&the.refused[0].fd);
+    memmove(the.refused, the.refused + 1, --the.refused_count * sizeof *the.refused);
+}
+
 void status_close(void)
 {
     for (size_t k = 0; k < MOST_VIEWERS; k++)
         if (the.viewers[k].state != ABSENT)
             viewer_close(&the.viewers[k]);
+    while (the.refused_count > 0)
+        let_go();
     if (the.path != NULL)
         local_close(&the.listener, the.path);
     the.path = NULL;
@@ -91,7 +110,7 @@ static void show(gateway *it, viewer *v, const question *q)
         return;
     }
     if (is_word(section, "events")) {
-        if (!status_is_followed())
+        if (!events_are_followed())
             events_begin(it);
         v->state = FOLLOWS;
     } else if (shown_begin(&v->so_far, section)) {
@@ -142,6 +161,18 @@ static void rest(int fault)
         event("nobody can ask at %s now: %s", the.path, fault_words());
 }
 
+/* Tells somebody that too many ask. (a connection that is closed with something unheard is cut, and what is on its way may be lost: so it is
+ * closed a while later) */
+static void refuse(int fd)
+{
+    static const char FULL[] = "-too many ask at once: expected fewer\n\0001";
+    if (the.refused_count == MOST_REFUSED)
+        let_go();
+    (void)!connection_send(fd, (const uint8_t *)FULL, sizeof FULL - 1);
+    connection_finish(fd);
+    the.refused[the.refused_count++] = (refused){fd, clock_now()};
+}
+
 static void take_one(void)
 {
     int fd = local_take(the.listener);
@@ -151,10 +182,8 @@ static void take_one(void)
         viewer_begin(v, fd);
         return;
     }
-    static const char FULL[] = "-too many ask at once: expected fewer\n\0001";
     if (fd >= 0)
-        (void)!connection_send(fd, (const uint8_t *)FULL, sizeof FULL - 1);
-    close_any(&fd);
+        refuse(fd);
 }
 
 /* Something has come from somebody. */
@@ -238,8 +267,10 @@ static bool is_too_late(const viewer *v)
 
 void status_second(gateway *it)
 {
-    if (status_is_followed())
+    if (events_are_followed())
         events_second(it);
+    while (the.refused_count > 0 && clock_now() - the.refused[0].since >= TIME_TO_HEAR)
+        let_go();
     for (size_t k = 0; k < MOST_VIEWERS; k++) {
         viewer *v = &the.viewers[k];
         if (v->state != ABSENT && is_too_late(v))

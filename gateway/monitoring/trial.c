@@ -87,7 +87,7 @@ void trial_turn(gateway *it)
         return;
     trial.next += MINUTE;
     for (size_t k = 0; k < it->port_count; k++) {
-        bool has_frames = it->ports[k].count > 1 || first_of(it, &it->ports[k])->set->type != LINK_DOSBOX;
+        bool has_frames = it->ports[k].count > 1 || !has_tunnel(first_of(it, &it->ports[k])->set);
         if (has_frames && it->ports[k].is_up)
             ask(it, &it->ports[k]);
     }

@@ -6,6 +6,7 @@
 #include <string.h>
 
 #include "systems/clock.h"
+#include "systems/local.h"
 #include "systems/sockets.h"
 
 enum {
@@ -25,7 +26,7 @@ void viewer_begin(viewer *v, int fd)
 
 void viewer_close(viewer *v)
 {
-    close_any(&v->fd);
+    local_end(&v->fd);
     v->state = ABSENT;
 }
 
@@ -33,7 +34,7 @@ void viewer_close(viewer *v)
 
 bool viewer_asks(viewer *v)
 {
-    ssize_t length = connection_receive(v->fd, (uint8_t *)v->asked + v->asked_count, sizeof v->asked - v->asked_count);
+    ssize_t length = local_receive(v->fd, (uint8_t *)v->asked + v->asked_count, sizeof v->asked - v->asked_count);
     if (length < 0 && (errno == EAGAIN || errno == EINTR))
         return false;
     if (length <= 0 || v->asked_count + (size_t)length == sizeof v->asked) {
@@ -49,7 +50,7 @@ bool viewer_asks(viewer *v)
 
 bool viewer_stays(viewer *v)
 {
-    ssize_t length = connection_receive(v->fd, (uint8_t *)v->asked, sizeof v->asked);
+    ssize_t length = local_receive(v->fd, (uint8_t *)v->asked, sizeof v->asked);
     return length > 0 || (length < 0 && (errno == EAGAIN || errno == EINTR));
 }
 

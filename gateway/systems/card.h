@@ -8,8 +8,8 @@
 #include <stdint.h>
 #include <sys/types.h>
 
-/* Whether this system has them. */
-bool has_cards(void);
+/* Which of them this system has, and whether it has switches of VDE: one of IPXR_CARDS_.. */
+uint8_t has_cards(void);
 
 /* A TAP by its name, made where there is none and it may be made; tells its number. Returns it, or -1. */
 int tap_open(const char *name, unsigned *index);
@@ -46,5 +46,25 @@ typedef enum {
 /* How the interface is that has a name now. Tells its number, or 0 where there is none or it isn't known; and its own address, where it is
  * there and Ethernet. */
 card_state interface_state(const char *name, unsigned *index, uint8_t card[6]);
+
+enum {
+    CARD_NAME_ROOM = 260,   /* bytes of a card's name as the system shows it, with the 0 behind */
+    CARD_WORD_ROOM = 16,    /* and of what a configuration may write for it */
+    MOST_CARDS_LISTED = 256,
+};
+
+/* A card of Ethernet, as it is listed. */
+typedef struct card_listed {
+    char name[CARD_NAME_ROOM];
+    char other[CARD_WORD_ROOM]; /* what names it too in a configuration, where its name can't stand there; or empty */
+    card_state state;
+    uint8_t card[6];
+} card_listed;
+
+/* The cards that are there, as many as there is room for. Returns how many. */
+size_t cards_list(card_listed *list, size_t room);
+
+/* What the system lacks, in words, so that no interface can be opened; or NULL. */
+const char *cards_lack(void);
 
 #endif

@@ -33,6 +33,7 @@ typedef struct departure {
     address to;
     size_t length;
     const uint8_t *bytes;
+    bool may_be_gone; /* nothing has come from there for seconds */
 } departure;
 
 #endif

@@ -28,17 +28,21 @@ bool datagram_send(int fd, const uint8_t *bytes, size_t length);
 bool datagram_send_to(int fd, const departure *what);
 
 /* Sends datagrams, at least one and at most MOST_TOGETHER, to places that have answered lately. Returns how many of the first are on their
- * way: 0 where the system refused the very first. */
+ * way: 0 where the system refused the very first, or where so much waits already that the rest of the room is for those who are surely there. */
 size_t datagrams_send(int fd, const departure *list, size_t count);
 
 /* Waits at an address for connections; `local` is told the port. Returns the socket, or -1. */
 int listener_open(address *local);
 
 /* The connection that came in, and who began it; or -1. A connection is lost where the machine at its other end hasn't acknowledged
- * anything for a minute, like one whose plug was pulled. */
+ * anything for a minute, like one whose plug was pulled. Of what goes on a connection the system keeps no more than some kilobytes. */
 int listener_take(int listener, address *from);
 
-/* Begins a connection. Returns its socket, or -1. */
+/* Of each connection that comes in there from now on, the system keeps no more than some kilobytes of what comes, too: whoever isn't waited for
+ * may let it lie. (where the system refuses, it keeps what it likes) */
+void listener_keep_little(int listener);
+
+/* Begins a connection, of which the system keeps as little. Returns its socket, or -1. */
 int connection_begin(const address *remote);
 
 /* Whether it has come about: 1, 0 not yet, -1 it failed; then errno has the reason. */
@@ -47,6 +51,13 @@ int connection_state(int fd);
 /* Whether a socket is connected with itself: a system does so where nobody listens at a port, and gives the socket that very port; and
  * where datagrams are to go to an address of this machine, which the socket has. */
 bool connection_is_own(int fd);
+
+/* Nothing more goes on a connection, which the other end is told behind all that is under way; it may still say something. */
+void connection_finish(int fd);
+
+/* Lets the system keep no more than so many bytes, or some more, of what has come on a connection and of what it hasn't sent yet,
+ * where it knows that. */
+void connection_keep_little(int fd, int bytes);
 
 /* Whether the other end has not acknowledged for a minute what was sent to it, and the system would go on trying. */
 bool connection_is_dead(int fd);

@@ -10,8 +10,19 @@
 /* Of the status socket: those who ask, and where they come in. */
 enum { MOST_VIEWERS = 8, MOST_STATUS_WATCHED = MOST_VIEWERS + 1 };
 
+/* And the same of the status' page. */
+enum { MOST_VISITORS = 8, MOST_STATUS_PAGE_WATCHED = MOST_VISITORS + 1 };
+
+/* Of links by WebSocket: those who are pages of one, those who ask for one, and some who just went; and where they come in. */
+enum {
+    MOST_PAGES = 512,
+    MOST_ASKING = 64,
+    MOST_CONNECTIONS = MOST_PAGES + 2 * MOST_ASKING,
+    MOST_WEB_WATCHED = MOST_CONNECTIONS + MOST_LINKS,
+};
+
 /* A cable has two at most: a connection, and where connections come in. */
-#define MOST_WATCHED (2 * MOST_LINKS + MOST_STATUS_WATCHED)
+#define MOST_WATCHED (2 * MOST_LINKS + MOST_STATUS_WATCHED + MOST_STATUS_PAGE_WATCHED + MOST_WEB_WATCHED)
 
 typedef struct watch {
     int fd;

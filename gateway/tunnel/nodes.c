@@ -1,6 +1,7 @@
 #include "tunnel/nodes.h"
 
 #include <errno.h>
+#include <string.h>
 
 #include "ipx.h"
 #include "monitoring/note.h"
@@ -48,9 +49,11 @@ void nodes_tell(void)
           at_start.became == CANT_BE_KEPT ? NAME " can't be kept: " : "", reason_of(at_start.became, at_start.fault));
 }
 
-void node_make(const uint8_t key[SIPHASH_KEY], const uint8_t place[NODE], uint8_t node[NODE])
+void node_make(const uint8_t key[SIPHASH_KEY], const uint8_t place[NODE], bool is_connection, uint8_t node[NODE])
 {
-    uint64_t hash = siphash(key, place, NODE);
+    uint8_t text[NODE + 1] = {0};
+    memcpy(text, place, NODE);
+    uint64_t hash = siphash(key, text, is_connection ? sizeof text : NODE);
     node[0] = LOCAL_NODE;
     for (int k = 1; k < NODE; k++)
         node[k] = (uint8_t)(hash >> 8 * k);

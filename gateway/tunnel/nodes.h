@@ -15,7 +15,8 @@ bool nodes_begin(uint8_t key[SIPHASH_KEY]);
 /* Tells once that the key can't be kept, if it can't, and what that means. */
 void nodes_tell(void);
 
-/* The node of a place: 40 bits of it are the hash. */
-void node_make(const uint8_t key[SIPHASH_KEY], const uint8_t place[6], uint8_t node[6]);
+/* The node of a place: 40 bits of it are the hash. (a program's connection may have the address and port that another's datagrams have, and is
+ * another place) */
+void node_make(const uint8_t key[SIPHASH_KEY], const uint8_t place[6], bool is_connection, uint8_t node[6]);
 
 #endif

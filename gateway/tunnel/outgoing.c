@@ -26,9 +26,10 @@ void outgoing_begin(network *on, const uint8_t *packet, size_t length)
 void outgoing_copy(network *on, const uint8_t place[NODE])
 {
     outgoing *it = &on->outgoing;
+    const member *to = roster_find(&on->roster, place);
     if (it->count == MOST_TOGETHER)
         outgoing_send(on);
-    it->list[it->count] = (departure){address_of(place), it->length, it->packet};
+    it->list[it->count] = (departure){address_of(place), it->length, it->packet, to == NULL || roster_only_listens(to)};
     it->is_first[it->count++] = it->begins;
     it->begins = false;
 }
@@ -71,7 +72,7 @@ void outgoing_send(network *on)
 
 void outgoing_own(network *on, const uint8_t place[NODE], const uint8_t *bytes, size_t length, bool is_client)
 {
-    departure what = {address_of(place), length, bytes};
+    departure what = {.to = address_of(place), .length = length, .bytes = bytes};
     outgoing_send(on);
     if (is_client ? cable_send_all(on->cable, &what, 1) == 1 : cable_send_to(on->cable, &what))
         on->counts.out++;

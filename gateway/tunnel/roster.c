@@ -4,6 +4,10 @@
 #include <string.h>
 
 #include "ipx.h"
+#include "limits/meter.h"
+
+/* Seconds without a word, after which a client may be gone. */
+enum { LISTENS_AFTER = 2 };
 
 bool roster_make(roster *it, size_t room)
 {
@@ -81,6 +85,11 @@ void roster_remove(roster *it, const uint8_t place[6])
     memmove(gone, gone + 1, (size_t)(it->list + it->count - gone) * sizeof *gone);
     it->list[it->count].queues = queues;
     it->last = 0;
+}
+
+bool roster_only_listens(const member *it)
+{
+    return limit_clock() - it->heard >= LISTENS_AFTER * (uint64_t)SECOND_NS;
 }
 
 int roster_silence(const member *it, uint64_t second, int told)

@@ -32,6 +32,7 @@ typedef struct member {
     uint64_t refused; /* datagrams for it that the system didn't take */
     uint64_t dropped[DROPS];
     speaker *speaks;  /* its address */
+    uint64_t heard;   /* when something came from it last, by the clock of limits */
     bool is_trusted;  /* whether that needn't answer pings */
     bool is_by_line;  /* whether it is reached by the narrow line */
     receiver *queues; /* what it receives of each who speaks to it */
@@ -64,6 +65,9 @@ member *roster_of_node(roster *it, const uint8_t node[6]);
 /* A client comes, whose address is trusted or not, and which is reached by the narrow line or not. */
 void roster_add(roster *it, const uint8_t place[6], const uint8_t node[6], bool is_trusted, bool is_by_line);
 void roster_remove(roster *it, const uint8_t place[6]);
+
+/* Whether nothing has come from a client for two seconds: it may be switched off. (a game says something more often) */
+bool roster_only_listens(const member *it);
 
 /* Seconds since a client answered: its tunnel, which a reload may have made, says how many in this second of the tunnels. (an answer in the
  * second of the reload, but behind it, isn't seen) */

@@ -31,17 +31,22 @@ enum { FOR_REGISTRATION = 4 };
 
 /* ---- Beginning and end ---- */
 
-int32_t tunnel_open(const gateway *it, network *on)
+int32_t tunnel_make(const network *on, ipxr_keyed *made)
 {
     ipxr_keyed_setting set = {.network = on->set->network, .capacity = on->set->clients, .share = on->set->per_address,
                               .remembered = MOST_REMEMBERED, .remembered_share = MOST_REMEMBERED_OF_ONE};
     memcpy(set.node, on->node, NODE);
+    return ipxr_keyed_make(made, &set);
+}
+
+int32_t tunnel_open(const gateway *it, network *on)
+{
     throttle_set(&on->throttle, on->set);
     if (!roster_make(&on->roster, on->set->clients) || !strangers_make(&on->strangers, on->set->strangers, it->key) ||
         !pings_make(&on->pings, on->set->kilobits > 0 ? on->set->clients : 0) ||
         !pings_make(&on->again, on->set->kilobits > 0 ? MOST_AGAIN : 0))
         return IPXR_OUT_OF_MEMORY;
-    return ipxr_keyed_make(&on->tunnel, &set);
+    return tunnel_make(on, &on->tunnel);
 }
 
 void tunnel_close(network *on)
@@ -103,6 +108,17 @@ static reason why_not(network *on, const uint8_t place[NODE], uint8_t queue, siz
     return why;
 }
 
+/* Copies of a packet are to go by a narrow line: somebody says it, or the router itself where that is NULL. */
+static void begin_on_line(const origin *by, uint8_t queue, const uint8_t *packet, size_t length)
+{
+    if (by == NULL)
+        line_begin_router(is_broadcast(packet + AT_TO_NODE), length);
+    else if (queue == OF_PINGS)
+        line_begin_ping(length);
+    else
+        line_begin(&by->speaks->line, length);
+}
+
 /* Sends what somebody says, or the router itself where that is NULL, to the clients that get it, as the tunnel said, and as far as each
  * receives it. Returns to how many it doesn't go since they received too much. */
 static size_t send_carried(network *on, const origin *by, const uint8_t *packet, size_t length)
@@ -112,10 +128,8 @@ static size_t send_carried(network *on, const origin *by, const uint8_t *packet,
     if (ipxr_keyed_receivers(&on->tunnel) == 0)
         return 0;
     uint8_t queue = throttle_queue(by);
-    if (on->set->kilobits > 0 && queue == OF_PINGS)
-        line_begin_ping(length);
-    else if (on->set->kilobits > 0)
-        line_begin(by != NULL ? by->line : NULL, length);
+    if (on->set->kilobits > 0)
+        begin_on_line(by, queue, packet, length);
     outgoing_begin(on, packet, length);
     for (size_t k = 0; ipxr_keyed_receiver(&on->tunnel, k, place) == 0; k++) {
         if (why_not(on, place, queue, length) == REASONS)
@@ -284,7 +298,7 @@ ipxr_keyed_sender tunnel_sender(const gateway *it, network *on, const address *f
     ipxr_keyed_sender sender = {.is_trusted = ranges_have(&on->set->trusted, from), .may_register = true};
     uint64_t minute = it->seconds / MINUTE;
     place_of(from, sender.place);
-    node_make(it->nodes, sender.place, sender.node);
+    node_make(it->nodes, sender.place, on->set->type == LINK_WEB, sender.node);
     memcpy(sender.former, is_by_address(on, sender.place) ? sender.place : sender.node, NODE);
     cookie_make(it->key, sender.place, minute, sender.current);
     cookie_make(it->key, sender.place, minute - 1, sender.previous);
@@ -345,7 +359,8 @@ static member *client_of(const incoming *in)
 static void note_client(incoming *in)
 {
     member *from = in->client;
-    in->by = (origin){from->speaks, from, ipxr_kind_of(in->bytes, in->carried.length), &from->speaks->line};
+    in->by = (origin){.speaks = from->speaks, .client = from, .kind = ipxr_kind_of(in->bytes, in->carried.length)};
+    from->heard = limit_clock();
     if (has_replied(from, in->said)) {
         ipxr_asked_answer(&from->ping.moment);
         from->silent = 0;
@@ -422,6 +437,7 @@ static bool is_for_far_routers(incoming *in)
 static reason lets_say(incoming *in)
 {
     network *on = in->carried.on;
+    throttle_note(&in->by);
     reason why = throttle_lets_say(&on->throttle, &in->by);
     in->is_let_ask = in->by.kind == IPXR_KIND_QUESTION && on->segment != NULL;
     return why == REASONS && in->is_let_ask ? throttle_hands(&on->throttle, &in->by) : why;

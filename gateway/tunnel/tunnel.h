@@ -8,6 +8,9 @@
 int32_t tunnel_open(const gateway *it, network *on);
 void tunnel_close(network *on);
 
+/* Makes only who is a client, as the library has it, by the network's line. */
+int32_t tunnel_make(const network *on, ipxr_keyed *made);
+
 /* A datagram came on a network of the tunnel. Its bytes stay where they are until gateway_flush. */
 void tunnel_hear(gateway *it, network *on, uint8_t *bytes, size_t length, const address *from);
 

@@ -514,13 +514,15 @@ export interface Configured {
     sockets: number[];
     allowed: RangeSaid[];
     trusted: RangeSaid[];
+    origins: { text: string }[];
     nodesByAddress: boolean;
     adopts: boolean;
     rules: RuleSaid[];
     staticRoutes: StaticRoute[];
     staticServices: StaticService[];
+    peers: { line: number; at: Host; host: string }[];
 }
-export function settingsLine(text: string, how?: { hasCards?: boolean; isBelowTunnel?: boolean; mostClients?: number }):
+export function settingsLine(text: string, how?: { hasCards?: boolean | number; isBelowTunnel?: boolean; mostClients?: number }):
     { expected: number; said: Settings };
 export function settingsWord(text: string, number: number): { start: number; word: string } | null;
 export function settingsSocket(word: string): number;
@@ -532,7 +534,7 @@ export function settingsLinkWords(link:
     Partial<Omit<SettingLink, "local" | "remote">> & { local?: Partial<Host>; remote?: Partial<Host> }): string;
 export class Configuration extends Held {
     constructor();
-    line(text: string, how?: { hasCards?: boolean }): { expected: number; said: Settings; wrong: LineWrong };
+    line(text: string, how?: { hasCards?: boolean | number }): { expected: number; said: Settings; wrong: LineWrong };
     unlinked(): number;
     internal(): { line: number; number: number; node: Uint8Array } | null;
     links(): Configured[];

@@ -16,9 +16,16 @@ function textAt(text, what) {
     return given(bytes, what);
 }
 
+// Which cards a system has: all or none, or one of Cards.
+function cardsOf(value) {
+    if (typeof value === "boolean") return Number(value);
+    inside.whole(value, 0xff, "hasCards");
+    return value;
+}
+
 /** What a line says by itself, and what was expected where it is wrong: one of Expected, or 0. */
 export function settingsLine(text, { hasCards = true, isBelowTunnel = false, mostClients = MOST_CLIENTS } = {}) {
-    const flags = [hasCards, isBelowTunnel].map((it) => Number(flagOf(it, "an option")));
+    const flags = [cardsOf(hasCards), Number(flagOf(isBelowTunnel, "an option"))];
     inside.whole(mostClients, 0xffff, "the most clients");
     const { at, length } = textAt(text, "the line");
     const [said] = lend(sized("ipxr_setting"));
@@ -87,10 +94,10 @@ export class Configuration extends Held {
 
     /** Reads the next line: what it says, what was expected where it is wrong (one of Expected, or 0), and what else is wrong. */
     line(text, { hasCards = true } = {}) {
-        const flag = Number(flagOf(hasCards, "an option"));
+        const cards = cardsOf(hasCards);
         const { at, length } = textAt(text, "the line");
         const [said, wrong] = lend(sized("ipxr_setting"), sized("ipxr_line_wrong"));
-        const expected = raw.ipxr_configuration_line(this.address, at, length, ++this.#lines, flag, said, wrong);
+        const expected = raw.ipxr_configuration_line(this.address, at, length, ++this.#lines, cards, said, wrong);
         return { expected, said: read("ipxr_setting", said), wrong: read("ipxr_line_wrong", wrong) };
     }
 

@@ -6,7 +6,7 @@ import { networkOf, nodeOf, placeOf, socketOf } from "./text.mjs";
 
 const [NODE, MOST_TIME] = [6, 2n ** 64n - 1n];
 // Arrays of bytes that are texts, by how many bytes they have.
-const TEXTS = [16, 48, 254];
+const TEXTS = [16, 48, 89, 254];
 // Structs of which only some fields count, so that the others may be left away.
 const PARTLY = new Set(["ipxr_rule", "ipxr_plan_link", "ipxr_setting_host", "ipxr_setting_link"]);
 // What stands for a field that is left away.

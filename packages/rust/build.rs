@@ -46,7 +46,7 @@ fn link_ready(tools: &Tools, folder: &Path) {
     println!("cargo:rustc-link-search=native={}", folder.display());
     println!("cargo:rustc-link-lib=static=ipxr");
     let beside = [folder.to_path_buf(), folder.join("../include")];
-    if let Some(headers) = beside.iter().find(|it| it.join("ipxr_edge.h").is_file()) {
+    if let Some(headers) = beside.iter().find(|it| it.join("ipxr_peers.h").is_file()) {
         tools.archive("ipxr_layouts", &[tools.compiled(LAYOUTS, Some(headers))]);
         println!("cargo:rustc-cfg=ipxr_layouts");
     }

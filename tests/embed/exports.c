@@ -2,7 +2,7 @@
  * answers is read back: the first wrong answer is named, and the program ends with 1. dev/exports sees that it fails where two exports,
  * two arguments or two fields are exchanged. What is wanted was given here, or follows from the documents: docs/PACKETS.md,
  * docs/ROUTER.md, docs/TUNNEL.md, docs/SEGMENT.md, docs/RELOAD.md, docs/GATEWAY-REFERENCE.md, docs/FAIR.md, docs/LIMITS.md,
- * docs/CABLE.md, docs/FATES.md and docs/EDGE.md. */
+ * docs/CABLE.md, docs/FATES.md, docs/EDGE.md and docs/PEERS.md. */
 #include <stdio.h>
 #include <stdlib.h>
 #include <string.h>
@@ -12,6 +12,7 @@
 #include "ipxr_edge.h"
 #include "ipxr_fates.h"
 #include "ipxr_limits.h"
+#include "ipxr_peers.h"
 #include "ipxr_plan.h"
 #include "ipxr_segment.h"
 #include "ipxr_settings.h"
@@ -1672,6 +1673,98 @@ static void words_of_a_link(void)
     WROTE_TEXT(TAP, room);
 }
 
+/* Links to a group and to a switch, and what a system has. */
+static void a_group_and_a_switch(void)
+{
+    static const char GROUP[] = "qemu-mcast 230.0.0.1:1234 via 192.168.1.2 raw", SWITCH[] = "vde /run/a snap";
+    uint8_t room[IPXR_LONGEST_LINK];
+    ipxr_setting said;
+    memset(&said, 0xAA, sizeof said);
+    memset(room, 0xAA, sizeof room);
+    ANSWERS(0, ipxr_settings_line(READS("link qemu-mcast 230.0.0.1:1234 via 192.168.1.2 raw"), IPXR_CARDS_NONE, 0, 100, &said));
+    WROTE(IPXR_OVER_GROUP, said.link.carrier);
+    WROTE_BYTES("C0A80102", said.link.local.four);
+    WROTE(0, said.link.local.port);
+    WROTE_BYTES("E6000001", said.link.remote.four);
+    WROTE(1234, said.link.remote.port);
+    ANSWERS(sizeof GROUP - 1, ipxr_settings_link_words(&said.link, room, sizeof room));
+    WROTE_TEXT(GROUP, room);
+    memset(room, 0xAA, sizeof room);
+    ANSWERS(0, ipxr_settings_line(READS("link vde /run/a snap"), IPXR_CARDS_ALL, 0, 100, &said));
+    WROTE(IPXR_OVER_SWITCH, said.link.carrier);
+    WROTE_BYTES("2F72756E2F61 0000", said.link.host);
+    ANSWERS(sizeof SWITCH - 1, ipxr_settings_link_words(&said.link, room, sizeof room));
+    WROTE_TEXT(SWITCH, room);
+    ANSWERS(IPXR_EXPECTED_LINK_OF_SYSTEM, ipxr_settings_line(READS("link vde /run/a snap"), IPXR_CARDS_INTERFACES, 0, 100, &said));
+    ANSWERS(IPXR_EXPECTED_LINK_OF_SYSTEM, ipxr_settings_line(READS("link tap Aa raw"), IPXR_CARDS_INTERFACES, 0, 100, &said));
+    ANSWERS(0, ipxr_settings_line(READS("link interface Aa raw"), IPXR_CARDS_INTERFACES, 0, 100, &said));
+    ANSWERS(IPXR_EXPECTED_GROUP, ipxr_settings_line(READS("link qemu-mcast 1.2.3.4:5 raw"), IPXR_CARDS_NONE, 0, 100, &said));
+    ANSWERS(IPXR_EXPECTED_VIA_OR_FRAMES, ipxr_settings_line(READS("link qemu-mcast 230.0.0.1:1"), IPXR_CARDS_NONE, 0, 100, &said));
+    ANSWERS(IPXR_EXPECTED_CARD, ipxr_settings_line(READS("link qemu-mcast 230.0.0.1:1 via 0.0.0.0 raw"), IPXR_CARDS_NONE, 0, 100, &said));
+    ANSWERS(IPXR_EXPECTED_SWITCH, ipxr_settings_line(READS("link vde"), IPXR_CARDS_ALL, 0, 100, &said));
+}
+
+/* Links of clients by WebSocket, and where their pages come from. */
+static void clients_by_websocket(void)
+{
+    static const char TUNNEL[] = "web 127.0.0.1:8080", FRAMES[] = "web 0.0.0.0:8080 raw";
+    uint8_t room[IPXR_LONGEST_LINK];
+    ipxr_setting said;
+    memset(&said, 0xAA, sizeof said);
+    memset(room, 0xAA, sizeof room);
+    ANSWERS(0, ipxr_settings_line(READS("link web 8080"), IPXR_CARDS_NONE, 0, 100, &said));
+    WROTE(IPXR_OVER_WEB, said.link.carrier);
+    WROTE(IPXR_NO_FRAME, said.link.frames);
+    WROTE_BYTES("7F000001", said.link.local.four);
+    WROTE(8080, said.link.local.port);
+    ANSWERS(sizeof TUNNEL - 1, ipxr_settings_link_words(&said.link, room, sizeof room));
+    WROTE_TEXT(TUNNEL, room);
+    memset(room, 0xAA, sizeof room);
+    ANSWERS(0, ipxr_settings_line(READS("link web 0.0.0.0:8080 raw"), IPXR_CARDS_NONE, 0, 100, &said));
+    WROTE(IPXR_OVER_WEB, said.link.carrier);
+    WROTE(IPXR_FRAME_RAW, said.link.frames);
+    ANSWERS(sizeof FRAMES - 1, ipxr_settings_link_words(&said.link, room, sizeof room));
+    WROTE_TEXT(FRAMES, room);
+    ANSWERS(IPXR_EXPECTED_FRAMES_OR_NOTHING, ipxr_settings_line(READS("link web 8080 fast"), IPXR_CARDS_NONE, 0, 100, &said));
+    ANSWERS(0, ipxr_settings_line(READS("origins http://a *"), IPXR_CARDS_NONE, 1, 100, &said));
+    WROTE(IPXR_SETTING_ORIGINS, said.kind);
+    ANSWERS(IPXR_EXPECTED_ORIGIN, ipxr_settings_line(READS("origins a"), IPXR_CARDS_NONE, 1, 100, &said));
+}
+
+/* Links to other places, and where these are. */
+static void other_places(void)
+{
+    static const char PEERS[] = "peers 0.0.0.0:2131 /a.key llc", RFC1234[] = "rfc1234 192.0.2.7:213";
+    uint8_t room[IPXR_LONGEST_LINK];
+    ipxr_setting said;
+    memset(&said, 0xAA, sizeof said);
+    memset(room, 0xAA, sizeof room);
+    ANSWERS(0, ipxr_settings_line(READS("link peers 0.0.0.0:2131 /a.key llc"), IPXR_CARDS_NONE, 0, 100, &said));
+    WROTE(IPXR_OVER_PEERS, said.link.carrier);
+    WROTE(IPXR_FRAME_LLC, said.link.frames);
+    WROTE(2131, said.link.local.port);
+    WROTE_BYTES("2F612E6B6579 0000", said.link.host);
+    ANSWERS(sizeof PEERS - 1, ipxr_settings_link_words(&said.link, room, sizeof room));
+    WROTE_TEXT(PEERS, room);
+    memset(room, 0xAA, sizeof room);
+    ANSWERS(0, ipxr_settings_line(READS("network 1 1 576 rfc1234 192.0.2.7:213"), IPXR_CARDS_NONE, 0, 100, &said));
+    WROTE(IPXR_OVER_RFC1234, said.link.carrier);
+    WROTE(IPXR_NO_FRAME, said.link.frames);
+    WROTE_BYTES("C0000207", said.link.local.four);
+    ANSWERS(sizeof RFC1234 - 1, ipxr_settings_link_words(&said.link, room, sizeof room));
+    WROTE_TEXT(RFC1234, room);
+    ANSWERS(IPXR_EXPECTED_KEY_FILE, ipxr_settings_line(READS("link peers 2131"), IPXR_CARDS_NONE, 0, 100, &said));
+    ANSWERS(IPXR_EXPECTED_CARD_AND_PORT, ipxr_settings_line(READS("link rfc1234 0.0.0.0:213"), IPXR_CARDS_NONE, 0, 100, &said));
+    ANSWERS(0, ipxr_settings_line(READS("peer 192.0.2.9:213"), IPXR_CARDS_NONE, 0, 100, &said));
+    WROTE(IPXR_SETTING_PEER, said.kind);
+    WROTE(0, said.link.has_word);
+    WROTE_BYTES("C0000209", said.link.remote.four);
+    WROTE(213, said.link.remote.port);
+    ANSWERS(0, ipxr_settings_line(READS("peer a.b:213"), IPXR_CARDS_NONE, 0, 100, &said));
+    WROTE_BYTES("612E62 0000", said.link.host);
+    ANSWERS(IPXR_EXPECTED_REMOTE, ipxr_settings_line(READS("peer 192.0.2.9"), IPXR_CARDS_NONE, 0, 100, &said));
+}
+
 /* A route and a service by way of a node. */
 static void a_static_line(void)
 {
@@ -1719,6 +1812,9 @@ static void a_line(void)
     ipxr_setting_range range = {{0}, 0};
     a_link();
     words_of_a_link();
+    a_group_and_a_switch();
+    clients_by_websocket();
+    other_places();
     ANSWERS(0, ipxr_settings_line(READS("rate 100 50 70"), 0, 1, 100, &said));
     WROTE(100, said.numbers[0]);
     WROTE(50, said.numbers[1]);
@@ -1965,6 +2061,64 @@ static void an_own_network(void)
     WROTE(4, all.above);
 }
 
+/* Where the pages of clients by WebSocket come from. */
+static void pages_of_clients(void)
+{
+    ipxr_setting said;
+    ipxr_line_wrong wrong;
+    ipxr_configured link;
+    memset(&link, 0xAA, sizeof link);
+    ANSWERS(0, SAYS(49, "network 50 1 1424 dosbox 55"));
+    ANSWERS(IPXR_EXPECTED_BELOW_WEB, SAYS(50, "origins *"));
+    ANSWERS(0, SAYS(51, "network 51 1 1424 web 8080"));
+    ANSWERS(0, SAYS(52, "origins http://a *"));
+    WROTE(1, wrong.is_below_tunnel);
+    WROTE(2, all.links.list[all.links.count - 1].origins.count);
+    WROTE_BYTES("2A 00", all.links.list[all.links.count - 1].origins.list[1].text);
+    ANSWERS(1, ipxr_configuration_link(&all, all.links.count - 1, &link));
+    WROTE(IPXR_OVER_WEB, link.carrier.number);
+    WROTE(0, link.trusted.count);
+    WROTE(2, link.origins.count);
+    WROTE_BYTES("687474703A2F2F61 00", link.origins.list[0].text);
+    WROTE(0, link.nodes_by_address);
+    WROTE(1, link.adopts);
+    WROTE(64, link.routes);
+}
+
+/* Other places of a network. */
+static void places_of_a_network(void)
+{
+    ipxr_setting said;
+    ipxr_line_wrong wrong;
+    ipxr_configured link;
+    memset(&link, 0xAA, sizeof link);
+    ANSWERS(0, SAYS(53, "network 60 1 1360"));
+    ANSWERS(IPXR_EXPECTED_BELOW_PEERS, SAYS(54, "peer 192.0.2.9:2131"));
+    ANSWERS(IPXR_EXPECTED_OWN_LINE, SAYS(55, "link rfc1234 192.0.2.7:213"));
+    WROTE(1, wrong.word);
+    ANSWERS(0, SAYS(56, "link peers 2131 /a.key raw"));
+    ANSWERS(IPXR_EXPECTED_ONE_PEERS, SAYS(57, "link peers 2132 /b.key raw"));
+    WROTE(56, wrong.line);
+    ANSWERS(0, SAYS(58, "link dosbox 2133"));
+    ANSWERS(0, SAYS(59, "peer 192.0.2.9:2131"));
+    ANSWERS(0, SAYS(60, "peer a.b:2131"));
+    ANSWERS(IPXR_EXPECTED_OTHER_PEER, SAYS(61, "peer a.b:2131"));
+    WROTE(1, wrong.word);
+    WROTE(60, wrong.line);
+    ANSWERS(IPXR_EXPECTED_PEER_OF_FOUR, SAYS(62, "peer [::1]:2131"));
+    WROTE(1, wrong.word);
+    ANSWERS(1, ipxr_configuration_link(&all, all.links.count - 2, &link));
+    WROTE(IPXR_OVER_PEERS, link.carrier.number);
+    WROTE(2, link.peers.count);
+    WROTE(59, link.peers.list[0].line);
+    WROTE_BYTES("C0000209", link.peers.list[0].at.four);
+    WROTE_BYTES("612E62 0000", link.peers.list[1].host);
+    WROTE(2131, link.peers.list[1].at.port);
+    ANSWERS(0, SAYS(63, "network 61 1 1472 rfc1234 192.0.2.7:213"));
+    ANSWERS(IPXR_EXPECTED_LONGEST_OF_LINK, SAYS(64, "network 62 1 1473 rfc1234 192.0.2.8:213"));
+    WROTE(1472, wrong.numbers[1]);
+}
+
 static void a_configuration(void)
 {
     ipxr_setting said;
@@ -2007,6 +2161,8 @@ static void a_configuration(void)
     all_is_told();
     a_line_is_wrong();
     an_own_network();
+    pages_of_clients();
+    places_of_a_network();
 }
 
 /* ---- The edge of a cable ---- */
@@ -2149,6 +2305,77 @@ static void filtered_packets(void)
     WROTE(34, passes);
 }
 
+/* ---- Gateways that share a network ---- */
+
+/* The session is 16 bytes from a first one on, the address 24. */
+static void opened(ipxr_opened *it, uint8_t session, uint8_t echo, uint8_t address, uint64_t number)
+{
+    for (size_t k = 0; k < sizeof it->address; k++) {
+        it->address[k] = (uint8_t)(address + k);
+        if (k < sizeof it->session)
+            it->session[k] = (uint8_t)(session + k), it->echo[k] = (uint8_t)(echo + k);
+    }
+    it->number = number;
+}
+
+/* A place says its fifth datagram, then its 300th from elsewhere; another one comes, and the first falls silent. */
+static void peers(void)
+{
+    static const uint8_t OWN[16] = {0x11, 0x12, 0x13, 0x14, 0x15, 0x16, 0x17, 0x18, 0x19, 0x1A, 0x1B, 0x1C, 0x1D, 0x1E, 0x1F, 0x20};
+    static ipxr_peers it;
+    ipxr_opened one;
+    uint8_t place = 99, session[16], address[24];
+    opened(&one, 0x51, 0x11, 0x81, 5);
+    ANSWERS(IPXR_PEERS_DROPPED, ipxr_peers_hear(&it, &one, &place));
+    CALLS(ipxr_peers_begin(&it, OWN));
+    WROTE_BYTES("1112131415161718191A1B1C1D1E1F20", it.session);
+    one.echo[15] = 0;
+    ANSWERS(IPXR_PEERS_GREET, ipxr_peers_hear(&it, &one, &place));
+    WROTE(99, place);
+    opened(&one, 0x51, 0x11, 0x81, 5);
+    ANSWERS(IPXR_PEERS_NEW, ipxr_peers_hear(&it, &one, &place));
+    WROTE(0, place);
+    ANSWERS(IPXR_PEERS_REPEATED, ipxr_peers_hear(&it, &one, &place));
+    opened(&one, 0x51, 0x11, 0xA1, 300);
+    place = 99;
+    ANSWERS(IPXR_PEERS_HEARD, ipxr_peers_hear(&it, &one, &place));
+    WROTE(0, place);
+    CALLS(ipxr_peers_second(&it));
+    opened(&one, 0x71, 0x11, 0xC1, 9);
+    ANSWERS(IPXR_PEERS_NEW, ipxr_peers_hear(&it, &one, &place));
+    WROTE(1, place);
+    WROTE(2, it.used);
+    WROTE(179, it.places[0].left);
+    WROTE(180, it.places[1].left);
+    WROTE(300, it.places[0].newest);
+    WROTE(5, it.places[0].slots[5]);
+    WROTE(300, it.places[0].slots[44]);
+    ANSWERS(1, ipxr_peers_number(&it));
+    ANSWERS(2, ipxr_peers_number(&it));
+    WROTE(2, it.sent);
+    ANSWERS(1, ipxr_peers_present(&it, 0, session, address));
+    WROTE_BYTES("5152535455565758595A5B5C5D5E5F60", session);
+    WROTE_BYTES("A1A2A3A4A5A6A7A8A9AAABACADAEAFB0B1B2B3B4B5B6B7B8", address);
+    WROTE_BYTES("5152535455565758595A5B5C5D5E5F60", it.places[0].session);
+    WROTE_BYTES("A1A2A3A4A5A6A7A8A9AAABACADAEAFB0B1B2B3B4B5B6B7B8", it.places[0].address);
+    for (int second = 0; second < 179; second++)
+        CALLS(ipxr_peers_second(&it));
+    ANSWERS(0, ipxr_peers_present(&it, 0, session, address));
+    ANSWERS(1, ipxr_peers_present(&it, 1, session, address));
+    WROTE_BYTES("7172737475767778797A7B7C7D7E7F80", session);
+    for (uint8_t k = 2; k < IPXR_MOST_PEERS; k++) {
+        opened(&one, k, 0x11, (uint8_t)(k + 100), 1);
+        one.session[0] = 0xEE;
+        ANSWERS(IPXR_PEERS_NEW, ipxr_peers_hear(&it, &one, &place));
+    }
+    opened(&one, 0xF1, 0x11, 0x31, 1);
+    ANSWERS(IPXR_PEERS_AGAIN, ipxr_peers_hear(&it, &one, &place));
+    opened(&one, 0x51, 0x11, 0xA1, 301);
+    ANSWERS(IPXR_PEERS_HEARD, ipxr_peers_hear(&it, &one, &place));
+    opened(&one, 0xF1, 0x11, 0x31, 1);
+    ANSWERS(IPXR_PEERS_FULL, ipxr_peers_hear(&it, &one, &place));
+}
+
 int main(void)
 {
     words();
@@ -2181,5 +2408,6 @@ int main(void)
     filtered_packets();
     others_on_the_cable();
     said_for_others();
+    peers();
     return 0;
 }

@@ -9,12 +9,13 @@ import time
 
 from lab import ALL_THERE_IS, EVERYONE, GAME, LIMIT, Clock, Gateway, address, packet, until
 from players import GUEST, NETWORK, Party, Player
-from spaces import CROWD, GATEWAY, NEIGHBOURS, STRANGERS, VICTIM, Field, Flood, build_flood, leave, own_addresses
+from spaces import CROWD, GATEWAY, NEIGHBOURS, STRANGERS, VICTIM, Field, Flood, build_flood, ip, leave, own_addresses
 from systems import SYSTEM
 from troubles import ROUTES, SERVICES, advertise, is_held
 from trying import begin, figures, named, tried, tried_on_own_system
 
 SECONDS = 2  # that a flood lasts
+WITHOUT_CARRIER = 4  # seconds in which clients without a word are taken for gone, and the kernel for the first time gives up to look for them
 LOOKED_FOR = 12  # seconds in which the kernel finds out that somebody is gone, and has looked for him again
 PATIENCE = 33  # seconds after which a client that doesn't answer is gone
 OWN = 30  # bytes of the gateway's own answers and pings
@@ -23,6 +24,9 @@ QUIET = 0.2  # seconds in which what was sent has come
 TUNNEL_LINE = f"network {NETWORK:X} 1 1424 dosbox 0.0.0.0:{GATEWAY[1]}\n"
 LONG_SHARES = f"{ALL_THERE_IS} dosbox"
 OTHER_PORT = GATEWAY[1] + 1
+OTHER_CABLE = "10.80.0"  # the first numbers of the addresses on one more cable of the gateway's
+# (what may be sent without it is as much as any program may)
+WITHOUT_RIGHTS = ("setpriv", "--bounding-set=-net_admin")
 # (the clock of these stands still, and so would a limit)
 STILL = TUNNEL_LINE + "rate none\nstrangers none\n"
 TWO = STILL.replace("dosbox", LONG_SHARES) + f"network 20 1 1424 dosbox 0.0.0.0:{OTHER_PORT}\nstrangers none\n"
@@ -40,14 +44,14 @@ class Playground:
     """A field with a gateway and a party that plays there."""
 
     def __init__(self, text=TUNNEL_LINE, numbers=(2, 2, 3), more=0, clock=None, environment=None, field=None, begins=True,
-                 program=None):
+                 program=None, rights=(), options=()):
         self.begins = begins
         self.field = field or Field()
         hosts = own_addresses(1, sum(numbers) + more)
         self.free = hosts[sum(numbers):]
         how = {"program": SYSTEM.fast, "environment": clock.environment()} if clock else {"program": program, "environment": environment}
         self.clock = clock
-        self.gate = Gateway(text, before=self.field.gate.within, **how)
+        self.gate = Gateway(text, before=[*self.field.gate.within, *rights], options=options, **how)
         self.party = Party(hosts, GATEWAY, numbers=numbers)
 
     def __enter__(self):
@@ -112,9 +116,9 @@ def during(seconds):
 # ---- Floods ----
 
 
-def invite(it):
+def invite(it, gateway=GATEWAY):
     """Guests at the free addresses come, and are heard."""
-    guests = [Player(host, GATEWAY) for host in it.free]
+    guests = [Player(host, gateway) for host in it.free]
     for guest in guests:
         guest.register()
 
@@ -218,6 +222,33 @@ def just_gone(number):
         none(it.play(during(LOOKED_FOR)))
 
 
+def more_cable(field, count):
+    """One more cable of the gateway's, and addresses of the test's own there."""
+    ip("link", "add", "t1", "type", "veth", "peer", "name", "g2")
+    ip("link", "set", "g2", "netns", str(field.gate.holder.pid))
+    field.gate.ip("addr", "add", f"{OTHER_CABLE}.1/24", "dev", "g2")
+    field.gate.ip("link", "set", "g2", "up")
+    ip("link", "set", "t1", "up")
+    hosts = [f"{OTHER_CABLE}.{2 + k}" for k in range(count)]
+    for it in hosts:
+        ip("addr", "add", f"{it}/24", "dev", "t1")
+    return hosts
+
+
+def without_carrier(number):
+    """Players are gone whose cable has lost its carrier: what is for them doesn't keep from others who speak what these should hear, also where
+    the gateway may send no more at once than any program."""
+    with Playground(TUNNEL_LINE + "strangers none\n", numbers=(0, 2, 3), rights=WITHOUT_RIGHTS) as it:
+        it.free = more_cable(it.field, number)
+        for guest in invite(it, (f"{OTHER_CABLE}.1", GATEWAY[1])):
+            guest.close()
+        ip("link", "set", "t1", "down")
+        it.party.play(during(WITHOUT_CARRIER))
+        it.party.settle()
+        it.party.begin_again(1000)
+        none(it.play(during(LOOKED_FOR)))
+
+
 # ---- Much for little ----
 
 
@@ -276,6 +307,7 @@ TESTS = [
     named("4 players switch their PCs off", gone, 4),
     named("8 players switch their PCs off", gone, 8),
     named("8 players have just switched their PCs off", just_gone, 8),
+    named("48 players are gone whose cable lost its carrier, and the gateway has the room of any program", without_carrier, 48),
     named("SAP's queries in a victim's name, with full tables", asked_for_others, "sap"),
     named("RIP's requests in a victim's name, with full tables", asked_for_others, "rip"),
     forged_clients,

@@ -194,6 +194,8 @@ def played_again():
             echoes(player, guests.nodes["is killed"])
             some_leave(gate, guests, player)
             echoes(player, stays)
+            if not has_linux("DOSBox' whose gateway is started anew", "Windows keeps no key of their nodes, so all have to connect again"):
+                return True
             if not gate.starts_again():
                 return False
             until(lambda: stays in told(gate, "comes to"), "it comes again")

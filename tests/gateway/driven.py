@@ -27,7 +27,13 @@ PATIENCE = 4.0  # seconds in which what is asked is answered
 DEAF = 0.2  # the most that is lost in such a while: a machine with much else to do may lose that itself, but not for long
 THERE, NOWHERE, TOLD, DRIVEN = 0x20, 0x99, 0x98, 0x97  # networks: another one, one that nobody has, and two that clients tell of
 WIRES = {0x30: (5001, 5002), 0x31: (5003, 5004)}  # networks of QEMU, with the gateway's port and the card's
-QUESTIONS = ((RIP, struct.pack(">HIHH", 1, THERE, 16, 1)), (SAP, struct.pack(">HH", 1, 4)), (SAP, struct.pack(">HH", 3, 4)))
+KINDS = 3  # of questions
+OF_CLIENTS, OF_PCS = 4, 7  # types of services: who asks, asks for those of the others (who has one on his own cable gets no answer for the nearest)
+
+
+def questions(kind):
+    """Questions to the router: for a route, for all services of a type, and for the nearest."""
+    return (RIP, struct.pack(">HIHH", 1, THERE, 16, 1)), (SAP, struct.pack(">HH", 1, kind)), (SAP, struct.pack(">HH", 3, kind))
 
 
 class Often:
@@ -59,7 +65,7 @@ class Asker(Player):
         super().hear(bytes_)
 
     def ask(self, k=0):
-        to, data = QUESTIONS[k % len(QUESTIONS)]
+        to, data = questions(OF_PCS)[k % KINDS]
         self.send(packet(address(self.network, EVERYONE, to), self.at(CHAT), data, kind=1))
 
     def tell(self, network, hops):
@@ -67,7 +73,7 @@ class Asker(Player):
 
     def offer(self):
         """There is a service, of which SAP's answers tell other networks."""
-        self.send(sap_response(self.network, self.node, [(4, "SERVES", self.network, self.node, GAME, 1)]))
+        self.send(sap_response(self.network, self.node, [(OF_CLIENTS, "SERVES", self.network, self.node, GAME, 1)]))
 
     def say_to(self, network, source=GAME, node=EVERYONE, number=0):
         """Says something to another network. (what a program says from the socket of pings is an answer to one)"""
@@ -89,11 +95,11 @@ class Card:
         self.wire.socket.sendto(frame("raw", EVERYONE, self.node, bytes_), (GATEWAY[0], WIRES[self.network][0]))
 
     def ask(self, k=0):
-        to, data = QUESTIONS[k % len(QUESTIONS)]
+        to, data = questions(OF_CLIENTS)[k % KINDS]
         self.send(packet(address(self.network, EVERYONE, to), address(self.network, self.node, CHAT), data, kind=1))
 
     def offer(self):
-        self.send(sap_response(self.network, self.node, [(4, "CARD", self.network, self.node, GAME, 1)]))
+        self.send(sap_response(self.network, self.node, [(OF_PCS, "CARD", self.network, self.node, GAME, 1)]))
 
     def tell(self, k):
         self.send(rip_response(self.network, self.node, [(0x1000 + k % 50, 1 + 15 * (k // 50 % 2), 2)]))
@@ -149,7 +155,7 @@ class Stage:
 
     def expect_answers(self, asks, what):
         """Somebody asks each kind of question of the router, and is answered."""
-        for k in range(len(QUESTIONS)):
+        for k in range(KINDS):
             before = asks.answered
             asks.ask(k)
             self.until(lambda: asks.answered > before, f"{what} isn't answered: {k}")

@@ -11,8 +11,8 @@ import time
 
 from lab import ALL_THERE_IS, LIMIT, Client, reaches, rip_response, tunnels
 from status import ROUTES, Watched, advertise
-from systems import SYSTEM
-from trying import Counts, begin, has_linux, tried
+from systems import SYSTEM, Windows
+from trying import begin, tried
 
 UNREACHABLE = 16  # hops
 
@@ -35,7 +35,7 @@ class Follower:
             assert piece, f"no event comes any more behind {self.rest}"
             self.rest += piece
         line, self.rest = self.rest.split(b"\n", 1)
-        return json.loads(line) if self.is_json else line.decode("ascii")
+        return json.loads(line) if self.is_json else line.decode("ascii").removesuffix("\r")
 
     def told(self, **wanted):
         """Waits for an event that has these."""
@@ -149,8 +149,8 @@ def late_reader():
 
 
 def main():
-    if not has_linux("following what happens"):
-        return Counts()
+    if SYSTEM is Windows:
+        return tried(come_and_go, links, in_words)
     return tried(come_and_go, links, links_by_reload, in_words, late_reader)
 
 

@@ -135,3 +135,11 @@ class Station:
             if not ready:
                 return None
             self.waiting += self.wire.receive()
+
+
+class Neighbour(Station):
+    """One that others on its wire hear, too: its frames are padded as they should be, and raw ones have an even length."""
+
+    def say(self, to, data, node=None, **how):
+        bytes_ = frame(self.kind, node or self.gateway, self.node, packet(to, self.at(), data, **how), b"\0")
+        self.wire.send(bytes_ + bytes(len(bytes_) % 2 if self.kind == "raw" else 0))

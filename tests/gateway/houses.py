@@ -4,7 +4,6 @@ the network in which the test runs plays the Internet between them.
     house A  eth0 198.51.100.1 ---- 198.51.100.254 a0  [ the test ]  b0 203.0.113.254 ---- 203.0.113.2 eth0  house B
 """
 import contextlib
-import ctypes
 import os
 import re
 import shutil
@@ -31,7 +30,6 @@ SHORT = 60  # bytes of IP that WireGuard sends when it has nothing to say
 PACE = 35  # packets a second, as games say: beyond are limits
 LONGEST, WHOLE = 1424, 1378  # bytes of the longest packet, and of the longest that WireGuard doesn't cut
 ROUTER = bytes.fromhex("020000000EE5")  # that somebody pretends
-NAMESPACE_OF_NETWORK = 0x40000000  # CLONE_NEWNET
 ALL_FRAMES = 3  # ETH_P_ALL
 UDP = 17
 
@@ -39,9 +37,9 @@ UDP = 17
 # ---- The page ----
 
 
-def blocks(heading):
-    """The indented blocks of a part of the page, in order."""
-    with open(PAGE, encoding="utf-8") as it:
+def blocks(heading, page=PAGE):
+    """The indented blocks of a part of a page, in order."""
+    with open(page, encoding="utf-8") as it:
         part = re.split(r"(?m)^## ", it.read())
     text = next(it for it in part if it.startswith(heading))
     return ["".join(f"{line[4:]}\n" for line in it.splitlines()) for it in re.findall(r"(?m)(?:^    .*\n|^\n(?=    ))+", text)]
@@ -98,17 +96,6 @@ class House(Space):
         with open(os.open(self.file, os.O_WRONLY | os.O_CREAT, 0o600), "w", encoding="utf-8") as it:
             it.write(text)
         self.run("wg-quick", "up", self.file)
-
-    @contextlib.contextmanager
-    def entered(self):
-        """What is opened meanwhile is in the house."""
-        libc = ctypes.CDLL(None, use_errno=True)
-        with open("/proc/thread-self/ns/net", "rb") as own, open(f"/proc/{self.holder.pid}/ns/net", "rb") as there:
-            assert libc.setns(there.fileno(), NAMESPACE_OF_NETWORK) == 0, os.strerror(ctypes.get_errno())
-            try:
-                yield
-            finally:
-                assert libc.setns(own.fileno(), NAMESPACE_OF_NETWORK) == 0
 
     def player(self, gate, network, is_of_several):
         """A DOSBox at home."""

@@ -297,6 +297,10 @@ class Client:
         self.udp.setsockopt(socket.SOL_SOCKET, socket.SO_RCVBUF, ROOM)
         self.udp.bind((host, own_port))
         self.udp.connect((to, port))
+        self.begin(registers, answers, gateway)
+
+    def begin(self, registers, answers, gateway):
+        """It is there, by its socket, and heard from now on."""
         own, own_port = self.udp.getsockname()
         self.place = own, own_port
         self.node = socket.inet_aton(own) + struct.pack(">H", own_port)
@@ -308,16 +312,19 @@ class Client:
             self.register()
 
     def receive(self):
-        """What has come, for who hears it later; a ping of the gateway's is answered."""
+        """What has come."""
         try:
-            bytes_ = self.udp.recv(65536, socket.MSG_DONTWAIT)
-            self.pings += is_ping(bytes_)
-            self.told += self.is_answer(bytes_)
-            if is_ping(bytes_) and self.answers:
-                self.answer(bytes_)
-            self.meets(bytes_)
+            self.take(self.udp.recv(65536, socket.MSG_DONTWAIT))
         except OSError:
             return  # (nobody is there who hears it)
+
+    def take(self, bytes_):
+        """What has come, for who hears it later; a ping of the gateway's is answered."""
+        self.pings += is_ping(bytes_)
+        self.told += self.is_answer(bytes_)
+        if is_ping(bytes_) and self.answers:
+            self.answer(bytes_)
+        self.meets(bytes_)
         self.heard.put(bytes_)
 
     def meets(self, bytes_):

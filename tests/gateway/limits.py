@@ -10,7 +10,7 @@ import struct
 import time
 
 from attacks import LONG_SHARES, OTHER_PORT, QUIET, TUNNEL_LINE, Playground, during, fill, flood, none
-from lab import EVERYONE, GAME, LIMIT, RIP, SAP, Clock, address, packet, played_anew, rip_response, until
+from lab import EVERYONE, GAME, LIMIT, RIP, SAP, Clock, address, packet, played_anew, rip_response, socket_of, until
 from players import FAST, NETWORK, Listener, Party, Player, Slow
 from spaces import GATEWAY, STRANGERS, build_flood, host
 from systems import SYSTEM
@@ -42,6 +42,8 @@ PORTS_THAT_REGISTER = 64  # more than are answered at once at one address
 MUTE, FILLED, PINGED = 9, 4, 11  # addresses; seconds after which their pings are too many; and after which who registered was pinged
 BACK, LONG = 4, 18  # who come back; and seconds that strangers register
 PINGS_LOST = 10  # or questions, of a flood, on their way to the gateway
+ANSWERING, PINGS, ANSWERS, STEP = 5, 15, 200, 0.1  # who answer pings, and how many; packets that look like answers, in so many seconds
+BETWEEN_PINGS = 13  # such steps from one ping to the next
 MOST_AHEAD = 1.5  # seconds by which a look at the clock may be late here
 
 
@@ -408,6 +410,45 @@ def an_address_is_one():
         assert lost == [BURST, 2 * BURST], lost
 
 
+class Pings(Player):
+    """A player whose program pings all."""
+
+    def __init__(self, *where):
+        super().__init__(*where)
+        self.answers = []  # the nodes of who answered
+
+    def ping(self):
+        self.send(packet(address(0, EVERYONE, PING), self.at(PING), kind=0))
+
+    def hear(self, bytes_):
+        if socket_of(bytes_) == PING and bytes_[10:16] == self.node:
+            self.answers.append(bytes_[22:28])
+        super().hear(bytes_)
+
+
+@played_anew
+def answers_are_flooded():
+    """A client says 2,000 packets a second that look like answers to pings: who pings all hears the answers of all."""
+    with Playground(TWO, numbers=(0, 0, 0), more=1 + ANSWERING + 1, clock=Clock()) as it:
+        pings, *others, floods = come(it, it.free, [GATEWAY[1]] * len(it.free), Pings)
+        nodes = [player.node for player in others]
+
+        def answered():
+            return sum(node in nodes for node in pings.answers)
+
+        for step in range(PINGS * BETWEEN_PINGS):
+            for _ in range(ANSWERS):
+                floods.send(packet(address(0, EVERYONE, CHAT), floods.at(PING), bytes(30)))
+            it.gate.report()
+            if step % BETWEEN_PINGS == 0:
+                pings.ping()
+                it.party.until(lambda before=answered(): answered() >= before + ANSWERING, QUIET)
+            it.let_pass(STEP)
+        it.party.until(lambda: False, QUIET)
+        figures(f"{answered()} answers of {ANSWERING} others to {PINGS} pings; {pings.beside} other packets")
+        assert answered() == ANSWERING * PINGS
+
+
 def chatter(it, player, count):
     """A client says something to all, so many times at once."""
     for _ in range(count):
@@ -571,6 +612,7 @@ TESTS = [
     named("by such a line he floods, by long packets", a_line_is_shared, "chat", FLOOD, LONGEST, 16),
     named("by such a line somebody floods one player", a_line_is_shared, "tell", FLOOD, 46, 0),
     an_address_is_one,
+    answers_are_flooded,
     what_an_address_receives,
     answers_to_pings_come_last,
     questions_of_an_address,

@@ -12,10 +12,10 @@ import threading
 import time
 
 from frames import KINDS, Station, Tcp, Udp, frame
-from lab import (EVERYONE, GAME, LIMIT, Client, Clock, Gateway, address, comes_next, free_ports, is_routers, packet, played_anew, reaches, tunnels,
-                 until)
+from lab import (AGAIN, EVERYONE, GAME, LIMIT, Client, Clock, Gateway, address, comes_next, free_ports, is_routers, packet, played_anew, reaches,
+                 tunnels, until)
 from systems import SYSTEM, Windows, fault_words
-from trying import begin, has_linux, left_out, tried
+from trying import begin, figures, has_linux, left_out, tried
 
 STATION = bytes.fromhex("020000000AA1")
 RESETS = 30
@@ -23,6 +23,7 @@ SOON = 0.05  # seconds in which a connection comes about, where there is room fo
 KNOCKS = 50  # connections a second
 WITHIN = 5  # seconds in which a PC is there, whoever else knocks
 LATE = 6  # seconds, after which a call that hasn't come about is given up
+MUCH, AT_ONCE, HELD = 4000, 20, 800  # long packets for a PC that doesn't read; so many at once; and most that it has to read thereafter
 
 
 def listening(port=0):
@@ -63,11 +64,12 @@ def both_ways(gate, station, far):
 
 
 def datagrams():
-    """A card that sends a frame a datagram reaches a DOSBox by each kind of frame, the node said or made up."""
+    """A card that sends a frame a datagram reaches a DOSBox by each kind of frame, the node said or made up, the link by either of its words."""
     for kind in KINDS:
         wire = Udp()
         said = " node 02:00:5e:00:00:f1" if kind == "llc" else ""
-        text = tunnels(1) + f"network 20 1 1490 qemu-udp 0 127.0.0.1:{wire.port} {kind}{said}\n"
+        word = "udp" if kind == "snap" else "qemu-udp"
+        text = tunnels(1) + f"network 20 1 1490 {word} 0 127.0.0.1:{wire.port} {kind}{said}\n"
         with Gateway(text) as gate:
             wire.to = gate.ports[0x20]
             assert kind != "llc" or gate.nodes[0x20] == bytes.fromhex("02005E0000F1")
@@ -332,6 +334,42 @@ def a_stream():
         assert reaches(far, again)
 
 
+def read_until_now(far, station):
+    """How many packets a PC reads until it hears what is said now. (where there is no room for that it is said again)"""
+    far.say(station.at(), b"now")
+    for count in range(2 * MUCH):
+        heard = station.hear(patience=AGAIN)
+        if heard is None:
+            far.say(station.at(), b"now")
+        elif heard[30:] == b"now":
+            return count
+    return 2 * MUCH
+
+
+def is_soon_there(gate, far, station):
+    """Megabytes are said to a PC that doesn't read; then it reads."""
+    for _ in range(MUCH // AT_ONCE):
+        for _ in range(AT_ONCE):
+            far.say(station.at(), bytes(1000))
+        gate.report()  # (so all of it was heard)
+    count = read_until_now(far, station)
+    figures(f"{count} of {MUCH} waited for {station.network:X}")
+    assert count <= HELD, f"{count} packets of a thousand bytes waited"
+    assert gate.counted(station.network, "not sent") >= MUCH - HELD
+
+
+def a_pc_reads_later():
+    """What a PC doesn't read is dropped but for some kilobytes: once it reads, it soon hears what is said then. It connects, or the gateway does."""
+    place, wire = listening(), Udp()
+    text = f"network 20 1 1490 qemu-tcp listen 0 raw\nnetwork 21 1 1490 qemu-tcp connect {place.getsockname()[1]} raw\n"
+    with Gateway(text + f"network 30 1 1490 qemu-udp 0 {wire.port} raw\n") as gate:
+        wire.to = gate.ports[0x30]
+        far = Station(wire, "raw", 0x30, STATION, gate.nodes[0x30])
+        is_soon_there(gate, far, connected(gate, 0x20, "raw")[0])
+        taken, _ = place.accept()
+        is_soon_there(gate, far, Station(Tcp(taken), "raw", 0x21, STATION, gate.nodes[0x21]))
+
+
 def a_connection_goes():
     """The gateway connects where it is told to, again when the other end comes back."""
     place = listening()
@@ -461,8 +499,8 @@ def nobody_listens():
 
 def main():
     counts = tried(datagrams, two_networks_on_a_link, long_frames, a_connection_comes, one_pc_at_a_time, nobody_hears_of_it,
-                   no_connection_stays, others_knock, a_connection_is_reset, a_stream, a_connection_goes, nobody_listens_yet, nobody_answers,
-                   an_address_comes_later, two_gateways, extended)
+                   no_connection_stays, others_knock, a_connection_is_reset, a_stream, a_pc_reads_later, a_connection_goes, nobody_listens_yet,
+                   nobody_answers, an_address_comes_later, two_gateways, extended)
     if has_linux("whether what is sent to nobody is counted", "Windows doesn't tell it, though Wine does"):
         counts.run(nobody_listens)
     if has_linux("no room for a connection", "it is tried on Linux alone"):

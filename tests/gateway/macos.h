@@ -1,4 +1,6 @@
 /* Names as macOS has them in the place of this system's, so that what is written for them is compiled here too: it stands before all else. */
+/* (macOS shows what it has beside POSIX, too) */
+#define _DEFAULT_SOURCE
 #include <arpa/inet.h>
 #include <errno.h>
 #include <fcntl.h>
@@ -13,6 +15,7 @@
 #include <time.h>
 #include <unistd.h>
 
+#undef _DEFAULT_SOURCE /* (files ask for it themselves) */
 #undef ENONET
 #undef MSG_NOSIGNAL
 #undef POLLRDHUP

@@ -494,14 +494,27 @@ static void begin_on_line(size_t count, uint32_t kilobits)
     }
 }
 
-/* How many copies of a packet are lost, which one says who is no player, or the router where that is NULL. */
-static uint64_t lost_to_all(line_use *from, size_t count)
+/* How many copies of a packet are lost, which one says who is no player; or the router, to all and to each. */
+static uint64_t lost_of_copies(size_t count)
 {
     uint64_t lost = 0;
-    line_begin(from, SHORT);
     for (size_t k = 0; k < count; k++)
         lost += !goes_to(k);
     return lost;
+}
+
+static uint64_t lost_to_all(line_use *from, size_t count)
+{
+    line_begin(from, SHORT);
+    return lost_of_copies(count);
+}
+
+static uint64_t lost_of_router(size_t count)
+{
+    line_begin_router(true, SHORT);
+    uint64_t lost = lost_of_copies(count);
+    line_begin_router(false, SHORT);
+    return lost + lost_of_copies(count);
 }
 
 /* Two addresses say as much as they can to a third and to themselves. */
@@ -566,7 +579,7 @@ static void networks(void)
                 for (size_t k = 0; k < ALL; k++)
                     lost += k != who && !goes_to(k);
             }
-            lost += lost_to_all(&pc, ALL) + lost_to_all(NULL, ALL);
+            lost += lost_to_all(&pc, ALL) + lost_of_router(ALL);
         }
     }
     printf("%" PRIu64 " copies of those within their parts are lost, who said %" PRIu64 " packets each\n", lost, said);
@@ -589,9 +602,9 @@ static void beyond(void)
                     of_players += k != who && !goes_to(k);
             }
         for (; few < said_by(FEW, at); few++)
-            lost += lost_to_all(&pc, ALL) + lost_to_all(NULL, ALL);
+            lost += lost_to_all(&pc, ALL) + lost_of_router(ALL);
     }
-    printf("%" PRIu64 " of %" PRIu64 " copies of a PC and the router are lost, and %" PRIu64 " of the players\n", lost, 2 * ALL * few, of_players);
+    printf("%" PRIu64 " of %" PRIu64 " copies of a PC and the router are lost, and %" PRIu64 " of the players\n", lost, 3 * ALL * few, of_players);
     expect(lost == 0 && few > 0, "where players say more than a line carries a PC of QEMU and the router are heard");
     expect(of_players > 0, "and the players lose what is too much");
 }

@@ -3,12 +3,15 @@
 It runs in networks of its own (spaces.py), whose cards are as narrow as the configuration says. limits.py has floods by such a line, too.
 """
 import signal
+import socket
+import struct
 
 from attacks import OTHER_PORT, QUIET, TUNNEL_LINE, Playground, during, flood, none
-from lab import LIMIT, Clock, played_anew, until
+from frames import frame
+from lab import EVERYONE, GAME, LIMIT, RIP, Clock, address, packet, played_anew, rip_response, socket_of, until
 from limits import CHAT, FIRST, FLOOD, LONGEST, SECONDS, Crowd, narrow, stands
 from players import HELLO, MOST_LOST, NETWORK, NUMBERED, Listener, Party, Player
-from spaces import GATEWAY, STRANGERS, build_flood
+from spaces import GATEWAY, STRANGERS, build_flood, host
 from systems import SYSTEM
 from trying import begin, figures, named, tried, tried_on_own_system
 
@@ -23,6 +26,9 @@ HOUSEHOLD, APART = 4, 2.5  # who only listen at one address, and seconds from on
 SLOW, LISTENERS, FEW, COME = 64, 3, 20, 8  # kilobits a second; who only listens there; strangers who register in a second; who are in before
 OFTEN, BEHIND, MOST = 27, 3, 100  # registrations a second; seconds from a reload to the next; clients of a network
 QUIET_SPEAKER = 11  # seconds after which who said only its first word isn't one of those who speak
+STEP, STEPS, MANY = 0.1, 200, 150  # seconds between looks at what a PC floods, how many, and packets in each
+ROUTES, FLOODED = 50, 60  # routes that a PC changes in each step, and packets that a client says
+ASKS, QUESTIONS = 12, 40  # steps between a client's questions, and how many these are
 LITTLE = 10  # parts of what is lost at most of one speaker, of what all may lose
 
 
@@ -293,7 +299,93 @@ def more_than_are_told_apart():
     many_addresses(70, 20000, 1.0, 200, LONGEST)
 
 
-TESTS = [strangers_share_a_part, a_newcomer_comes_in, many_beside_long_packets, more_than_are_told_apart, few_of_many_speak,
+class PC:
+    """A PC in QEMU, which says something to all."""
+
+    def __init__(self, number, network=NETWORK):
+        self.node, self.network = bytes.fromhex("02000000AA") + bytes([number]), network
+        self.udp = socket.socket(socket.AF_INET, socket.SOCK_DGRAM)
+        self.udp.bind((host(0), FIRST + number))
+        self.udp.connect((GATEWAY[0], OTHER_PORT + number))
+
+    @staticmethod
+    def link(number):
+        """The end of a line that names its link."""
+        return f"qemu-udp {GATEWAY[0]}:{OTHER_PORT + number} {host(0)}:{FIRST + number} raw\n"
+
+    def send(self, bytes_):
+        self.udp.send(frame("raw", EVERYONE, self.node, bytes_))
+
+    def say(self, what, number=0, port=GAME):
+        self.send(packet(address(0, EVERYONE, port), address(self.network, self.node, port), struct.pack(">6sI", what, number)))
+
+
+class Asks(Player):
+    """A player whose program asks the router."""
+
+    answered = 0
+
+    def ask(self, network):
+        self.send(packet(address(NETWORK, EVERYONE, RIP), self.at(CHAT), struct.pack(">HIHH", 1, network, 16, 1), kind=1))
+
+    def hear(self, bytes_):
+        self.answered += socket_of(bytes_) == CHAT
+        super().hear(bytes_)
+
+
+def a_party_by_a_clock(it):
+    """Players at some addresses come in."""
+    for free in it.free:
+        player = Asks(free, GATEWAY)
+        it.party.put_in("by a clock", player)
+        player.register()
+    until(lambda: it.party.hear() or it.gate.counted(NETWORK, "clients") == len(it.free), "all clients")
+    return it.party.all
+
+
+@played_anew
+def a_link_floods():
+    """By a line of 1 Mbit/s four players hear what one of them, and a PC at a link of their network, say ten times a second, while a PC at another
+    of its links says 1,500 packets a second."""
+    text = f"network {NETWORK:X} 1 1424\nlink dosbox 0.0.0.0:{GATEWAY[1]}\nline 1000\nstrangers none\n"
+    with Playground(text + "".join(f"link {PC.link(k)}" for k in range(2)), numbers=(0, 0, 0), more=4, clock=Clock()) as it:
+        players, floods, says = a_party_by_a_clock(it), PC(0), PC(1)
+        for step in range(STEPS):
+            for _ in range(MANY):
+                floods.say(b"flood", port=CHAT)
+            for speaker in says, players[0]:
+                speaker.say(NUMBERED, step)
+            it.let_pass(STEP)
+        it.party.until(lambda: False, QUIET)
+        heard = [len(player.heard.get(speaker.node, ())) for speaker in (says, players[0]) for player in players if player is not speaker]
+        figures(f"of {STEPS} words they heard {heard}, of the flood {[player.beside for player in players]}")
+        assert min(heard) >= (1 - MOST_LOST) * STEPS, f"{heard}"
+        assert it.gate.counted(NETWORK, "too much for the line") > 0, it.gate.report()
+
+
+@played_anew
+def a_router_changes_its_routes():
+    """By a line of 256 kbit/s a client's questions to the router are answered, while a PC on another network tells 50 routes ten times a second, or
+    takes them back, and another client floods the line."""
+    text = by_a_line(NARROW) + f"network {NETWORK + 1:X} 1 1424 100 100 {PC.link(0)}rate none\n"
+    with Playground(text, numbers=(0, 0, 0), more=4, clock=Clock()) as it:
+        players, router = a_party_by_a_clock(it), PC(0, NETWORK + 1)
+        it.let_pass(QUIET_SPEAKER)
+        for step in range(ASKS * (QUESTIONS + 1)):
+            router.send(rip_response(router.network, router.node, [(0x1000 + k, (2, 16)[step % 2], 3) for k in range(ROUTES)]))
+            for _ in range(FLOODED):
+                players[-1].send(packet(address(0, EVERYONE, GAME), players[-1].at(), bytes(400)))
+            it.gate.report()
+            if step % ASKS == 0 and step > 0:
+                players[0].ask(router.network)
+            it.let_pass(STEP)
+        it.party.until(lambda: False, QUIET)
+        figures(f"{players[0].answered} of {QUESTIONS} questions are answered")
+        assert players[0].answered == QUESTIONS
+        assert it.gate.counted(NETWORK, "too much for the line") > 0, it.gate.report()
+
+
+TESTS = [strangers_share_a_part, a_link_floods, a_router_changes_its_routes, a_newcomer_comes_in, many_beside_long_packets, more_than_are_told_apart, few_of_many_speak,
          many_words_at_once, a_flood_from_a_wide_network, pings_of_many, who_registers_again_is_pinged, who_only_listens_comes_in, a_house_comes_in,
          a_line_by_a_reload, named("the same where strangers had no limit there before", a_line_by_a_reload, by_a_line(SLOW)),
          who_waits_beside_clients, who_listens_beside_reloads]

@@ -17,11 +17,21 @@ class OnWire(Player):
         super().__init__(host, gateway, FAST, port=port)
         self.node, self.network, self.kind = ON_WIRE, network, kind
 
+    def register(self):
+        """(a PC is there as soon as it says something)"""
+
+    def put(self, bytes_):
+        """Sends a frame."""
+        super().send(bytes_)
+
     def send(self, bytes_):
-        super().send(frame(self.kind, bytes_[10:16], self.node, bytes_))
+        self.put(frame(self.kind, bytes_[10:16], self.node, bytes_))
+
+    def unframed(self, bytes_):
+        return unframed(self.kind, bytes_)
 
     def hear(self, bytes_):
-        found = unframed(self.kind, bytes_) if bytes_[:6] in (self.node, EVERYONE) else None
+        found = self.unframed(bytes_) if bytes_[:6] in (self.node, EVERYONE) else None
         if found is not None and found[22:28] != self.node:
             super().hear(found)
 
@@ -35,10 +45,10 @@ class Pair:
             one.other = other
 
     def enter(self):
-        """The client registers; then both wait until they hear each other."""
-        client, wired = self.all
-        client.register()
-        assert self.until(lambda: client.network and client.node in wired.met and wired.node in client.met, LIMIT, HELLO), \
+        """Who has to registers; then both wait until they hear each other."""
+        for it in self.all:
+            it.register()
+        assert self.until(lambda: all(it.network and it.other.node in it.met for it in self.all), LIMIT, HELLO), \
             "the two players don't hear each other"
         self.begin()
 
@@ -73,14 +83,29 @@ class Pair:
                 return False
             if now >= due:
                 due = now + BETWEEN_LAST
-                for it in self.all:
-                    it.to = EVERYONE
-                    it.say(word)
+                self.say(word)
             self.hear(0.005)
         return True
 
+    def say(self, word):
+        """Both say a word to all."""
+        for it in self.all:
+            it.to = EVERYONE
+            it.say(word)
+
+    def has_ended(self):
+        """Whether each has heard the other's last word."""
+        return all(it.other.node in it.ended for it in self.all)
+
     def settle(self):
         """Waits for each other's last word. Returns how many packets didn't come, and how many were said."""
-        self.until(lambda: all(it.other.node in it.ended for it in self.all), LIMIT_OF_LAST, LAST)
-        said = sum(it.said for it in self.all)
-        return said - sum(len(it.heard.get(it.other.node, ())) for it in self.all), said
+        self.until(self.has_ended, LIMIT_OF_LAST, LAST)
+        return self.count()
+
+    def lacks(self):
+        """How many packets each said since they began that didn't come to the other."""
+        return [it.said - len(it.other.heard.get(it.node, ())) for it in self.all]
+
+    def count(self):
+        """How many of both didn't come since they began, and how many were said."""
+        return sum(self.lacks()), sum(it.said for it in self.all)

@@ -29,12 +29,13 @@ def boot_sector(folder, *words):
 class Pc:
     """A PC that runs until it is left."""
 
-    def __init__(self, folder, netdev, *built):
+    def __init__(self, folder, netdev, *built, node=NODE):
+        mac = ":".join(f"{it:02x}" for it in node)
         program = next(it for it in PROGRAMS if shutil.which(it))
         drive = f"if=floppy,format=raw,file={boot_sector(folder, *built)}"
         words = ["-nodefaults", "-display", "none", "-vga", "none", "-accel", "tcg", "-m", "16", "-drive", drive]
         words += ["-netdev", netdev.replace(",", ",id=n,", 1)]
-        words += ["-device", f"ne2k_isa,netdev=n,iobase=0x300,irq=9,mac={MAC}"]
+        words += ["-device", f"ne2k_isa,netdev=n,iobase=0x300,irq=9,mac={mac}"]
         how = {"stdin": subprocess.DEVNULL, "stdout": subprocess.DEVNULL, "stderr": subprocess.PIPE}
         self.run = subprocess.Popen([program, *words], **how)
 
@@ -135,8 +136,9 @@ def learns():
         while heard is None and time.monotonic() < end:
             assert pc.run.poll() is None, "the emulator has ended"
             client.say(address(0, NODE, GAME), b"who are you")
-            heard = client.hear(lambda it: it[30:] == b"who are you" and socket_of(it) == GAME, AGAIN)
-        assert heard[18:28] == address(0x30, NODE, 0)[:10], heard
+            # (what waited while it booted is answered before it has learned the number)
+            heard = client.hear(lambda it: it[30:] == b"who are you" and it[18:28] == address(0x30, NODE, 0)[:10], AGAIN)
+        assert heard is not None and socket_of(heard) == GAME, heard
 
 
 def pinged():
@@ -152,11 +154,14 @@ def pinged():
             assert out.startswith(f"asks {station} at socket {port}\n") and out.endswith("\n4 asked, 4 answered\n"), out
 
 
+def missing():
+    """What a PC in QEMU lacks here."""
+    return ([] if any(map(shutil.which, PROGRAMS)) else [PROGRAMS[0]]) + ([] if shutil.which("nasm") else ["nasm"])
+
+
 def main():
-    missing = [] if any(map(shutil.which, PROGRAMS)) else [PROGRAMS[0]]
-    missing += [] if shutil.which("nasm") else ["nasm"]
-    if missing:
-        left_out("a PC in QEMU", f"no {missing[0]}")
+    if lacking := missing():
+        left_out("a PC in QEMU", f"no {lacking[0]}")
         return Counts()
     counts = tried(datagrams, connections, of_any_kind, on_one_network, learns)
     if has_linux("pings that a PC in QEMU answers", "the status socket is Linux' own"):

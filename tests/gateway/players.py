@@ -235,6 +235,10 @@ class Party:
         said = speaker.said * (len(self.all) - 1)
         return 1 - heard / said if said else 0.0
 
+    def missing(self):
+        """How many packets of what the others said didn't come to all of them together."""
+        return sum(it.said - len(player.heard.get(it.node, ())) for player in self.all for it in self.speakers if it is not player)
+
     def losses(self):
         """For each kind of player the largest part that one of them lost."""
         found = dict.fromkeys(self.KINDS, 0.0)

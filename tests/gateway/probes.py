@@ -3,7 +3,7 @@ import re
 
 from lab import EVERYONE, GATEWAY, NOBODY, TUNNEL, Client, address, packet, played_anew, reaches, socket_of, tunnels
 from status import Watched, asked
-from trying import Counts, begin, has_linux, tried
+from trying import begin, tried
 
 DIAGNOSTIC = 0x456
 MILLISECONDS = r"\d+\.\d{3} ms"
@@ -90,8 +90,6 @@ def traced():
 
 
 def main():
-    if not has_linux("pings and traces"):
-        return Counts()
     return tried(pinged, at_a_socket, traced)
 
 

@@ -34,7 +34,7 @@ TESTS = (
     named("the same in two kinds, the sixth 290", plays, "link", 2, 290),
     named("of one who floods for a minute, and one who says less than his part", plays, "parts", 1),
     named("of 16 who flood for a minute each has its part", plays, "parts", 16),
-    named("of 200 who flood for a minute each has its part", plays, "parts", 200),
+    named("of 180 who flood for a minute each has its part", plays, "parts", 180),
     named("what one receives at once, of one to 40 addresses", plays, "once"),
     named("for ten minutes four play by a line of 1.25 Mbit/s, beside one who says 1,000 long packets a second", plays, "line", 1250),
     named("for ten minutes one says the longest packets by a line of 8 kbit/s, which carries nine tenths of that at most", plays, "narrow"),

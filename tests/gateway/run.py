@@ -14,25 +14,31 @@ import dosbox
 import edge
 import events
 import fair
+import far
 import forged
+import groups
 import houses
 import internal
 import kinds
 import limits
 import links
+import listed
 import lossy
 import made_up
 import names
 import narrow
 import nodes
+import npcap
 import orders
 import paced
 import pc
+import peers
 import probes
 import queues
 import refused
 import reload_memory
 import reloading
+import rfc1234
 import segments
 import siphash
 import six
@@ -40,17 +46,22 @@ import slow_pc
 import statics
 import staying
 import status
+import status_page
+import switches
+import together
 import troubles
 import tunnel
 import unit
+import web
 import wires
 import words
 from systems import SYSTEM, Windows
 from trying import Counts, left_out
 
-ALL = (counting, words, siphash, queues, unit, orders, status, events, probes, reloading, staying, tunnel, nodes, links, edge, statics, internal,
-       paced, beside, six, names, segments, kinds, made_up, troubles, reload_memory, wires, conformance, refused, houses, attacks, forged, limits,
-       complaints, asked, fair, slow_pc, narrow, lossy, dosbox, pc, bochs)
+ALL = (counting, words, listed, siphash, queues, unit, orders, status, status_page, events, probes, reloading, staying, tunnel, nodes,
+       links, groups, switches, peers, rfc1234, edge, statics, internal, npcap, paced, beside, six, names, segments, kinds, web, made_up,
+       troubles, reload_memory, wires, conformance, refused, houses, attacks, forged, limits, complaints, asked, fair, slow_pc, far, narrow, lossy,
+       dosbox, pc, bochs, together)
 TESTS = {it.__name__: it for it in ALL}
 
 
@@ -67,7 +78,7 @@ def chosen(names):
     """The tests that are named, or all that there are on the system."""
     if names or SYSTEM is not Windows:
         return [TESTS[it] for it in names or TESTS]
-    # (TAPs and interfaces are no links there, which the words tell)
+    # (TAPs are no links there, which the words tell; interfaces are tried by npcap)
     left_out("Windows: calls of the system that fail, and hours", "trouble.c stands in front of Linux' calls alone")
     return [TESTS[it] for it in TESTS if it not in ("troubles", "reload_memory", "wires", "refused")]
 
@@ -83,7 +94,9 @@ def main(names):
     if not has_loopback():
         print("left out: gateway: all tests (no sockets on the loopback address)\n0 passed, 0 failed")
         return 0
-    if not SYSTEM.has_cards:
+    if SYSTEM is Windows:
+        left_out("TAPs, and all that is said of interfaces below but by npcap", "Windows has no TAPs, and Wine its cards by another network")
+    elif not SYSTEM.has_cards:
         left_out("interfaces and TAPs, whatever is said of them below", f"the gateway for {SYSTEM.name} has none")
     counts = sum((it.main() for it in chosen(names)), Counts())
     print(counts)

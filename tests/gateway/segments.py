@@ -28,6 +28,7 @@ LOOKED_AT = 12  # seconds, after which a link that was shut would be open again,
 ROUTES_OF_DOSBOX, SERVICES_OF_DOSBOX = 64, 32  # that are learned where a network's line says nothing of it
 FOR_ALL = struct.pack(">HIHH", 1, 0xFFFFFFFF, 16, 1)  # a request for all routes
 ASKED, QUESTIONS = 40, 6  # that a client asks at once, and that go on of them: four, and one each second
+MANY_WAIT, STANDS_STILL = 200, 1  # packets that wait, more than a turn hears; and seconds of a gateway
 ADVERTISED = 60  # seconds from one advertisement of a router's to the next
 
 
@@ -557,11 +558,26 @@ def four_in_one_bridge():
     ip("link", "del", "brs")
 
 
+def stood_still():
+    """A gateway that stood still for a moment hears all that waits for one node, though a second passes and a turn hears less than waits."""
+    wires = [Udp(), Udp()]
+    with Cable([f"qemu-udp 0 127.0.0.1:{it.port} raw" for it in wires]) as gate:
+        for k, it in enumerate(wires):
+            it.to = gate.ports_of[k]
+        one, other = (Station(wire, "raw", NUMBER, node, gate.nodes[NUMBER]) for wire, node in zip(wires, (PC, CARD)))
+        assert hears(other, calls(one)) and hears(one, calls(other))
+        with gate.run.halted():
+            said = [tells(one, other) for _ in range(MANY_WAIT)]
+            time.sleep(STANDS_STILL)
+        for data in said:
+            assert hears(other, data), f"of {len(said)} packets number {said.index(data)} isn't heard"
+
+
 TESTS = (a_call_finds_all, an_answer_goes_to_one, a_node_moves, two_with_one_node, nobody_takes_a_clients_name, by_one_node_at_a_time,
          the_router_is_a_station,
          each_client_is_sure, a_client_at_two_links)
 OF_LINUX = (stations_are_shown, links_change_while_it_runs, clients_are_sure_after_a_reload, links_change_beneath_a_packet,
-            shares_of_several_links, who_is_a_router_there, who_asks_there, stations_age)
+            shares_of_several_links, who_is_a_router_there, who_asks_there, stations_age, stood_still)
 
 
 def inside():

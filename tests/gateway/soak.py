@@ -4,8 +4,9 @@ First each limit is driven over its number for a minute (driven.py). Then all co
 from many places and in the name of others; frames the same on cards, in datagrams and on connections that are cut; cards that go down, come
 up and are taken out; a link that the configuration has and hasn't. Meanwhile players play, who may lose 2 % at most, the gateway must end
 well, and its memory must stay what it was. Two players of a network whose other links go and come lose nothing at all. Beside all of it the
-gateway's code is played on a made-up system (made_up.py), by a process of its own. Behind it real DOSBox' connect by a lossy way (lossy.py).
-The last line is 'N datagrams, M faults'.
+gateway's code is played on a made-up system (made_up.py), by a process of its own; and gateways at several places share networks over the
+Internet (soaked_places.py), by another one, which tells its own rounds. Behind it real DOSBox' connect by a lossy way (lossy.py). The last line
+is 'N datagrams, M faults'.
 """
 import collections
 import os
@@ -17,14 +18,17 @@ import sys
 import time
 
 import driven
+import soaked_links
+from altered import Frames
 from attacks import ADDRESSES, NOBODYS, PORTS, Playground
-from frames import KINDS, Packets, frame
-from lab import EVERYONE, GAME, RIP, SAP, address, packet, rip_response, sap_response
+from frames import Packets
+from machine import Machine
 from pair import OnWire, Pair
 from players import FAST, Player
 from spaces import GATEWAY, Field, Flood, build_flood, host, ip, own_addresses
 from systems import SYSTEM
 from trying import INSIDE, all_but_last, figures, left_out, way_inside
+from vde import folder_of
 
 MINUTES = 10
 RATE = 5000  # datagrams a second of each flood
@@ -35,7 +39,8 @@ BETWEEN_CARDS = 0.7  # seconds between two changes of a card
 BETWEEN_LINES = 2.3  # seconds until the configuration has a link that it hadn't, or hasn't it any more
 # (what is no datagram)
 CUT, CHANGED = "connections cut or refused", "cards switched, taken out or put in"
-TURNED = "links that a configuration had, or hadn't any more"
+TURNED = "times that a configuration got some links, or lost them"
+NO_DATAGRAMS = (CUT, CHANGED, TURNED, *soaked_links.NO_DATAGRAMS)
 MOST_GROWN = 1.1  # memory at the end, as a part of that halfway, when each buffer has been used (they aren't touched before)
 SANITIZER = "quarantine_size_mb=1:malloc_context_size=1"  # (else what is freed is kept, and counted as memory)
 UDP_PORT, CARD_PORT, LISTEN_PORT, CONNECT_PORT = 5001, 5002, 5003, 5004
@@ -61,38 +66,15 @@ link qemu-tcp listen {GATEWAY[0]}:{LINK_PORT} llc
 link interface g3 auto
 """
 MORE = f"link qemu-udp {GATEWAY[0]}:{TURN_PORT} {host(0)}:{FAR_PORT} auto\n"
+NETWORKS = (0x10, 0x20, 0x30, 0x40, 0x41, 0x50, 0x51, JOINED)
 PLACES = {"sockets": [PORTS, ADDRESSES], "forged": [NOBODYS]}
 FLOODS = [("sockets", it) for it in ("register", "mutated", "junk", "guess")] + [
     ("forged", it) for it in ("register", "speak", "sap", "rip", "mutated", "junk")]
 
 
-class Frames:
-    """Frames that nobody should send: packets of routers and of programs, some bytes of them altered, cut, or made up."""
-
-    def __init__(self, seed):
-        self.random = random.Random(seed)
-
-    def packet(self):
-        number = self.random.randrange
-        node = bytes([2, 0, 0, 0, 0, number(256)])
-        network = self.random.choice([0x10, 0x20, 0x30, 0x40, 0x41, 0x50, 0x51, JOINED, number(1 << 32)])
-        to = address(network, self.random.choice([EVERYONE, node]), self.random.choice([GAME, 0x4005, RIP, SAP]))
-        return self.random.choice([
-            lambda: packet(to, address(network, node, GAME), bytes(number(1400)), kind=self.random.choice([0, 4, 20])),
-            lambda: rip_response(network, node, [(number(1 << 32), number(17), number(9)) for _ in range(number(51))]),
-            lambda: sap_response(network, node, [(number(9), f"S{number(99)}", network, node, GAME, number(17)) for _ in range(number(8))]),
-            lambda: packet(address(network, EVERYONE, SAP), address(network, node, SAP), b"\0\1\xff\xff"),
-            lambda: packet(address(network, EVERYONE, RIP), address(network, node, RIP), b"\0\1" + b"\xff" * 8, kind=1),
-        ])()
-
-    def next(self):
-        number = self.random.randrange
-        if number(8) == 0:
-            return self.random.randbytes(14 + number(1500))
-        bytes_ = bytearray(frame(self.random.choice(KINDS), EVERYONE, bytes([2, 0, 0, 0, 0, number(256)]), self.packet()))
-        for _ in range(number(4)):
-            bytes_[number(len(bytes_))] = number(256)
-        return bytes(bytes_[:number(len(bytes_)) + 1] if number(8) == 0 else bytes_)[:1514]
+def text_of(folder, has_more=False):
+    """The whole configuration, and links that it has or hasn't."""
+    return soaked_links.text_of(folder) + CONFIGURATION + (MORE + soaked_links.more_of(folder)) * has_more
 
 
 class Streams:
@@ -193,10 +175,10 @@ def datagrams(port):
 
 
 class Lines:
-    """A configuration that has a link, and hasn't it any more, while the gateway runs."""
+    """A configuration that has some links, and hasn't them any more, while the gateway runs."""
 
-    def __init__(self, gate, counts):
-        self.gate, self.counts, self.has, self.due = gate, counts, False, 0
+    def __init__(self, gate, folder, counts):
+        self.gate, self.folder, self.counts, self.has, self.due = gate, folder, counts, False, 0
 
     def act(self):
         if time.monotonic() < self.due:
@@ -204,7 +186,7 @@ class Lines:
         self.due = time.monotonic() + BETWEEN_LINES
         self.has = not self.has
         with open(self.gate.configuration, "w", encoding="ascii") as it:
-            it.write(CONFIGURATION + MORE * self.has)
+            it.write(text_of(self.folder, self.has))
         self.gate.run.order(signal.SIGHUP)
         self.counts[TURNED] += 1
 
@@ -212,9 +194,9 @@ class Lines:
 class Trouble:
     """Everything that is done beside the floods, on links that stay and on those that go and come; and two players beside the latter."""
 
-    def __init__(self, gate, cards, counts, seed):
-        self.counts, self.frames = counts, Frames(seed)
-        self.streams, self.lines, self.cards = Streams(self.frames, counts), Lines(gate, counts), cards
+    def __init__(self, gate, folder, cards, counts, seed):
+        self.counts, self.frames = counts, Frames(seed, NETWORKS)
+        self.streams, self.lines, self.cards = Streams(self.frames, counts), Lines(gate, folder, counts), cards
         for it in cards:
             it.counts = counts
         self.links = [(datagrams(CARD_PORT), UDP_PORT), (datagrams(FAR_PORT), TURN_PORT)]
@@ -236,13 +218,16 @@ class Trouble:
 class Soak:
     """What is done, what was counted, and what went wrong."""
 
-    def __init__(self, ground, cards, seconds):
+    def __init__(self, ground, folder, cards, seconds):
         self.ground, self.end = ground, time.monotonic() + seconds
         self.counts, self.faults = collections.Counter(), []
         self.seed = random.randrange(1 << 30)
-        self.trouble = Trouble(ground.gate, cards, self.counts, self.seed)
+        self.trouble = Trouble(ground.gate, folder, cards, self.counts, self.seed)
+        self.links, self.of_links = soaked_links.Beside(folder, self.seed), {}
         self.lost = dict.fromkeys(ground.party.KINDS, 0.0)
         self.said = 0  # packets of the two players beside links that go and come
+        players = [it.udp for it in (*ground.party.all, *self.trouble.pair.all)]
+        self.machine, self.spoiled = Machine(ground.gate.run.pid, players), 0
         self.memory = []
         figures(f"seed {self.seed}")
 
@@ -266,17 +251,30 @@ class Soak:
         """Looks what the players lost, and whether the gateway is well."""
         party = self.ground.party
         came = party.settle()
+        self.machine.look()
         for kind, lost in party.losses().items():
             self.lost[kind] = max(self.lost[kind], lost)
         for player in party.all:
             player.others.clear()  # (what came over the router from a wire)
         fault = party.fault(came)
-        self.faults += [fault] if fault else []
+        if fault:
+            self.finds(fault, party.missing(), self.machine.own())
         self.counts["packets of players"] += sum(it.said for it in party.speakers)
         party.begin_again(100)
         self.judge_pair()
+        self.judge_links()
         self.ground.gate.report()
         self.memory.append(self.ground.gate.memory())
+
+    def finds(self, fault, missing=0, dropped=0):
+        """Something is wrong. Where packets are missing, that was the machine if the players' own sockets had no room for as many, or the gateway
+        had no processor for most of the time."""
+        fault = f"{fault}; {self.machine.words()}"
+        if 0 < missing and (missing <= dropped or self.machine.is_late()):
+            self.spoiled += 1
+            figures(f"spoiled: {fault}")
+        else:
+            self.faults.append(fault)
 
     def judge_pair(self):
         """Looks whether anything is missing that one of the two said to the other."""
@@ -284,10 +282,28 @@ class Soak:
         missing, said = pair.settle()
         self.said += said
         if missing:
-            self.faults.append(f"of {said} packets of two players beside links that go and come {missing} are lost")
+            self.finds(f"of {said} packets of two players beside links that go and come {missing} are lost", missing, self.machine.own())
         if any(it.twice for it in pair.all):
-            self.faults.append("a packet of two players beside links that go and come comes twice")
+            self.finds("a packet of two players beside links that go and come comes twice")
         pair.begin()
+
+    def judge_links(self):
+        """Looks what the players lost on links by WebSocket, groups and switches, and whether the status is told."""
+        told = self.links.judge()
+        for name, (missing, said) in told["lost"].items():
+            worst, all_said = self.of_links.get(name, (0.0, 0))
+            self.of_links[name] = max(worst, missing / said if said else 0.0), all_said + said
+        for fault, missing in told["faults"]:
+            self.finds(f"{fault}; their sockets dropped {told['dropped']}, and were looked at after {told['late']:.1f} s at most", missing,
+                       told["dropped"])
+            self.tell_counts()
+        self.counts.update(told["counts"])
+
+    def tell_counts(self):
+        """What the gateway has counted on those links until now."""
+        for part in self.ground.gate.report().partition("report after ")[2].split("\nnetwork ")[1:]:
+            if int(part[:8], 16) in soaked_links.NETWORKS:
+                figures(part.partition("\nstations on")[0].replace("\n", "; "))
 
     def run(self):
         try:
@@ -296,6 +312,7 @@ class Soak:
                     if not self.is_over():
                         self.stage(way, kind)
                 self.judge()
+            self.links.end()
             self.ground.gate.end()
         except AssertionError as fault:
             self.faults.append(str(fault))
@@ -307,12 +324,15 @@ class Soak:
             figures(f"{what}: {count}")
         figures(f"packets of two players beside links that go and come, of which none may be lost: {self.said}")
         figures("lost in the worst round: " + ", ".join(f"{kind} {100 * lost:.1f} %" for kind, lost in self.lost.items()))
+        for name, (worst, said) in self.of_links.items():
+            figures(f"{name}: {said} packets of players, lost in the worst round {100 * worst:.1f} %")
+        figures(f"rounds that the machine spoiled: {self.spoiled}; {self.machine.words(self.machine.all)}")
         if self.memory:
             halfway = self.memory[len(self.memory) // 2]
             figures(f"memory: {self.memory[0]} KB after the first round, {halfway} KB halfway, {self.memory[-1]} KB after the last")
         for fault in self.faults:
             print(f"FAULT   gateway: {fault}")
-        sent = sum(count for what, count in self.counts.items() if what not in (CUT, CHANGED, TURNED))
+        sent = sum(count for what, count in self.counts.items() if what not in NO_DATAGRAMS)
         print(f"{sent} datagrams, {len(self.faults)} faults")
 
 
@@ -333,8 +353,9 @@ def inside(minutes):
     faults = drive_limits(60 * minutes)
     field = Field()
     cards = [Cards(field, "g2", "t2"), Cards(field, "g3", "t3")]
-    with Playground(CONFIGURATION, environment={"ASAN_OPTIONS": SANITIZER}, field=field) as ground:
-        soak = Soak(ground, cards, end - time.monotonic())
+    how = {"environment": {"ASAN_OPTIONS": SANITIZER}, "field": field, "options": soaked_links.options()}
+    with folder_of() as folder, Playground(text_of(folder), **how) as ground:
+        soak = Soak(ground, folder, cards, end - time.monotonic())
         soak.run()
         soak.faults += faults
         soak.tell()
@@ -350,18 +371,20 @@ def main(minutes):
         print("left out: gateway: the sanitizers (no -fsanitize=address that runs)")
     here = os.path.realpath(__file__)
 
-    def beside(name, minutes):
-        return started(sys.executable, os.path.join(os.path.dirname(here), name), str(minutes))
+    def words(name, minutes):
+        return [sys.executable, os.path.join(os.path.dirname(here), name), str(minutes)]
 
-    made_up = beside("made_up.py", minutes)
+    made_up = started(*words("made_up.py", minutes))
+    places = subprocess.Popen(words("soaked_places.py", minutes))
     way = way_inside("soak")
     run = started(*way, sys.executable, here, INSIDE, minutes) if way is not None else None
     last = all_but_last(run) if run else ""
-    print(made_up.communicate()[0], end="")
+    print(made_up.communicate()[0], end="", flush=True)
+    places.wait()
     # (behind the rest: many DOSBox' at once leave others little of the machine)
-    lossy = beside("lossy.py", LOSSY_PART * float(minutes))
+    lossy = started(*words("lossy.py", LOSSY_PART * float(minutes)))
     print(lossy.communicate()[0] + last, end="")
-    return max(abs(it.wait()) for it in (run, made_up, lossy) if it is not None)
+    return max(abs(it.wait()) for it in (run, made_up, places, lossy) if it is not None)
 
 
 if __name__ == "__main__":

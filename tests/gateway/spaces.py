@@ -5,6 +5,8 @@
 The first is the network in which the test itself runs. Whatever address isn't of these networks lies behind the victim, as the internet
 does behind a router.
 """
+import contextlib
+import ctypes
 import os
 import re
 import subprocess
@@ -15,6 +17,7 @@ GATEWAY = ("10.77.0.1", 2130)
 VICTIM = "10.78.0.9"
 # The first of many addresses: of the attacker, of nobody on the same Ethernet, and of strangers behind the victim.
 CROWD, NEIGHBOURS, STRANGERS = "10.79.0.1", "10.77.200.1", "198.18.0.1"
+NAMESPACE_OF_NETWORK = 0x40000000  # CLONE_NEWNET
 HEADERS = 28  # bytes of IP and UDP before each datagram
 
 
@@ -64,6 +67,17 @@ class Space:
 
     def ip(self, *words):
         return self.run("ip", *words)
+
+    @contextlib.contextmanager
+    def entered(self):
+        """What is opened meanwhile is in this network."""
+        libc = ctypes.CDLL(None, use_errno=True)
+        with open("/proc/thread-self/ns/net", "rb") as own, open(f"/proc/{self.holder.pid}/ns/net", "rb") as there:
+            assert libc.setns(there.fileno(), NAMESPACE_OF_NETWORK) == 0, os.strerror(ctypes.get_errno())
+            try:
+                yield
+            finally:
+                assert libc.setns(own.fileno(), NAMESPACE_OF_NETWORK) == 0
 
     def set(self, name, value):
         """A setting of the kernel in this network."""

@@ -6,6 +6,7 @@ import os
 import re
 import resource
 import shutil
+import signal
 import socket
 import stat
 import subprocess
@@ -15,31 +16,36 @@ import time
 from frames import frame
 from lab import (ALL_THERE_IS, EVERYONE, GAME, LIMIT, NOBODY, Client, Gateway, address, packet, reaches, rip_response, text_of, tunnels,
                  until)
-from systems import SYSTEM, fault_words
-from trying import Counts, begin, has_linux, left_out, tried
+from passing import halted, passes, unsent, within
+from systems import SYSTEM, Windows, fault_words
+from trying import begin, left_out, tried
 
-SECTIONS = ("links", "clients", "stations", "routes", "services", "edge", "counts")
+SECTIONS = ("links", "clients", "stations", "peers", "routes", "services", "edge", "counts")
 HOSTILE = [b'"', b"\\", b"\x1b[2J\x07", b"a b\tc\r\nd", b"\xff\xfe\x80", b"\x7f", b"</script>&'%s%n", b"\x01" * 47, bytes(range(1, 48)),
            bytes(range(200, 247)), "größe".encode()]
 ROUTES = 2048  # that fill the table
 MOST_ASKED = 8  # at once
 STATION = bytes.fromhex("020000000AA1")
+AT_ONCE = 30  # who ask, more than a pipe has places for
 RESTED = 2  # seconds in which nobody can be taken
+TOO_LONG = "9" * 300  # a word that no question has room for
 
 
 def asked(path, *words, program=None):
     """What a gateway answers at a path: status, output, complaint."""
     command = [*SYSTEM.quick, program or SYSTEM.program, *words, "--status", path]
     run = subprocess.run(command, capture_output=True, timeout=LIMIT, check=False)
+    if SYSTEM is Windows and run.returncode == -signal.SIGKILL:  # (Wine does so to a program that ends too slowly for it)
+        run = subprocess.run(command, capture_output=True, timeout=LIMIT, check=False)
     return run.returncode, text_of(run.stdout), text_of(run.stderr)
 
 
 class Watched(Gateway):
-    """A gateway with a status socket."""
+    """A gateway with a status socket; on Windows it is a pipe."""
 
     def __init__(self, text, **how):
         self.own = tempfile.TemporaryDirectory()
-        self.path = os.path.join(self.own.name, "status")
+        self.path = rf"\\.\pipe\{os.path.basename(self.own.name)}" if SYSTEM is Windows else os.path.join(self.own.name, "status")
         super().__init__(text, options=["--status", self.path, *how.pop("options", ())], **how)
 
     def asked(self, *words):
@@ -65,8 +71,16 @@ class Watched(Gateway):
         self.own.cleanup()
 
 
+def whole_answer_of(connection):
+    """All that comes until the gateway closes the connection, which it doesn't cut."""
+    whole = b""
+    while piece := connection.recv(65536):
+        whole += piece
+    return whole
+
+
 def answer_of(connection):
-    """All that comes until the gateway closes the connection."""
+    """The same where it may be cut."""
     whole = b""
     with contextlib.suppress(ConnectionResetError):
         while piece := connection.recv(65536):
@@ -119,6 +133,7 @@ KEYS = {
     "links": ["network", "state", "cost", "longest", "node", "link", "kinds", "lacks"],
     "clients": ["network", "client", "address", "trusted", "heard", "not_sent", "dropped"],
     "stations": ["network", "station", "heard", "kind", "link"],
+    "peers": ["network", "peer", "state", "heard", "in", "out"],
     "routes": ["network", "hops", "ticks", "by", "on", "age"],
     "services": ["type", "name", "network", "node", "socket", "hops", "by", "on", "age"],
     "edge": ["network", "line"],
@@ -146,7 +161,8 @@ def a_field_a_column():
         assert tuple(KEYS) == SECTIONS
         for section, keys in KEYS.items():
             records = gate.shown(section)
-            assert records and all(list(it) == keys for it in records), (section, records)
+            # (links by peers need libsodium: peers.py)
+            assert (records or section == "peers") and all(list(it) == keys for it in records), (section, records)
             headings, *lines = gate.asked("show", section).splitlines()
             assert headings.split() == [it.upper().replace("_", "-") for it in keys], headings
             # (links, and what is counted, have words of several parts)
@@ -162,7 +178,7 @@ def all_of_it():
         whole = json.loads(gate.asked("show", "--json"))
         assert list(whole) == ["release", "seconds", *SECTIONS], whole
         text = gate.asked("show")
-        assert [it.split()[0] for it in text.split("\n\n")] == ["NETWORK", "NETWORK", "NETWORK", "NETWORK", "TYPE", "NETWORK", "NETWORK"], text
+        assert [it.split()[0] for it in text.split("\n\n")] == [*["NETWORK"] * 5, "TYPE", "NETWORK", "NETWORK"], text
 
 
 def the_edge():
@@ -258,10 +274,13 @@ def an_answer_that_is_lost():
 def wrong_questions():
     """Wrong words are told with what was expected; whatever else is said by hand, it answers the next."""
     with Watched(tunnels(1)) as gate:
-        assert asked(gate.path, "show", "nothing")[::2] == (1, "expected links, clients, stations, routes, services, edge, counts or events\n")
+        assert asked(gate.path, "show", "nothing")[::2] == (1, "expected links, clients, stations, peers, routes, services, edge, counts or events\n")
         assert asked(gate.path, "show", "links", "counts")[0] == 64
         assert asked(gate.path, "show", "links", "--prometheus")[0] == 64
         assert asked(gate.path, "reload", "now")[0] == 64
+        for words in (["show", TOO_LONG], ["ping", TOO_LONG], ["trace", TOO_LONG]):
+            status, _, complaint = asked(gate.path, *words)
+            assert status == 64 and complaint.startswith(f"ipxr-gateway: '{TOO_LONG}': expected "), (words[0], status, complaint)
         assert asked(gate.path + "s", "show")[0] == 1
         assert asked(gate.path, "ping", "nobody")[0] == 1 and asked(gate.path, "trace", "99")[0] == 1
         for line in (b"\n", b"\0\n", b"show \xff\xff\n", b"show links json counts more\n", b"go\n", b"show events\rjson\n"):
@@ -322,9 +341,61 @@ def many_ask():
         for it in some:
             assert it.recv(1) == b"+"
         assert asked(gate.path, "show")[::2] == (1, "too many ask at once: expected fewer\n")
+        with gate.run.halted():
+            late = [gate.connects(b"show\n") for _ in range(MOST_ASKED)]
+        for it in late:
+            assert whole_answer_of(it) == b"-too many ask at once: expected fewer\n\0" + b"1", "it isn't cut, though nobody heard the question"
+            it.close()
         some.pop().close()
         until(lambda: asked(gate.path, "show", "links")[0] == 0, "one may ask again")
         for it in some:
+            it.close()
+
+
+def descriptors_are_passed():
+    """What somebody passes with a question, or while too many ask, so that closing it would wait, holds up neither players nor others who ask"""
+    with Watched(tunnels(1)) as gate:
+        one, other = Client(gate.ports[0x10]), Client(gate.ports[0x10])
+        assert reaches(one, other)
+        some = [gate.connects(b"show events\n") for _ in range(MOST_ASKED)]
+        for it in some:
+            assert it.recv(1) == b"+"
+        for question in b"show links\n", b"":
+            held, far = unsent()
+            late = gate.connects()
+            with halted(gate):
+                passes(late, question or b"?", [held])
+            if question:
+                assert whole_answer_of(late)[:1] in (b"", b"-")
+                some.pop().close()
+            assert reaches(one, other) and reaches(other, one), "nobody is heard"
+            late.close()
+            far.close()
+        until(lambda: asked(gate.path, "show", "links")[0] == 0, "one may ask again")
+        for it in some:
+            it.close()
+
+
+def passed_within():
+    """Where closing what somebody passed takes an hour, nobody comes in to ask meanwhile, which is told; all else goes on, and the gateway ends."""
+    with Watched(tunnels(1)) as gate:
+        one, other = Client(gate.ports[0x10]), Client(gate.ports[0x10])
+        asks, kept = gate.connects(), []
+        for by in asks, gate.connects():
+            inner, keeps = within()
+            kept += keeps
+            with halted(gate):
+                passes(by, b"show links\n", [inner])
+            assert reaches(one, other) and reaches(other, one), "nobody is heard"
+        waits = gate.connects()
+        gate.told("nobody can ask at")
+        assert reaches(one, other) and reaches(other, one), "nobody is heard"
+        inner, keeps = within()
+        with halted(gate):
+            passes(waits, b"show links\n", [inner])
+        gate.run.order(SYSTEM.end)
+        gate.run.communicate(timeout=LIMIT)
+        for it in kept + [*keeps]:
             it.close()
 
 
@@ -365,11 +436,80 @@ def nobody_reads():
         assert all(answer_of(it).endswith(b"\0" + b"0") for it in some), "who reads late is told all"
 
 
+@contextlib.contextmanager
+def following(gate):
+    """Somebody who follows events, once he is told of one."""
+    words = [*SYSTEM.quick, SYSTEM.program, "show", "events", "--status", gate.path]
+    with subprocess.Popen(words, stdout=subprocess.PIPE, stderr=subprocess.PIPE) as run:
+        yield run
+        run.kill()
+
+
+def all_at_once():
+    """Of thirty who ask at once each has an answer, be it that too many ask; and none is told that the gateway has ended."""
+    with Watched(tunnels(1)) as gate:
+        words = [*SYSTEM.quick, SYSTEM.program, "show", "links", "--status", gate.path]
+        runs = [subprocess.Popen(words, stdout=subprocess.PIPE, stderr=subprocess.PIPE) for _ in range(AT_ONCE)]
+        for run in runs:
+            out, complaint = run.communicate(timeout=LIMIT)
+            is_shown = run.returncode == 0 and out.startswith(b"NETWORK ")
+            assert is_shown or (run.returncode, text_of(complaint)) == (1, "too many ask at once: expected fewer\n"), (run.returncode, complaint)
+        assert gate.shown("links")
+
+
+def many_follow():
+    """Eight may follow at once; another is told so, and comes in once one has left."""
+    with Watched(tunnels(1)) as gate, contextlib.ExitStack() as some:
+        runs = [some.enter_context(following(gate)) for _ in range(MOST_ASKED)]
+        until(lambda: asked(gate.path, "show")[::2] == (1, "too many ask at once: expected fewer\n"), "nobody more may ask")
+        client = Client(gate.ports[0x10])
+        for run in runs:
+            assert client.node.hex().upper().encode() in run.stdout.readline()
+        runs[0].kill()
+        until(lambda: asked(gate.path, "show", "links")[0] == 0, "one may ask again")
+
+
+def another_at_its_pipe():
+    """A gateway keeps its pipe: another at the same path doesn't begin; once it has ended, one does."""
+    with Watched(tunnels(1)) as gate:
+        with tempfile.NamedTemporaryFile(suffix=".conf") as file:
+            file.write(tunnels(1).encode())
+            file.flush()
+            words = [*SYSTEM.quick, SYSTEM.program, "--status", gate.path, file.name]
+            run = subprocess.run(words, capture_output=True, timeout=LIMIT, check=False)
+        assert run.returncode == 1 and f"can't listen there: {fault_words(errno.EADDRINUSE)}" in text_of(run.stderr), run
+        assert gate.shown("links")
+        gate.end()
+        gate.start(gate.program, ["--status", gate.path])
+        assert gate.shown("links")
+
+
+def read_anew():
+    """On Windows too, a file is read anew by reload; a wrong one changes nothing, and its faults are told."""
+    with Watched(tunnels(1)) as gate:
+        with open(gate.configuration, "a", encoding="ascii") as it:
+            it.write(tunnels(1, 0x20))
+        assert "1 added" in gate.asked("reload")
+        assert len(gate.shown("links")) == 2
+        with open(gate.configuration, "a", encoding="ascii") as it:
+            it.write("networks\n")
+        status, out, complaint = asked(gate.path, "reload")
+        assert (status, out) == (1, "") and complaint.startswith(f"{gate.configuration}:3: 'networks': expected"), complaint
+        assert len(gate.shown("links")) == 2
+        gate.run.order(SYSTEM.end)
+        assert text_of(gate.run.communicate(timeout=LIMIT)[1]) == complaint, "the gateway complains of it too"
+
+
+def on_windows():
+    """What Windows' pipe shows and refuses."""
+    return tried(seen, a_field_a_column, all_of_it, the_edge, as_the_report, metrics, all_at_once, many_follow, another_at_its_pipe, read_anew)
+
+
 def main():
-    if not has_linux("the status socket"):
-        return Counts()
+    if SYSTEM is Windows:
+        return on_windows()
     return tried(seen, a_field_a_column, all_of_it, the_edge, as_the_report, hostile_names, full_tables, metrics, an_answer_that_is_lost,
-                 wrong_questions, who_may_ask, who_takes_nobody, many_ask, no_room_to_ask, nobody_reads)
+                 wrong_questions, who_may_ask, who_takes_nobody, many_ask, descriptors_are_passed, passed_within, no_room_to_ask, nobody_reads)
 
 
 if __name__ == "__main__":

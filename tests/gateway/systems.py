@@ -166,7 +166,7 @@ class Windows:
     """Windows on x86-64."""
 
     name = "Windows"
-    has_cards = False
+    has_cards = False  # (TAPs; its interfaces are tried by npcap.py)
     is_wide = True
     is_emulated = False
     calls = words = {}

@@ -10,6 +10,7 @@
 #define _GNU_SOURCE
 #include <errno.h>
 #include <fcntl.h>
+#include <ifaddrs.h>
 #include <netinet/in.h>
 #include <netinet/tcp.h>
 #include <poll.h>
@@ -92,6 +93,7 @@ TROUBLED(ssize_t, sendto, -1, (int a, const void *b, size_t c, int d, const stru
 TROUBLED(int, poll, -1, (struct pollfd *a, nfds_t b, int c), (a, b, c))
 TROUBLED(ssize_t, read, -1, (int a, void *b, size_t c), (a, b, c))
 TROUBLED(ssize_t, write, -1, (int a, const void *b, size_t c), (a, b, c))
+TROUBLED(int, getifaddrs, -1, (struct ifaddrs **a), (a))
 TROUBLED(ssize_t, getrandom, -1, (void *a, size_t b, unsigned c), (a, b, c))
 WANTS_MEMORY(FILE *, fopen, NULL, (const char *a, const char *b), (a, b))
 WANTS_MEMORY(FILE *, fdopen, NULL, (int a, const char *b), (a, b))

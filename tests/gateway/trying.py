@@ -10,6 +10,15 @@ from systems import SYSTEM, Windows
 INSIDE = "--inside"  # the word by which a module is started in the network of its own
 
 
+def fault_of(test):
+    """What is wrong by a test, in words; empty where it passes."""
+    try:
+        test()
+    except Exception as fault:  # (of whatever kind: the tests behind it are run too)
+        return f"{type(fault).__name__}: {fault}"
+    return ""
+
+
 class Counts:
     """What went well and what didn't, told as it happens."""
 
@@ -17,13 +26,15 @@ class Counts:
         self.passed, self.failed = passed, failed
 
     def run(self, test):
-        """Runs a test: a function whose name and first line tell what it shows."""
+        """Runs a test: a function whose name and first line tell what it shows. One that fails is told, and run once more, which counts: a machine
+        with much else to do may spoil any."""
         name = test.__doc__.splitlines()[0].rstrip(".")
-        try:
-            test()
-        except Exception as fault:  # (of whatever kind: the tests behind it are run too)
+        if fault := fault_of(test):
+            print(f"again   gateway: {name}\n        {fault}", flush=True)
+            fault = fault_of(test)
+        if fault:
             self.failed += 1
-            print(f"FAILED  gateway: {name}\n        {type(fault).__name__}: {fault}", flush=True)
+            print(f"FAILED  gateway: {name}\n        {fault}", flush=True)
         else:
             self.passed += 1
             print(f"ok      gateway: {name}", flush=True)

@@ -1,10 +1,14 @@
 """The configuration and the command line."""
 import difflib
 import errno
+import fcntl
 import os
+import pty
 import re
+import select
 import subprocess
 import tempfile
+import termios
 
 from lab import LIMIT, Gateway, text_of, tunnels
 from systems import BUILD, SYSTEM, TOP, Windows, fault_words
@@ -32,8 +36,9 @@ def asked(*words, stdin=b"", folder=HERE):
 
 
 def kept(name):
-    """The complaints of a wrong configuration, as they are kept; those of a system without cards are others where it knows no such link."""
-    own = os.path.join(HERE, f"{name}.cardless.out")
+    """The complaints of a wrong configuration, as they are kept; those of a system without cards, or with interfaces alone, are others where
+    it knows no such link."""
+    own = os.path.join(HERE, f"{name}.interfaces.out" if SYSTEM is Windows else f"{name}.cardless.out")
     path = own if not SYSTEM.has_cards and os.path.exists(own) else os.path.join(HERE, f"{name}.out")
     with open(path, encoding="utf-8") as it:
         return it.read()
@@ -108,7 +113,7 @@ def the_command_line():
     """A wrong command line is told with the word and what was expected, and how it is right."""
     status, use, complaint = asked("--help")
     assert (status, complaint) == (0, "") and use.startswith("ipxr-gateway [--log]")
-    options = "--check, --log, --pcap, --status, --example, --version, --help or a configuration"
+    options = "--check, --log, --pcap, --status, --status-web, --example, --cards, --version, --help or a configuration"
     for words, what in (
         (("--check",), "the command line ends: expected a configuration"),
         (("--pcap", "wrong.conf"), "the command line ends: expected a configuration"),
@@ -136,6 +141,28 @@ def no_words():
     assert asked("--check", STDIN, stdin=f"{line}\n".encode())[:2] == (0, f"{STDIN}: 1 network, nothing wrong\n")
 
 
+def console_of_its_own(words, stop, key):
+    """What a program writes to a console that is its alone, until some bytes have come; then a key is pressed. Returns its status too."""
+    near, far = pty.openpty()
+    how = {"stdin": far, "stdout": far, "stderr": far, "start_new_session": True, "env": {**os.environ, "TERM": "xterm"}}
+    with subprocess.Popen(words, preexec_fn=lambda: fcntl.ioctl(far, termios.TIOCSCTTY, 0), **how) as run:
+        os.close(far)
+        said = b""
+        while stop not in said and select.select([near], [], [], LIMIT)[0]:
+            said += os.read(near, 4096)
+        is_waiting = run.poll() is None
+        os.write(near, key)
+        status = run.wait(timeout=LIMIT)
+    os.close(near)
+    return status, said, is_waiting
+
+
+def clicked_twice():
+    """In a console of its own, as where somebody clicks it twice, it says without words what to do, and waits for a key."""
+    status, said, is_waiting = console_of_its_own([*SYSTEM.quick, SYSTEM.program], b"Press a key", b"x")
+    assert (status, is_waiting) == (64, True) and b"network 10 1 1424 dosbox 2130" in said and b"To open one here, type cmd" in said, said
+
+
 def the_example():
     """--example prints the configuration of the sources, which is right, and has one network of DOSBox' on this machine alone."""
     status, out, complaint = asked("--example")
@@ -147,7 +174,7 @@ def the_example():
 
 def what_cannot_be_written():
     """Words that only print something end with 1, and say why, where it can't be written."""
-    for words in ["--example"], ["--help"], ["--version"], ["--check", STDIN]:
+    for words in ["--example"], ["--cards"], ["--help"], ["--version"], ["--check", STDIN]:
         with open("/dev/full", "wb") as full:
             run = subprocess.run([*SYSTEM.quick, SYSTEM.program, *words], input=tunnels(1).encode(), stdout=full, stderr=subprocess.PIPE,
                                  timeout=LIMIT, check=False)
@@ -155,11 +182,13 @@ def what_cannot_be_written():
 
 
 def status_on_windows():
-    """On Windows it is told that there is no status socket."""
+    """On Windows the status socket is a pipe: another path is refused, and so it is told where nobody listens."""
+    why = "on Windows the path is that of a pipe, and begins with \\\\.\\pipe\\"
     status, _, complaint = asked("--status", "status", STDIN, stdin=tunnels(1).encode())
-    assert status == 1 and complaint.endswith("ipxr-gateway: --status: there is no status socket on this system\n"), complaint
-    status, _, complaint = asked("show")
-    assert status == 64 and "there is no status socket on this system" in complaint, complaint
+    assert status == 1 and complaint.endswith(f"ipxr-gateway: status: can't listen there: {why}\n"), complaint
+    assert asked("show", "--status", "status") == (1, "", f"ipxr-gateway: no gateway answers at status: {why}\n")
+    nobody = f"\\\\.\\pipe\\nobody-{os.getpid()}"
+    assert asked("show", "--status", nobody) == (1, "", f"ipxr-gateway: no gateway answers at {nobody}: No such file or directory\n")
 
 
 def what_is_right():
@@ -176,7 +205,19 @@ def what_is_right():
                  b"network 20 1 1424 dosbox 0\nroute 1 1 1 via 02:00:00:00:00:01\nroute FFFFFFFE 15 65535 via 020000000001\n"
                  b"service FFFE " + b"A" * 47 + b" FFFFFFFD.FFFFFFFFFFFE.FFFF 15 via 020000000001\n",
                  b"network 20 1 1500 qemu-udp 0.0.0.0:5001 192.0.2.7:5001 raw",
-                 b"network 20 1 1500 qemu-udp [::]:5001 [2001:db8::7]:5001 raw"):
+                 b"network 20 1 1500 qemu-udp [::]:5001 [2001:db8::7]:5001 raw",
+                 b"network 20 1 1500 udp 0.0.0.0:5001 192.0.2.7:5001 raw node 020000000001",
+                 b"network 20 1 1500\nlink qemu-mcast 239.255.255.255:65535 raw\nlink qemu-mcast 224.0.0.0:1 via 192.0.2.7 raw\n"
+                 b"link qemu-mcast 239.255.255.255:65535 via 192.0.2.7 raw\nlink qemu-mcast 224.0.0.0:1 via 192.0.2.7 ethernet2\n"
+                 b"link udp 192.0.2.7:1 192.0.2.8:1 raw",
+                 b"network 20 1 1424\nlink web 8080\nclients 10 2\nallow 10.0.0.0/8\ntrust 10.0.0.1\nrate 100 50 1600\nstrangers 5\nline 1000\n"
+                 b"nodes by-address\norigins * " + b"http://" + b"a" * 80 + b"\nlink web 8080 auto\nrate 100\norigins https://a:1\n"
+                 b"link web 127.0.0.2:8080 raw\nlink qemu-tcp listen 127.0.0.3:8080 raw",
+                 b"network 20 1 1492 peers [::]:0 " + b"k" * 253 + b" auto node 020000000001\npeer [2001:db8::9]:65535\npeer " + b"a" * 253 + b":1\nrate 100",
+                 b"network 20 1 1360\nlink dosbox 0\nlink peers 0.0.0.0:2131 hub.key raw\npeer 192.0.2.9:1\nlink dosbox 0\nclients 10\n" +
+                 b"".join(b"peer b.example.net:%d\n" % k for k in range(1, 32)),
+                 b"network 20 1 1472 rfc1234 127.0.0.1:213\npeer 192.0.2.9:213\npeer b.example.net:213",
+                 *([b"network 20 1 1500 vde /" + b"a" * 89 + b" raw node 020000000001"] if SYSTEM.has_cards else [])):
         told = asked("--check", "/dev/stdin", stdin=text)
         assert told[:2] == (0, "/dev/stdin: 1 network, nothing wrong\n"), (text, told)
 
@@ -211,6 +252,13 @@ def as_many_statics():
         assert status == 2 and complaint == f"{STDIN}:66: '{kind}': expected at most 64 {kind}s of a network\n", complaint
 
 
+def as_many_peers():
+    """And 32 other places."""
+    many = "network 20 1 1360 peers 2131 hub.key raw\n" + "".join(f"peer 192.0.2.9:{k}\n" for k in range(1, 34))
+    status, _, complaint = asked("--check", STDIN, stdin=many.encode())
+    assert status == 2 and complaint == f"{STDIN}:34: 'peer': expected at most 32 of them in a network\n", complaint
+
+
 def one_rate_a_link():
     """Networks on one link share a rate: below one of them it is right, below a second it is told where the first is."""
     frames = [f"network {number} 1 1492 qemu-udp 5001 192.0.2.7:5001 {kind}\n" for number, kind in ((20, "raw"), (30, "llc"))]
@@ -226,7 +274,7 @@ def names_and_marks():
         for text, status, told in (
             (tunnels(2).replace("\n", "\r\n"), 0, ": 2 networks, nothing wrong\n"),
             (tunnels(1) + "\x1a\nnetwork", 2,
-             ":2: '\\x1A': expected network, link, extend, clients, allow, trust, rate, strangers, line, nodes, internal, adopt, permit, deny, route or service\n"),
+             ":2: '\\x1A': expected network, link, extend, clients, allow, trust, rate, strangers, line, nodes, internal, adopt, permit, deny, route, service, origins or peer\n"),
         ):
             name = "Müller Ωμέγα.conf"
             with open(os.path.join(folder, name), "w", encoding="utf-8", newline="") as it:
@@ -253,9 +301,8 @@ def what_cannot_be_opened():
 
 def main():
     counts = tried(each_wrong_line, nothing_is_opened, no_configuration, a_long_word, too_much, what_editors_write, the_command_line,
-                   the_version, no_words, the_example, what_is_right, as_many_links, as_many_rules, as_many_statics, one_rate_a_link, names_and_marks, what_cannot_be_opened)
-    counts.run(status_on_windows if SYSTEM is Windows else what_cannot_be_written)
-    return counts
+                   the_version, no_words, the_example, what_is_right, as_many_links, as_many_rules, as_many_statics, as_many_peers, one_rate_a_link, names_and_marks, what_cannot_be_opened)
+    return counts + (tried(status_on_windows, clicked_twice) if SYSTEM is Windows else tried(what_cannot_be_written))
 
 
 if __name__ == "__main__":

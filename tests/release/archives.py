@@ -208,9 +208,10 @@ def try_packages(folder):
     wrong = []
     for file in packages:
         name, _, ending = os.path.basename(file).split("_")
-        fields = dict(it.split(": ", 1) for it in run("dpkg-deb", "-f", file, "Architecture", "Depends")[1].splitlines())
-        found = fields["Architecture"], "libc6 (>= " in fields.get("Depends", "")
-        wanted = ending.removesuffix(".deb"), name in WITH_LIBC[ending.removesuffix(".deb")]
+        fields = dict(it.split(": ", 1) for it in run("dpkg-deb", "-f", file, "Architecture", "Depends", "Recommends")[1].splitlines())
+        has_libc = name in WITH_LIBC[ending.removesuffix(".deb")]
+        found = fields["Architecture"], "libc6 (>= " in fields.get("Depends", ""), fields.get("Recommends", "")
+        wanted = ending.removesuffix(".deb"), has_libc, "libsodium23" if has_libc and name == "ipxr-gateway" else ""
         wrong += [f"    {os.path.basename(file)}: {found}, wanted {wanted}\n"] if found != wanted else []
     tell(f"{len(packages)} packages name their processor, and the C library where they are linked with it", "".join(wrong))
 

@@ -178,11 +178,12 @@ def begun(places, bad=""):
 
 def try_libraries(_):
     """What the program stands on is proved in an order that can be, by as many jobs as there is room for; what fails stops the rest."""
-    for places in (2, 4):
-        alone = [(it, places) for it in ("ipx_router", "ipx_internet", "ipx_cmd")]
-        wanted = [("ipx_wire", places), ("ipx_table", places - 1), ("ipx_capture", 1), *alone, True]
+    beside = {2: [("ipx_router", 1), ("ipx_recording", 1)], 4: [("ipx_recording", 1), ("ipx_router", 4)]}
+    for places, both in beside.items():
+        alone = [(it, places) for it in ("ipx_internet", "ipx_cmd")]
+        wanted = [("ipx_wire", places), ("ipx_table", places - 1), ("ipx_capture", 1), *both, *alone, True]
         tell(f"libraries by {places} jobs", differs(begun(places), wanted))
-    in_turn = ["ipx_wire", "ipx_table", "ipx_router", "ipx_internet", "ipx_capture", "ipx_cmd"]
+    in_turn = ["ipx_wire", "ipx_table", "ipx_router", "ipx_internet", "ipx_capture", "ipx_recording", "ipx_cmd"]
     tell("libraries by one job", differs(begun(1), [*((it, 1) for it in in_turn), True]))
     stops = [("ipx_wire", 4), ("ipx_table", 3), ("ipx_capture", 1), ("ipx_table", "stopped"), False]
     tell("a library that isn't proved stops the others", differs(begun(4, "ipx_capture"), stops))

@@ -10,7 +10,7 @@ from systems import HEADERS
 from telling import has, left_out, prints, quietly, succeeds, tell
 
 STRICT = ["-Wall", "-Wextra", "-Wpedantic", "-Wconversion", "-Werror"]
-ROUTER, TUNNEL, KEYED, SEGMENT, PLAN, SETTINGS, FAIR, LIMITS, CABLE, CONFIGURATION, FATES, EDGE = HEADERS
+ROUTER, TUNNEL, KEYED, SEGMENT, PLAN, SETTINGS, FAIR, LIMITS, CABLE, CONFIGURATION, FATES, EDGE, PEERS = HEADERS
 # Numbers with words: all of the router's, and those of the others that a call answers. The kinds of frames, what a datagram said, what a
 # link is, what limits say of a packet, what a probe does, what is next with a packet, and what a rule names have no words.
 ANSWERS = {
@@ -74,6 +74,9 @@ ALTERED = (
     (FATES, "uint16_t number; /*", "uint8_t number; /*"),
     (FATES, "uint64_t lost[28];", "uint64_t lost[27];"),
     (FATES, "ipxr_counts *counts, uint8_t why", "ipxr_counts *counts, uint16_t why"),
+    (PEERS, "uint64_t slots[256]", "uint64_t slots[255]"),
+    (PEERS, "uint8_t echo[16];", "uint8_t other[16];"),
+    (PEERS, "uint8_t place, uint8_t session[16]", "uint16_t place, uint8_t session[16]"),
 )
 STANDARDS = {
     "c": (("gcc", "clang"), ("c89", "c99", "c11", "c17", "c2x")),
@@ -81,14 +84,15 @@ STANDARDS = {
 }
 PROGRAMS = ("every_standard", "every_standard_tunnel", "every_standard_keyed", "every_standard_segment", "every_standard_plan", "every_standard_settings",
             "every_standard_fair", "every_standard_limits", "every_standard_cable", "every_standard_configuration",
-            "every_standard_fates", "every_standard_edge")
+            "every_standard_fates", "every_standard_edge", "every_standard_peers")
 # What those programs show, where they run.
 SHOWN = ("an empty handle, a text and a router of one port", "an empty handle of a tunnel, and a tunnel",
          "a handle of a tunnel with keyed nodes, and who registers there",
          "an empty handle of a segment, and a segment", "a plan", "a line of a configuration",
          "a receiver of zeros, a receiver and a meter", "limits, and what they let pass",
          "kinds of frames, two links that are one cable, a range, a pace, a node that moves, and who is asked again",
-         "a configuration of two networks", "the way of a packet, and counts", "a packet that is numbered, a rule, and a route")
+         "a configuration of two networks", "the way of a packet, and counts", "a packet that is numbered, a rule, and a route",
+         "a place that is heard once")
 
 BEGIN = """\
 #include <stdio.h>
@@ -102,6 +106,7 @@ BEGIN = """\
 #include "ipxr_configuration.h"
 #include "ipxr_fates.h"
 #include "ipxr_edge.h"
+#include "ipxr_peers.h"
 typedef void call(void);
 call *const calls[] = {
 """

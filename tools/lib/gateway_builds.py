@@ -4,6 +4,7 @@ import glob
 import os
 from typing import NamedTuple
 
+import windows_resource
 from telling import left_out, quietly, say, succeeds
 
 TESTS = "tests/gateway"
@@ -11,24 +12,28 @@ CC, AARCH64, WINDOWS = "cc", "aarch64-linux-gnu-gcc", "x86_64-w64-mingw32-gcc"
 FLAGS = ["-std=c99", "-Wall", "-Wextra", "-pedantic", "-D_POSIX_C_SOURCE=200809L", "-Igateway"]
 SANITIZERS = ["-O1", "-g", "-fsanitize=address,undefined", "-fno-sanitize-recover=all"]
 # The folders of gateway/systems that a system is made of: what any Unix has, what it has beside that, what it lacks.
-LINUX, POSIX, OF_WINDOWS = ("unix", "linux"), ("unix", "posix", "cardless"), ("windows", "cardless")
+LINUX, POSIX, OF_WINDOWS = ("unix", "linux"), ("unix", "posix", "cardless"), ("windows",)
 ONE_FILE = "build/library/libipxr.c"
+# (a program that is linked statically can't load a library while it runs, and says so)
+STATIC = ("-static", "-DSTANDS_ALONE")
 # (with 32 bits the GNU C library counts the seconds of the date, and the bytes of a file, in as many unless it is told)
 WIDE = ["-D_FILE_OFFSET_BITS=64", "-D_TIME_BITS=64"]
 # (what isn't static finds the C library where the cross compiler has it)
 FOUND_THERE = ("-Wl,--dynamic-linker=/usr/i686-linux-gnu/lib/ld-linux.so.2", "-Wl,-rpath,/usr/i686-linux-gnu/lib")
+WHAT = "Routes IPX between DOSBox, emulators and Ethernet"  # as Windows shows it
 # (Windows' own texts for the command line; neither a time nor a name of what was compiled where)
 FLAGS_OF_WINDOWS = ["-municode", "-s", "-Wl,--no-insert-timestamp"]
+LIBRARIES_OF_WINDOWS = ["-liphlpapi", "-lws2_32"]
 
 # The calls of the system that tests/gateway/trouble.c stands in front of, and the one by which somebody wants a reload.
 TROUBLED = """
     socket bind getsockname setsockopt getsockopt connect listen accept recv recvmsg recvmmsg send sendto sendmmsg poll open close read write
-    ioctl fcntl clock_gettime fopen fdopen malloc calloc realloc open_memstream getrandom
+    ioctl fcntl clock_gettime fopen fdopen malloc calloc realloc open_memstream getrandom getifaddrs
     reload_for""".split()
 # The calls that tests/gateway/made_up stands in front of: memory, and what each packet passes.
 WATCHED = """
     malloc calloc realloc free fclose gateway_open gateway_change tunnel_hear ether_hear status_hears loop_hears outgoing_copy
-    outgoing_own cable_send_all edge_lets_out ipxr_packet ipxr_keyed_hear ipxr_keyed_receiver ipxr_segment_receiver""".split()
+    outgoing_own cable_send_all edge_lets_out segment_repeat ipxr_packet ipxr_keyed_hear ipxr_keyed_receiver ipxr_segment_receiver""".split()
 
 
 def sources(*folders):
@@ -62,14 +67,15 @@ def builds(name, *more, compiler=CC, folder="build", system=LINUX):
 
 def builds_aarch64():
     is_there = os.path.exists("build/aarch64/libipxr.a") or succeeds("tools/platforms", "aarch64")
-    return is_there and builds("ipxr-gateway", "-O2", "-static", compiler=AARCH64, folder="build/aarch64")
+    return is_there and builds("ipxr-gateway", "-O2", *STATIC, compiler=AARCH64, folder="build/aarch64")
 
 
 def builds_windows():
     folder = "build/windows"
     is_there = os.path.exists(f"{folder}/libipxr.a") or succeeds("tools/platforms", "windows")
-    return is_there and succeeds(WINDOWS, *FLAGS, f"-I{folder}", "-Iinclude", "-O2", *FLAGS_OF_WINDOWS, *common_sources(),
-        *system_sources(OF_WINDOWS), f"{folder}/libipxr.a", "-lws2_32", "-o", f"{folder}/ipxr-gateway.exe")
+    return is_there and windows_resource.builds(folder, "ipxr-gateway", WHAT) and \
+        succeeds(WINDOWS, *FLAGS, f"-I{folder}", "-Iinclude", "-O2", *FLAGS_OF_WINDOWS, *common_sources(), *system_sources(OF_WINDOWS),
+            f"{folder}/ipxr-gateway.res.o", f"{folder}/libipxr.a", *LIBRARIES_OF_WINDOWS, "-o", f"{folder}/ipxr-gateway.exe")
 
 
 class Kind(NamedTuple):
@@ -88,8 +94,8 @@ class Kind(NamedTuple):
 OF_ONE_FILE = {
     "posix": Kind(CC, POSIX, ("-D_DARWIN_C_SOURCE",)),
     "musl": Kind("musl-gcc", POSIX),
-    "i686": Kind("i686-linux-gnu-gcc", LINUX, (), (*WIDE, "-static"), FOUND_THERE),
-    "arm": Kind("arm-linux-gnueabihf-gcc", LINUX, (), (*WIDE, "-static"), (), "qemu-arm"),
+    "i686": Kind("i686-linux-gnu-gcc", LINUX, (), (*WIDE, *STATIC), FOUND_THERE),
+    "arm": Kind("arm-linux-gnueabihf-gcc", LINUX, (), (*WIDE, *STATIC), (), "qemu-arm"),
 }
 
 
@@ -193,4 +199,10 @@ def builds_for_windows():
     folder, flags = "build/windows", ["-O2"]
     return builds_windows() and builds_siphash(WINDOWS, f"{folder}/siphash.exe", flags) and \
         builds_limits(WINDOWS, folder, flags, ".exe") and \
-        succeeds(WINDOWS, *FLAGS, *flags, f"{TESTS}/console.c", "-o", f"{folder}/console.exe")
+        succeeds(WINDOWS, *FLAGS, *flags, f"{TESTS}/console.c", "-o", f"{folder}/console.exe") and builds_stub(f"{folder}/stub")
+
+
+def builds_stub(folder):
+    """The DLL that stands in Npcap's place."""
+    os.makedirs(folder, exist_ok=True)
+    return succeeds(WINDOWS, "-std=c99", "-Wall", "-Wextra", "-O2", "-shared", f"{TESTS}/wpcap.c", "-lws2_32", "-o", f"{folder}/wpcap.dll")

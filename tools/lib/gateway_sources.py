@@ -28,7 +28,7 @@ WAYS = (
     ("tcc", ["make", "CC=tcc"], ["make", "tcc"]),
     ("POSIX", ["make", "SYSTEM=posix"], ["make", "cc"]),
     ("musl", ["bmake", "CC=musl-gcc", "SYSTEM=posix"], ["bmake", "musl-gcc"]),
-    ("32 bits", ["make", "CC=i686-linux-gnu-gcc", "LDFLAGS=-static"], ["make", "i686-linux-gnu-gcc"]),
+    ("32 bits", ["make", "CC=i686-linux-gnu-gcc -DSTANDS_ALONE", "LDFLAGS=-static"], ["make", "i686-linux-gnu-gcc"]),
 )
 WARNINGS = "CFLAGS=-O1 -Wall -Wextra -pedantic"
 

@@ -9,7 +9,7 @@ import layout
 from systems import HEADERS
 
 PAGES = ("EMBED", "LIBIPXR", "PACKETS", "ROUTER", "TUNNEL", "KEYED", "SEGMENT", "RELOAD", "FAIR", "LIMITS", "CABLE", "FATES", "EDGE",
-         "CONFIGURATION", "GATEWAY-REFERENCE", "TERMS")
+         "PEERS", "CONFIGURATION", "GATEWAY-REFERENCE", "TERMS")
 EXAMPLES = "examples/embed/c"
 NAMED = re.compile(r"docs/([\w-]+)\.md")
 # What lies at the top, by its place in the repository.

@@ -16,7 +16,7 @@ SOURCES, TESTS = f"{TOP}/packages/cpp", f"{TOP}/tests/packages"
 # Calls and numbers that the headers for C++ don't name, and why. All are in the headers of C, which they include.
 LEFT_OUT = {
     r"ipxr_word": "ipxr_text, which is in the header, is the same for a text",
-    r"IPXR_(MOST_(PORTS|ROUTES|SERVICES|CLIENTS|LINKS|STATIONS|PLANNED|STEPS|RULES|TIME)|(PLAN_)?STACK|LIFETIME|SPEAKERS|ALL_\w+|"
+    r"IPXR_(MOST_(PORTS|ROUTES|SERVICES|CLIENTS|LINKS|STATIONS|PLANNED|STEPS|RULES|TIME|PEERS)|(PLAN_)?STACK|LIFETIME|SPEAKERS|ALL_\w+|"
     r"PACKET_(ROUTES|SERVICES)|SHORTEST_FRAME)": "sizes, which a program names where it needs them",
     r"IPXR_(STARTED|STOPPED|TICKED|LEARNED|ANSWERED|FORWARDED|PROPAGATED|WENT_DOWN|CAME_UP|ALREADY_\w+|NOT_RUNNING|MALFORMED_\w+|OWN_ECHO|"
     r"BAD_\w+|CROSSED_\w+|ELSEWHERE|OTHER_SOCKET|NOT_NEIGHBOUR|NEAREST_REPLY|TOO_MANY_ROUTERS|FAR_SIDE|NO_ROUTE|TOO_LONG|DOWN_PORT|LAST_DROP|"
@@ -25,7 +25,8 @@ LEFT_OUT = {
     r"IPXR_(RIP|SAP)_(SOCKET|REQUEST|RESPONSE)": "a packet is written with it",
     r"IPXR_(NO_REASON|DROPS)": "how many there are",
     r"IPXR_(NO_ONE|CARRIER_\w+|TUNNEL_(ABSENT|STAYS|AGAIN|NEW))": "a plan's links are given as C has them",
-    r"IPXR_(EXPECTED|SETTING|OVER)_\w+|IPXR_FRAME_ANY": "what a line of a configuration says is told as C has it",
+    r"IPXR_(EXPECTED|SETTING|OVER|CARDS)_\w+|IPXR_FRAME_ANY": "what a line of a configuration says, and on which system, is told as C has it",
+    r"ipxr_peers_\w+|IPXR_PEERS_\w+": "gateways that share a network call it from C",
     r"IPXR_NEXT_(?!END)\w+|IPXR_LOST_\w+": "whoever answers what is next names it",
 }
 STRICT = ["-Wall", "-Wextra", "-pedantic", "-Wconversion", "-Werror"]

@@ -15,13 +15,14 @@ from telling import has, left_out, say, tell
 
 # Numbers that the safe types don't name, and why. All are in the raw layer.
 LEFT_OUT = {
-    r"IPXR_(MOST_(PORTS|ROUTES|SERVICES|CLIENTS|LINKS|STATIONS|PLANNED|STEPS|RULES|TIME)|(PLAN_)?STACK|LIFETIME|SPEAKERS|ALL_\w+|"
+    r"IPXR_(MOST_(PORTS|ROUTES|SERVICES|CLIENTS|LINKS|STATIONS|PLANNED|STEPS|RULES|TIME|PEERS)|(PLAN_)?STACK|LIFETIME|SPEAKERS|ALL_\w+|"
     r"PACKET_(ROUTES|SERVICES)|SHORTEST_FRAME)":
         "sizes, which a program names where it needs them",
     r"IPXR_(LAST_DROP|DROPS|NO_FRAME|NO_REASON)": "what stands for none, or for how many there are: enums and lists say it",
     r"IPXR_(SAID_NOTHING|TOO_MUCH_FOR_STRANGERS|PROBE_NOTHING|FATE_ELSEWHERE)": "what an enum means where it means nothing else",
     r"IPXR_(NO_ONE|CARRIER_\w+|TUNNEL_(ABSENT|STAYS|AGAIN|NEW))": "a plan's links are given as C has them",
-    r"IPXR_(EXPECTED|SETTING|OVER)_\w+|IPXR_FRAME_ANY": "what a line of a configuration says is told as C has it",
+    r"IPXR_(EXPECTED|SETTING|OVER|CARDS)_\w+|IPXR_FRAME_ANY": "what a line of a configuration says, and on which system, is told as C has it",
+    r"ipxr_peers_\w+|IPXR_PEERS_\w+": "gateways that share a network call it from C",
     r"IPXR_(NEXT|LOST)_\w+": "whoever answers what is next names it",
 }
 C_KINDS = {rust: c for c, rust in rust_sys.KINDS.items()} | {"c_void": "void"}

@@ -4,7 +4,7 @@ from typing import NamedTuple
 PROGRAM = "crates/ipxr/out/ipxr"
 # The headers of the library for C.
 HEADERS = ("ipxr.h", "ipxr_tunnel.h", "ipxr_keyed.h", "ipxr_segment.h", "ipxr_plan.h", "ipxr_settings.h", "ipxr_fair.h", "ipxr_limits.h",
-           "ipxr_cable.h", "ipxr_configuration.h", "ipxr_fates.h", "ipxr_edge.h")
+           "ipxr_cable.h", "ipxr_configuration.h", "ipxr_fates.h", "ipxr_edge.h", "ipxr_peers.h")
 
 
 class System(NamedTuple):

@@ -1,9 +1,11 @@
 -- What lines of a configuration say together, as C knows it.
-use Rattle.std.specs.Prelude.{ℕ, ◌/◌, Bool, false, List, [], ◌∷◌, Option, None, Some}
+use Rattle.std.specs.Prelude.{ℕ, ◌/◌, Bool, List, [], ◌∷◌, Option, None, Some}
 use Rattle.std.specs.Option.{unwrap_or}
 use Rattle.ipx_c.specs.SettingsValues.{expected_number}
 use Rattle.ipx_c.specs.Sizes.{most_ports, most_links, most_clients, most_routes, most_services}
 use Rattle.ipx_c.specs.declared.configuration.LineWrong.{LineWrong}
+use Rattle.ipx_settings.specs.declared.link.Cards.{Cards}
+use Rattle.ipx_settings.specs.declared.link.Cards.TheVariants as has
 use Rattle.ipx_configuration.specs.Configurations.{told, is_below_tunnel}
 use Rattle.ipx_configuration.specs.declared.configuration.Capacity.{Capacity}
 use Rattle.ipx_configuration.specs.declared.configuration.Configuration.{Configuration}
@@ -12,9 +14,9 @@ use Rattle.ipx_configuration.specs.declared.fault.Fault.{Fault}
 use Rattle.ipx_configuration.specs.declared.fault.Fault.TheVariants as fault
 
 -- that of one router: so networks with tunnels can't fill a table together
-abbrev pub capacity_of : Bool → Capacity
-capacity_of has_cards = record {
-  has_cards = has_cards;
+abbrev pub capacity_of : Cards → Capacity
+capacity_of cards = record {
+  cards = cards;
   networks = most_ports;
   links = most_links;
   clients = most_clients;
@@ -23,7 +25,18 @@ capacity_of has_cards = record {
 }
 
 abbrev pub most_default : Capacity
-most_default = capacity_of false
+most_default = capacity_of has.None
+
+-- what was expected of other places
+abbrev pub peers_number : Option Fault → ℕ
+peers_number (Some fault.BelowPeers) = 80
+peers_number (Some (fault.OtherPeer line)) = 81
+peers_number (Some fault.ManyPeers) = 82
+peers_number (Some fault.PeerOfFour) = 83
+peers_number (Some fault.PeerOfSix) = 84
+peers_number (Some (fault.OnePeers line)) = 85
+peers_number (Some fault.OnOwnLine) = 86
+peers_number other = 0
 
 -- what was expected; 0 where nothing is wrong
 abbrev pub fault_number : Option Fault → ℕ
@@ -53,6 +66,8 @@ fault_number (Some fault.ManyRules) = 60
 fault_number (Some fault.ManyRoutes) = 68
 fault_number (Some fault.ManyServices) = 69
 fault_number (Some (fault.OtherService line)) = 70
+fault_number (Some fault.BelowWeb) = 77
+fault_number other = peers_number other
 
 -- the word that is wrong; of a line that is wrong by itself, the first that couldn't be read
 abbrev pub fault_word : Option Fault → ℕ → ℕ
@@ -63,6 +78,10 @@ fault_word (Some (fault.OtherSocket word)) read = word
 fault_word (Some (fault.ManySockets word)) read = word
 fault_word (Some (fault.ManyRanges word)) read = word
 fault_word (Some (fault.OtherService line)) read = 2
+fault_word (Some (fault.OtherPeer line)) read = 1
+fault_word (Some fault.PeerOfFour) read = 1
+fault_word (Some fault.PeerOfSix) read = 1
+fault_word (Some fault.OnOwnLine) read = 1
 fault_word other read = 0
 
 -- the line that says something else
@@ -75,6 +94,8 @@ fault_line (Some (fault.OtherPort line)) = line
 fault_line (Some (fault.Once line)) = line
 fault_line (Some (fault.OtherKilobits kilobits line)) = line
 fault_line (Some (fault.OtherService line)) = line
+fault_line (Some (fault.OtherPeer line)) = line
+fault_line (Some (fault.OnePeers line)) = line
 fault_line other = 0
 
 abbrev pub fault_numbers : Option Fault → List ℕ

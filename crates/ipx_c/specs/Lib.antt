@@ -48,6 +48,7 @@ pub mod CableValues
 -- the ways and fates of packets: numbers
 pub mod CourseValues
 pub mod CountValues
+pub mod PeerValues
 -- broadcasts that are copied to another network
 pub mod Extends
 -- nothing that a public contract says

@@ -1,6 +1,7 @@
 -- What a line of a configuration says, as C knows it.
-use Rattle.std.specs.Prelude.{ℕ, Bool, true, false, List, [], ◌∷◌, replicate, Option, None, Some}
+use Rattle.std.specs.Prelude.{ℕ, Bool, true, false, ◌==◌, if◌then◌else◌, List, [], ◌∷◌, replicate, Option, None, Some}
 use Rattle.std.specs.Option.{is_some, unwrap_or}
+use Rattle.ipx_settings.specs.Addresses.{four_at}
 use Rattle.ipx_settings.specs.Internals.{internal_number, internal_node}
 use Rattle.ipx_settings.specs.Networks.{number_in, head_in, link_in, node_in}
 use Rattle.ipx_settings.specs.declared.addresses.Address.{Address}
@@ -16,6 +17,8 @@ use Rattle.ipx_settings.specs.declared.line.Context.{Context}
 use Rattle.ipx_settings.specs.declared.line.Line.{Line}
 use Rattle.ipx_settings.specs.declared.line.Line.TheVariants as line
 use Rattle.ipx_settings.specs.declared.line.RateBegun.TheVariants as rate
+use Rattle.ipx_settings.specs.declared.link.Cards.{Cards}
+use Rattle.ipx_settings.specs.declared.link.Cards.TheVariants as has
 use Rattle.ipx_settings.specs.declared.link.End.{End}
 use Rattle.ipx_settings.specs.declared.link.End.TheVariants as ends
 use Rattle.ipx_settings.specs.declared.link.Frames.{Frames}
@@ -38,8 +41,12 @@ use Rattle.ipx_c.specs.declared.settings_values.LineSaid.{LineSaid}
 use Rattle.ipx_c.specs.declared.settings_values.LinkSaid.{LinkSaid}
 use Rattle.ipx_c.specs.declared.settings_values.NetworkSaid.{NetworkSaid}
 
-abbrev pub context_of : Bool → Bool → ℕ → Context
-context_of has_cards is_below_tunnel most_clients = record { has_cards = has_cards; is_below_tunnel = is_below_tunnel; most_clients = most_clients }
+-- which cards a system has, by its number; those behind it are that of all
+abbrev pub cards_of : ℕ → Cards
+cards_of number = if number == 0 then has.None else if number == 2 then has.Interfaces else has.All
+
+abbrev pub context_of : Cards → Bool → ℕ → Context
+context_of cards is_below_tunnel most_clients = record { cards = cards; is_below_tunnel = is_below_tunnel; most_clients = most_clients }
 
 -- the largest number of 32 bits
 abbrev pub most_u32 : ℕ
@@ -104,9 +111,15 @@ end_values (ends.Listen local) frames = link_at 3 frames true (host_values local
 end_values (ends.Connect remote) frames = link_at 4 frames true no_host (place_values remote) (place_name remote) no_card
 end_values (ends.Tap name) frames = link_at 5 frames true no_host no_host no_name name
 end_values (ends.Interface name) frames = link_at 6 frames true no_host no_host no_name name
+end_values (ends.Group group card) frames = link_at 7 frames true (host_values (four_at card 0)) (host_values group) no_name no_card
+end_values (ends.Web local) frames = link_at 9 frames true (host_values local) no_host no_name no_card
+end_values (ends.Switch path) frames = link_at 8 frames true no_host no_host path no_card
+end_values (ends.Peers local file) frames = link_at 10 frames true (host_values local) no_host file no_card
 
 abbrev pub link_values : LinkBegun → LinkSaid
 link_values (begun.Whole (link.Tunnel local)) = link_at 1 0 true (host_values local) no_host no_name no_card
+link_values (begun.Whole (link.Web local)) = link_at 9 0 true (host_values local) no_host no_name no_card
+link_values (begun.Whole (link.Rfc1234 local)) = link_at 11 0 true (host_values local) no_host no_name no_card
 link_values (begun.Whole (link.Framed end frames)) = end_values end (frames_number frames)
 link_values begun.Nothing = no_link false
 link_values other = no_link true
@@ -165,6 +178,8 @@ line_number (line.Rule true begun) = 13
 line_number (line.Rule false begun) = 14
 line_number (line.Route begun) = 15
 line_number (line.Service begun) = 16
+line_number (line.Origins has_some) = 17
+line_number (line.Peer begun) = 18
 
 abbrev pub three : ℕ → ℕ → ℕ → List ℕ
 three a b c = a ∷ b ∷ c ∷ []
@@ -180,9 +195,11 @@ numbers_of (line.Strangers (Some r)) = three r 0 0
 numbers_of (line.Kilobits (Some n)) = three n 0 0
 numbers_of other = three 0 0 0
 
+-- (of another place, where it is)
 abbrev pub link_of_line : Line → LinkSaid
 link_of_line (line.Network begun) = link_values (link_in begun)
 link_of_line (line.Link begun) = link_values begun
+link_of_line (line.Peer (Some place)) = link_at 0 0 false no_host (place_values place) (place_name place) no_card
 link_of_line other = no_link false
 
 abbrev pub network_of_line : Line → NetworkSaid
@@ -220,6 +237,14 @@ later_number (Some expected.Via) = 64
 later_number (Some expected.OneType) = 65
 later_number (Some expected.ServiceName) = 66
 later_number (Some expected.ServiceAddress) = 67
+later_number (Some expected.Group) = 71
+later_number (Some expected.ViaOrFrames) = 72
+later_number (Some expected.Card) = 73
+later_number (Some expected.Switch) = 74
+later_number (Some expected.FramesOrNothing) = 75
+later_number (Some expected.Origin) = 76
+later_number (Some expected.KeyFile) = 78
+later_number (Some expected.CardAndPort) = 79
 later_number other = 0
 
 -- what was expected; 0 where nothing is wrong (32 to 51 are those of lines together)

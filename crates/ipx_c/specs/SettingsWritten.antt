@@ -1,5 +1,5 @@
 -- What C wants written as a line of a configuration has it.
-use Rattle.std.specs.Prelude.{ℕ, ◌==◌, if◌then◌else◌, List, slice_index, Option, Some, None}
+use Rattle.std.specs.Prelude.{ℕ, ◌==◌, ◌&&◌, if◌then◌else◌, List, slice_index, Option, Some, None}
 use Rattle.std.specs.Option.{option_map, option_and_then, unwrap_or}
 use Rattle.ipx_settings.specs.Writing.{written_size, written_into}
 use Rattle.ipx_settings.specs.WritingLinks.{spaced, link_words}
@@ -39,12 +39,18 @@ end_of it =
     else if it.carrier == 4 then Some (ends.Connect (place_of it.remote it.host))
     else if it.carrier == 5 then Some (ends.Tap it.name)
     else if it.carrier == 6 then Some (ends.Interface it.name)
+    else if it.carrier == 7 then Some (ends.Group (address_of it.remote) it.local.four)
+    else if it.carrier == 8 then Some (ends.Switch it.host)
+    else if it.carrier == 9 then Some (ends.Web (address_of it.local))
+    else if it.carrier == 10 then Some (ends.Peers (address_of it.local) it.host)
     else None
 
 -- the link that these values are, if they are one
 abbrev pub link_of : LinkSaid → Option Link
 link_of it =
     if it.carrier == 1 then Some (link.Tunnel (address_of it.local))
+    else if (it.carrier == 9) && (it.frames == 0) then Some (link.Web (address_of it.local))
+    else if it.carrier == 11 then Some (link.Rfc1234 (address_of it.local))
     else option_and_then (λ end. option_map (link.Framed end) (frames_of it.frames)) (end_of it)
 
 -- how many bytes its words have, 0 where they don't have room; what is no link has none

@@ -4,17 +4,16 @@ ghost use Rattle.std.specs.Option.{unwrap_or, is_some};
 ghost use Rattle.ipx_configuration.specs.Configurations.{told, after, unlinked};
 ghost use Rattle.ipx_configuration.specs.Configured.{configured};
 ghost use Rattle.ipx_configuration.specs.Internals.{told_internal};
-ghost use Rattle.ipx_c.specs.ConfigurationValues.{capacity_of, most_default, fault_number, fault_word, fault_line, fault_numbers, wrong_at, line_wrong};
-ghost use Rattle.ipx_c.specs.SettingsValues.{line_said};
-ghost use Rattle.ipx_c.specs.Writes.{is_yes};
+ghost use Rattle.ipx_c.specs.ConfigurationValues.{capacity_of, most_default, peers_number, fault_number, fault_word, fault_line, fault_numbers, wrong_at, line_wrong};
+ghost use Rattle.ipx_c.specs.SettingsValues.{cards_of, line_said};
 
 use crate::settings_values::{
-    LineSaid, bits_of, expected_number, line_number, link_of_line, network_of_line, numbers_of,
-    route_of_line, rule_of_line, service_of_line,
+    LineSaid, bits_of, cards_of, expected_number, line_number, link_of_line, network_of_line,
+    numbers_of, route_of_line, rule_of_line, service_of_line,
 };
 use crate::sizes::{MOST_CLIENTS, MOST_LINKS, MOST_PORTS, MOST_ROUTES, MOST_SERVICES};
 use ipx_configuration::{Capacity, Configuration, Fault, InternalSaid, LinkConfigured};
-use ipx_settings::Reading;
+use ipx_settings::{Cards, Reading};
 
 /// What is wrong with a line, but for what was expected there.
 #[repr(C)]
@@ -32,16 +31,32 @@ pub struct LineWrong {
     pub is_below_tunnel: bool,
 }
 
-fn capacity_of(has_cards: bool) -> Capacity
-    ensures { result ≡ capacity_of has_cards }
+fn capacity_of(cards: Cards) -> Capacity
+    ensures { result ≡ capacity_of cards }
 {
     Capacity {
-        has_cards,
+        cards,
         networks: MOST_PORTS,
         links: MOST_LINKS,
         clients: MOST_CLIENTS as u16,
         routes: (MOST_ROUTES / MOST_PORTS) as u16,
         services: (MOST_SERVICES / MOST_PORTS) as u16,
+    }
+}
+
+/// The numbers of what was expected of other places.
+fn peers_number(fault: Option<Fault>) -> u8
+    ensures { result ≡ peers_number fault }
+{
+    match fault {
+        Some(Fault::BelowPeers) => 80,
+        Some(Fault::OtherPeer(_)) => 81,
+        Some(Fault::ManyPeers) => 82,
+        Some(Fault::PeerOfFour) => 83,
+        Some(Fault::PeerOfSix) => 84,
+        Some(Fault::OnePeers(_)) => 85,
+        Some(Fault::OnOwnLine) => 86,
+        _ => 0,
     }
 }
 
@@ -76,6 +91,8 @@ fn fault_number(fault: Option<Fault>) -> u8
         Some(Fault::ManyRoutes) => 68,
         Some(Fault::ManyServices) => 69,
         Some(Fault::OtherService(_)) => 70,
+        Some(Fault::BelowWeb) => 77,
+        _ => peers_number(fault),
     }
 }
 
@@ -91,6 +108,10 @@ fn fault_word(fault: Option<Fault>, read: usize) -> usize
         Some(Fault::ManySockets(word)) => word,
         Some(Fault::ManyRanges(word)) => word,
         Some(Fault::OtherService(_)) => 2,
+        Some(Fault::OtherPeer(_)) => 1,
+        Some(Fault::PeerOfFour) => 1,
+        Some(Fault::PeerOfSix) => 1,
+        Some(Fault::OnOwnLine) => 1,
         _ => 0,
     }
 }
@@ -108,6 +129,8 @@ fn fault_line(fault: Option<Fault>) -> usize
         Some(Fault::Once(line)) => line,
         Some(Fault::OtherKilobits(_, line)) => line,
         Some(Fault::OtherService(line)) => line,
+        Some(Fault::OtherPeer(line)) => line,
+        Some(Fault::OnePeers(line)) => line,
         _ => 0,
     }
 }
@@ -148,13 +171,13 @@ pub extern "C" fn ipxr_configuration_line(
     said: &mut LineSaid,
     wrong: &mut LineWrong,
 ) -> u8
-    ensures after { it.new ≡ after (capacity_of (is_yes has_cards)) line text.now it.old }
-    ensures said { said.new ≡ line_said (told (capacity_of (is_yes has_cards)) line text.now it.old).reading }
-    ensures wrong { wrong.new ≡ line_wrong (capacity_of (is_yes has_cards)) line text.now it.old }
-    ensures expected { result ≡ fault_number (told (capacity_of (is_yes has_cards)) line text.now it.old).fault }
+    ensures after { it.new ≡ after (capacity_of (cards_of has_cards)) line text.now it.old }
+    ensures said { said.new ≡ line_said (told (capacity_of (cards_of has_cards)) line text.now it.old).reading }
+    ensures wrong { wrong.new ≡ line_wrong (capacity_of (cards_of has_cards)) line text.now it.old }
+    ensures expected { result ≡ fault_number (told (capacity_of (cards_of has_cards)) line text.now it.old).fault }
 {
     let is_below_tunnel = it.is_below_tunnel();
-    let told = it.line(capacity_of(has_cards != 0), line, text);
+    let told = it.line(capacity_of(cards_of(has_cards)), line, text);
     *said = line_said(told.reading);
     *wrong = LineWrong {
         unlinked: told.unlinked.unwrap_or(0),
@@ -202,7 +225,7 @@ pub extern "C" fn ipxr_configuration_link(
     ensures is_one { result ≡ is_some (configured most_default number it.now) }
     ensures link { link.new ≡ unwrap_or (configured most_default number it.now) link.old }
 {
-    match it.link(capacity_of(false), number) {
+    match it.link(capacity_of(Cards::None), number) {
         Some(found) => {
             *link = found;
             true

@@ -1,5 +1,5 @@
 //! The router for C, and for whatever can call C: a static library, whose headers are `ipxr.h`, `ipxr_tunnel.h`, `ipxr_keyed.h`, `ipxr_segment.h`,
-//! `ipxr_plan.h`, `ipxr_settings.h`, `ipxr_fair.h`, `ipxr_limits.h`, `ipxr_cable.h` and `ipxr_fates.h` in `include/`.
+//! `ipxr_plan.h`, `ipxr_settings.h`, `ipxr_fair.h`, `ipxr_limits.h`, `ipxr_cable.h`, `ipxr_fates.h` and `ipxr_peers.h` in `include/`.
 //!
 //! - C holds a router by a `RouterHandle`: a flag and a pointer. All bytes 0 are a handle without a router.
 //! - `Handle` and `Cell` serve any machine, and are proved once. What crosses to C may have no type parameter, so each kind of machine
@@ -20,7 +20,8 @@
 //! - Fair queueing and meters are no machines: C keeps them in memory of its own, where all bytes 0 are one, and lends them. Each call's
 //!   clause is that of `ipx_fair`. So are a gateway's limits, by `ipx_limits`, whose kinds, reasons and ranks have numbers
 //!   (`LimitValues`), and a narrow line; and what a gateway decides about its cables, by `ipx_cable` (`CableValues`), and what
-//!   becomes of each packet, by `ipx_fates`, whose steps, fates and reasons have numbers (`CourseValues`, `CountValues`).
+//!   becomes of each packet, by `ipx_fates`, whose steps, fates and reasons have numbers (`CourseValues`, `CountValues`); and what is
+//!   known of gateways that share a network, by `ipx_peers`, whose verdicts have numbers (`PeerValues`).
 //! - Frames of Ethernet are read and written as `ipx_capture` does, by the numbers of their kinds (`Kinds`).
 //! - Packets are written by the writers of `ipx_wire`, of values that C gives (`Writes`).
 //! - What passes between a cable and the router is asked with the port's values (`Edges`), by `ipx_edge`. The rules of a filter are values
@@ -55,6 +56,7 @@ pub mod limits;
 pub mod line;
 mod machine;
 mod making;
+pub mod peers;
 mod plan_values;
 mod planning;
 mod reading;

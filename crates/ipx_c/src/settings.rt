@@ -6,12 +6,12 @@ ghost use Rattle.ipx_settings.specs.Lines.{reading_of, socket_of};
 ghost use Rattle.ipx_settings.specs.Nodes.{node_bytes_of};
 ghost use Rattle.ipx_settings.specs.Numbers.{hexadecimal_of};
 ghost use Rattle.ipx_settings.specs.Words.{words, before_mark};
-ghost use Rattle.ipx_c.specs.SettingsValues.{context_of, line_said, expected_number, most_u32};
+ghost use Rattle.ipx_c.specs.SettingsValues.{cards_of, context_of, line_said, expected_number, most_u32};
 ghost use Rattle.ipx_c.specs.Writes.{is_yes};
 
 use crate::settings_values::{
-    LineSaid, bits_of, expected_number, line_number, link_of_line, network_of_line, numbers_of,
-    route_of_line, rule_of_line, service_of_line,
+    LineSaid, bits_of, cards_of, expected_number, line_number, link_of_line, network_of_line,
+    numbers_of, route_of_line, rule_of_line, service_of_line,
 };
 use ipx_settings::{
     Context, HostRange, Reading, hexadecimal, node_bytes, read_range, socket, word_of,
@@ -26,13 +26,13 @@ pub extern "C" fn ipxr_settings_line(
     most_clients: u16,
     said: &mut LineSaid,
 ) -> u8
-    ensures said { said.new ≡ line_said (reading_of (context_of (is_yes has_cards) (is_yes is_below_tunnel) most_clients) text.now) }
-    ensures fault { result ≡ expected_number (reading_of (context_of (is_yes has_cards) (is_yes is_below_tunnel) most_clients) text.now).fault }
+    ensures said { said.new ≡ line_said (reading_of (context_of (cards_of has_cards) (is_yes is_below_tunnel) most_clients) text.now) }
+    ensures fault { result ≡ expected_number (reading_of (context_of (cards_of has_cards) (is_yes is_below_tunnel) most_clients) text.now).fault }
 {
     let reading = Reading::of(
         text,
         Context {
-            has_cards: has_cards != 0,
+            cards: cards_of(has_cards),
             is_below_tunnel: is_below_tunnel != 0,
             most_clients,
         },

@@ -1,11 +1,13 @@
 //! The structs of a configuration's line that cross to C, as its header has them, and its numbers.
-ghost use Rattle.std.specs.Prelude.{◌≡◌};
-ghost use Rattle.ipx_c.specs.SettingsValues.{no_host, host_values, no_link, place_name, place_values, frames_number, end_values, link_values, network_values, internal_values, line_number, numbers_of, link_of_line, network_of_line, rule_of_line, route_of_line, service_of_line, later_number, expected_number, bits_of};
+ghost use Rattle.std.specs.Prelude.{◌≡◌, Some};
+ghost use Rattle.ipx_settings.specs.Addresses.{four_at};
+ghost use Rattle.ipx_settings.specs.declared.line.Line.TheVariants.{Peer};
+ghost use Rattle.ipx_c.specs.SettingsValues.{cards_of, no_host, host_values, no_link, place_name, place_values, frames_number, end_values, link_values, network_values, internal_values, line_number, numbers_of, link_of_line, network_of_line, rule_of_line, route_of_line, service_of_line, later_number, expected_number, bits_of};
 
 use ipx_configuration::{RuleSaid, StaticRouteSaid, StaticServiceSaid};
 use ipx_settings::{
-    Address, ClientsBegun, End, Expected, Frames, Head, Host, InternalBegun, Line, Link, LinkBegun,
-    NetworkBegun, Place, RateBegun, RouteBegun, RuleBegun, ServiceBegun,
+    Address, Cards, ClientsBegun, End, Expected, Frames, Head, Host, InternalBegun, Line, Link,
+    LinkBegun, NetworkBegun, Place, RateBegun, RouteBegun, RuleBegun, ServiceBegun,
 };
 
 /// An address with its port.
@@ -30,7 +32,7 @@ pub struct LinkSaid {
     pub has_word: bool,
     pub local: HostValues,
     pub remote: HostValues,
-    /// The name of the host at the other end, with zeros behind it.
+    /// The name of the host at the other end, with zeros behind it; of a switch its path, and of peers that of the file with their key.
     pub host: [u8; 254],
     /// The name of a card, alike.
     pub name: [u8; 16],
@@ -75,6 +77,17 @@ pub struct LineSaid {
     pub service: StaticServiceSaid,
 }
 
+/// Which cards a system has.
+pub(crate) fn cards_of(number: u8) -> Cards
+    ensures { result ≡ cards_of number }
+{
+    match number {
+        0 => Cards::None,
+        2 => Cards::Interfaces,
+        _ => Cards::All,
+    }
+}
+
 fn no_host() -> HostValues
     ensures { result ≡ no_host }
 {
@@ -102,6 +115,16 @@ fn host_values(address: Address) -> HostValues
             port: address.port,
             is_six: true,
         },
+    }
+}
+
+/// The address of a card, which has no port.
+fn card_address(card: [u8; 4]) -> Address
+    ensures { result ≡ four_at card 0 }
+{
+    Address {
+        host: Host::Four(card),
+        port: 0,
     }
 }
 
@@ -184,6 +207,24 @@ fn end_values(end: End, frames: u8) -> LinkSaid
             said.carrier = 6;
             said.name = name;
         }
+        End::Group(group, card) => {
+            said.carrier = 7;
+            said.local = host_values(card_address(card));
+            said.remote = host_values(group);
+        }
+        End::Switch(path) => {
+            said.carrier = 8;
+            said.host = path;
+        }
+        End::Web(local) => {
+            said.carrier = 9;
+            said.local = host_values(local);
+        }
+        End::Peers(local, file) => {
+            said.carrier = 10;
+            said.local = host_values(local);
+            said.host = file;
+        }
     }
     said
 }
@@ -195,6 +236,18 @@ fn link_values(begun: LinkBegun) -> LinkSaid
         LinkBegun::Whole(Link::Tunnel(local)) => {
             let mut said = no_link(true);
             said.carrier = 1;
+            said.local = host_values(local);
+            said
+        }
+        LinkBegun::Whole(Link::Web(local)) => {
+            let mut said = no_link(true);
+            said.carrier = 9;
+            said.local = host_values(local);
+            said
+        }
+        LinkBegun::Whole(Link::Rfc1234(local)) => {
+            let mut said = no_link(true);
+            said.carrier = 11;
             said.local = host_values(local);
             said
         }
@@ -269,6 +322,8 @@ pub(crate) fn line_number(line: Line) -> u8
         Line::Rule(false, _) => 14,
         Line::Route(_) => 15,
         Line::Service(_) => 16,
+        Line::Origins(_) => 17,
+        Line::Peer(_) => 18,
     }
 }
 
@@ -290,12 +345,23 @@ pub(crate) fn numbers_of(line: Line) -> [u32; 3]
     }
 }
 
+/// Where another place is, as memory of C has it.
+fn peer_values(place: Place) -> LinkSaid
+    ensures { result ≡ link_of_line (Peer (Some place)) }
+{
+    let mut said = no_link(false);
+    said.remote = place_values(place);
+    said.host = place_name(place);
+    said
+}
+
 pub(crate) fn link_of_line(line: Line) -> LinkSaid
     ensures { result ≡ link_of_line line }
 {
     match line {
         Line::Network(begun) => link_values(begun.link()),
         Line::Link(begun) => link_values(begun),
+        Line::Peer(Some(place)) => peer_values(place),
         _ => no_link(false),
     }
 }
@@ -360,6 +426,14 @@ fn later_number(fault: Option<Expected>) -> u8
         Some(Expected::OneType) => 65,
         Some(Expected::ServiceName) => 66,
         Some(Expected::ServiceAddress) => 67,
+        Some(Expected::Group) => 71,
+        Some(Expected::ViaOrFrames) => 72,
+        Some(Expected::Card) => 73,
+        Some(Expected::Switch) => 74,
+        Some(Expected::FramesOrNothing) => 75,
+        Some(Expected::Origin) => 76,
+        Some(Expected::KeyFile) => 78,
+        Some(Expected::CardAndPort) => 79,
         _ => 0,
     }
 }

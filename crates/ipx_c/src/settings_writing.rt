@@ -53,6 +53,10 @@ fn end_of(link: &LinkSaid) -> Option<End>
         4 => Some(End::Connect(place_of(&link.remote, &link.host))),
         5 => Some(End::Tap(link.name)),
         6 => Some(End::Interface(link.name)),
+        7 => Some(End::Group(address_of(&link.remote), link.local.four)),
+        8 => Some(End::Switch(link.host)),
+        9 => Some(End::Web(address_of(&link.local))),
+        10 => Some(End::Peers(address_of(&link.local), link.host)),
         _ => None,
     }
 }
@@ -62,6 +66,12 @@ fn link_of(link: &LinkSaid) -> Option<Link>
 {
     if link.carrier == 1 {
         return Some(Link::Tunnel(address_of(&link.local)));
+    }
+    if link.carrier == 9 && link.frames == 0 {
+        return Some(Link::Web(address_of(&link.local)));
+    }
+    if link.carrier == 11 {
+        return Some(Link::Rfc1234(address_of(&link.local)));
     }
     let end = end_of(link)?;
     let frames = frames_of(link.frames)?;

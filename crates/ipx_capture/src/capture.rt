@@ -79,7 +79,8 @@ impl<'a, S: Source> Capture<'a, S> {
         Ok(Capture::begun(intake, order, window))
     }
 
-    fn begun(intake: &'a mut Intake<S>, order: Order, window: Window) -> Capture<'a, S>
+    /// A capture whose header was read from an intake, with a window that has nothing ahead.
+    pub fn begun(intake: &'a mut Intake<S>, order: Order, window: Window) -> Capture<'a, S>
         requires fresh { (window.ahead ≡ []) × (window.memory ≡ least_room) }
         requires bounded { intake.old.calls ≤ most_calls }
         requires fine { intake.old.failed ≡ false }

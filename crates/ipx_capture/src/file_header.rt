@@ -7,8 +7,8 @@ ghost use Rattle.ipx_capture.specs.Header as spec;
 use crate::capture_fault::CaptureFault;
 use crate::order::Order;
 
-/// How many bytes a header has.
-pub(crate) const SIZE: usize = 24;
+/// How many bytes the header of a capture file has.
+pub const HEADER_SIZE: usize = 24;
 
 /// The magic of a file whose times are in microseconds.
 const MICROSECONDS: u32 = 0xA1B2_C3D4;
@@ -21,10 +21,10 @@ const ETHERNET: u32 = 1;
 
 /// Reads the header at the front of a file's bytes: its byte order, or the first fault that holds.
 #[tactic(auto, unfolding(crate::specs::Header::header_of))]
-pub(crate) fn read(bytes: &[u8]) -> Result<Order, CaptureFault>
+pub fn file_order(bytes: &[u8]) -> Result<Order, CaptureFault>
     ensures { result ≡ header_of bytes.now }
 {
-    if bytes.len() < SIZE {
+    if bytes.len() < HEADER_SIZE {
         return Err(CaptureFault::CutHeader);
     }
     let Some(order) = order_by_magic(bytes) else {

@@ -41,7 +41,7 @@ pub fn frame(bytes: &[u8]) -> Frame<'_>
 }
 
 /// The kind of a frame by its type or length, with what follows that.
-fn by_field(field: u16, rest: &[u8]) -> Frame<'_>
+pub fn by_field(field: u16, rest: &[u8]) -> Frame<'_>
     ensures { framed result ≡ spec.by_field field rest.now }
 {
     if field == IPX {

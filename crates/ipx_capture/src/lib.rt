@@ -26,6 +26,10 @@ mod writing;
 
 pub use crate::capture::{Capture, Captured};
 pub use crate::capture_fault::CaptureFault;
-pub use crate::framing::frame;
+pub use crate::file_header::{HEADER_SIZE, file_order};
+pub use crate::framing::{by_field, frame};
 pub use crate::kinds::{Frame, FrameKind};
+pub use crate::order::Order;
+pub use crate::taking::read_front;
+pub use crate::window::Window;
 pub use crate::writing::{SHORTEST_FRAME, write_frame};

@@ -4,6 +4,10 @@ ghost use Rattle.ipx_wire.specs.Piece.{piece};
 ghost use Rattle.ipx_capture.specs.Order.{u16_in, u32_in};
 
 /// A byte order.
+///
+/// See the example of [`Capture`], whose file has one.
+///
+/// [`Capture`]: crate::Capture
 #[derive(Clone, Copy, Debug, PartialEq, Eq)]
 pub enum Order {
     /// The highest byte comes first.

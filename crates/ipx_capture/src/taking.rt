@@ -8,7 +8,7 @@ ghost use Rattle.ipx_capture.specs.Records as spec;
 
 use crate::asking::ask;
 use crate::capture_fault::CaptureFault;
-use crate::file_header;
+use crate::file_header::{HEADER_SIZE, file_order};
 use crate::order::Order;
 use crate::window::Window;
 use ipx_wire::{Failed, Intake, Source};
@@ -40,15 +40,15 @@ fn read_header<S: Source>(intake: &mut Intake<S>) -> Result<Order, CaptureFault>
     ensures ok { IfOk result (BegunBy S.asked intake.old intake.new) }
     ensures err { IfErr result (UnopenedBy S.asked intake.old intake.new) }
 {
-    let mut header = [0; file_header::SIZE];
+    let mut header = [0; HEADER_SIZE];
     let Ok(count) = read_front(intake, &mut header) else {
         return Err(CaptureFault::Read);
     };
-    file_header::read(&header[..count])
+    file_order(&header[..count])
 }
 
 /// Fills a buffer from its front on, as far as there are bytes.
-fn read_front<S: Source>(intake: &mut Intake<S>, bytes: &mut [u8]) -> Result<usize, Failed>
+pub fn read_front<S: Source>(intake: &mut Intake<S>, bytes: &mut [u8]) -> Result<usize, Failed>
     ensures ok { IfOk result (FilledFront S.asked bytes.new intake.old intake.new) }
     ensures err { OnErr result (LostFront S.asked (length bytes.old) intake.old intake.new) }
 {

@@ -15,8 +15,12 @@ use std::marker::Model;
 const SIZE: usize = 8192;
 
 /// The bytes read and not yet taken, and behind them room for more.
+///
+/// See the example of [`Capture`], which keeps one.
+///
+/// [`Capture`]: crate::Capture
 #[derive(Drop)]
-pub(crate) struct Window {
+pub struct Window {
     bytes: Vec<u8>,
     // `kept` bytes from `start` on are the record last taken.
     start: usize,
@@ -41,6 +45,7 @@ impl Model for Window {
 impl Window {
     ghost use Rattle.ipx_capture.specs.Reads.{Filled, Gathered, Lost};
 
+    /// A buffer of 8,192 bytes, with none ahead.
     pub fn new(alloc: Global) -> Result<Window, AllocError>
         ensures fresh { IfOk result (λ w. w.ahead ≡ []) }
         ensures memory { IfOk result (λ w. w.memory ≡ least_room) }

@@ -3,4 +3,5 @@ pub mod bytes
 pub mod captures
 pub mod cuts
 pub mod examples
+pub mod recordings
 pub mod written

@@ -43,6 +43,7 @@ pub mod RipText
 pub mod SapText
 pub mod PacketText
 pub mod RecordText
+pub mod RecordedText
 -- the text of a capture, and what a run leaves
 pub mod Shown
 pub mod Decoded

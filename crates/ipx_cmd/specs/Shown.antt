@@ -5,7 +5,9 @@ use Rattle.ipx_capture.specs.Records.{Contents, records}
 use Rattle.ipx_capture.specs.declared.capture_fault.CaptureFault.{CaptureFault}
 use Rattle.ipx_capture.specs.declared.capture_fault.CaptureFault.TheVariants.{CutHeader, Magic, Version, Link, RecordLong, CutRecord, Read, Memory}
 use Rattle.ipx_cmd.specs.CaptureWord.{capture_word}
+use Rattle.ipx_recording.specs.Recorded.{is_recording}
 use Rattle.ipx_cmd.specs.RecordText.{record_text}
+use Rattle.ipx_cmd.specs.RecordedText.{recording_said}
 use Rattle.ipx_cmd.specs.declared.ended.Ended.{Ended}
 use Rattle.ipx_cmd.specs.declared.ended.Ended.TheVariants.{Done, BadInput}
 
@@ -53,9 +55,9 @@ is_some_fault (Some fault) = true
 abbrev pub contents_text : Contents → Option CaptureFault → List ℕ
 contents_text c fault = flat_map record_text c.records ++ ending_text (length c.records) fault
 
--- the text of a capture
+-- the text of a capture, or of a recording, which is known by its first four bytes
 unfoldable pub shown : List ℕ → List ℕ
-shown bytes = contents_text (records bytes) (records bytes).fault
+shown bytes = if is_recording bytes then (recording_said bytes).shown else contents_text (records bytes) (records bytes).fault
 
 -- how its run ends
 abbrev pub ended_by : Option CaptureFault → Ended
@@ -63,12 +65,12 @@ ended_by None = Done
 ended_by (Some fault) = BadInput
 
 unfoldable pub shown_end : List ℕ → Ended
-shown_end bytes = ended_by (records bytes).fault
+shown_end bytes = if is_recording bytes then (recording_said bytes).ended else ended_by (records bytes).fault
 
 -- the text of a capture that may go on: of its whole header and its whole records, and of the header of a record that is too long
 unfoldable pub sofar : List ℕ → List ℕ
-sofar bytes = contents_text (records bytes) (settled (records bytes).fault)
+sofar bytes = if is_recording bytes then (recording_said bytes).sofar else contents_text (records bytes) (settled (records bytes).fault)
 
 -- whether that text ends in a fault
 unfoldable pub judged : List ℕ → Bool
-judged bytes = is_some_fault (settled (records bytes).fault)
+judged bytes = if is_recording bytes then (recording_said bytes).judged else is_some_fault (settled (records bytes).fault)

@@ -5,5 +5,6 @@ pub mod InternetStands
 pub mod Leads
 pub mod MachineStands
 pub mod Moved
+pub mod Recording
 pub mod Said
 pub mod Stretch

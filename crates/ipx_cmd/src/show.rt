@@ -7,6 +7,8 @@ mod capture_word;
 mod crossed_line;
 mod packet_lines;
 mod record_lines;
+mod recording;
+mod recording_word;
 mod rip_lines;
 mod run;
 mod sap_lines;

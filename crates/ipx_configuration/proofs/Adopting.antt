@@ -6,6 +6,7 @@ use Rattle.ipx_settings.specs.declared.line.Line.{Line}
 use Rattle.ipx_settings.specs.declared.line.Line.TheVariants as line
 use Rattle.ipx_configuration.specs.Extends.{with_adopt, network_by}
 use Rattle.ipx_configuration.specs.Lines.{if_right}
+use Rattle.ipx_configuration.specs.Peers.{peer_fault}
 use Rattle.ipx_configuration.specs.Rules.{rule_fault, more_rules, with_rules}
 use Rattle.ipx_configuration.specs.Statics.{route_fault, service_fault}
 use Rattle.ipx_configuration.specs.Wholes.{is_of_adopt}
@@ -28,6 +29,8 @@ module _ (number : ℕ) (text : List ℕ) (read : ℕ) (own : Option Expected) (
   first (line.Clients b) is right none = absurd (true≢false (sym is))
   first (line.Allow b) is right none = absurd (true≢false (sym is))
   first (line.Trust b) is right none = absurd (true≢false (sym is))
+  first (line.Origins b) is right none = absurd (true≢false (sym is))
+  first (line.Peer b) is right none = absurd (true≢false (sym is))
   first (line.Rate b) is right none = absurd (true≢false (sym is))
   first (line.Strangers b) is right none = absurd (true≢false (sym is))
   first (line.Kilobits b) is right none = absurd (true≢false (sym is))
@@ -46,6 +49,8 @@ module _ (number : ℕ) (text : List ℕ) (read : ℕ) (own : Option Expected) (
   again (line.Clients b) is some = absurd (true≢false (sym is))
   again (line.Allow b) is some = absurd (true≢false (sym is))
   again (line.Trust b) is some = absurd (true≢false (sym is))
+  again (line.Origins b) is some = absurd (true≢false (sym is))
+  again (line.Peer b) is some = absurd (true≢false (sym is))
   again (line.Rate b) is some = absurd (true≢false (sym is))
   again (line.Strangers b) is some = absurd (true≢false (sym is))
   again (line.Kilobits b) is some = absurd (true≢false (sym is))
@@ -64,6 +69,8 @@ module _ (number : ℕ) (text : List ℕ) (read : ℕ) (own : Option Expected) (
   others (line.Clients b) is = refl
   others (line.Allow b) is = refl
   others (line.Trust b) is = refl
+  others (line.Origins b) is = refl
+  others (line.Peer b) is = kept (peer_fault n.peers b own) n _ refl
   others (line.Rate b) is = refl
   others (line.Strangers b) is = refl
   others (line.Kilobits b) is = refl

@@ -1,9 +1,9 @@
 -- Links that stand beside each other are apart, whatever the lines are.
-use Rattle.std.proofs.Common.{◌≡◌, ℕ, zero, suc, ◌+◌, ◌-◌, ◌<◌, ◌≤◌, Bool, true, false, not, ◌&&◌, nat_lt, nat_le, if◌then◌else◌, List, [], ◌∷◌, ◌++◌, length, take, set, get_or, refl, sym, ap, subst, ◌∙◌, arith, Option, Some, None, inl, inr, true≢false, length-append}
-use Rattle.std.specs.Prelude.{slice_get, slice_set}
+use Rattle.std.proofs.Common.{◌≡◌, ℕ, zero, suc, ◌+◌, ◌-◌, ◌<◌, ◌≤◌, true, false, List, [], ◌∷◌, ◌++◌, length, take, set, get_or, refl, sym, ap, subst, ◌∙◌, arith, Some, None, inl, inr, true≢false, length-append}
+use Rattle.std.specs.Prelude.{slice_get}
 use Rattle.std.specs.List.{position, position_or_len}
 use Rattle.std.specs.Option.{is_some}
-use Rattle.std.proofs.lemmas.Bool.{cases_Bool, cases_lt, cases_eq, lt-ltb, le-leb}
+use Rattle.std.proofs.lemmas.Bool.{cases_lt, cases_eq, lt-ltb, le-leb}
 use Rattle.std.proofs.lemmas.List.{length-take-le, take_more_set, length-set}
 use Rattle.std.proofs.lemmas.List.Sums.{passes_at_first, fails_before_first}
 use Rattle.std.proofs.lemmas.Option.{same_Some, slice_get_within, slice_get-get_or, get_or_from_slice_get}
@@ -14,7 +14,6 @@ use Rattle.ipx_configuration.specs.Wholes.{after_lines, AreApart, AreOrdered, Is
 use Rattle.ipx_configuration.specs.declared.configuration.Capacity.{Capacity}
 use Rattle.ipx_configuration.specs.declared.configuration.Configuration.{Configuration}
 use Rattle.ipx_configuration.specs.declared.carrier.Carrier.{Carrier}
-use Rattle.ipx_configuration.specs.declared.fault.Fault.{Fault}
 use Rattle.ipx_configuration.specs.declared.memory.LinkList.{LinkList}
 use Rattle.ipx_configuration.specs.declared.said.LinkSetting.{LinkSetting}
 use Rattle.ipx_configuration.proofs.Adding.{no_fault}
@@ -59,21 +58,21 @@ module _ {X : Type 0} where
 -- ---- lists of links
 
 -- what clashes with no link clashes with none of them
-pub free_of_each : (carrier : Carrier) (xs : List LinkSetting) (i : ℕ) (a : LinkSetting)
-    → first_clash carrier xs ≡ None → slice_get xs i ≡ Some a → clash carrier a ≡ None
-free_of_each carrier xs i a none there =
-    let n = position_or_len (clashes carrier) xs in
+pub free_of_each : (network : ℕ) (carrier : Carrier) (xs : List LinkSetting) (i : ℕ) (a : LinkSetting)
+    → first_clash network carrier xs ≡ None → slice_get xs i ≡ Some a → clash network carrier a ≡ None
+free_of_each network carrier xs i a none there =
+    let n = position_or_len (clashes network carrier) xs in
     elim (cases_lt n (length xs)) [
       | inl below ↦
           let at : slice_get xs n ≡ Some (get_or xs n a) = slice_get-get_or xs n a below in
-          let passes : clashes carrier (get_or xs n a) ≡ true = passes_at_first (clashes carrier) xs a below in
-          let found : position (clashes carrier) xs ≡ Some n = rw (lt-ltb n (length xs) below) refl in
-          let is : first_clash carrier xs ≡ clash carrier (get_or xs n a) = rw (found, at) refl in
+          let passes : clashes network carrier (get_or xs n a) ≡ true = passes_at_first (clashes network carrier) xs a below in
+          let found : position (clashes network carrier) xs ≡ Some n = rw (lt-ltb n (length xs) below) refl in
+          let is : first_clash network carrier xs ≡ clash network carrier (get_or xs n a) = rw (found, at) refl in
           absurd (true≢false (sym passes ∙ ap is_some (sym is ∙ none)))
       | inr past ↦
           let within : i < length xs = slice_get_within xs i a there in
-          let fails : clashes carrier (get_or xs i a) ≡ false = fails_before_first (clashes carrier) xs i a (omega (arith, within, past)) in
-          no_fault (clash carrier a) (ap (clashes carrier) (sym (get_or_from_slice_get xs i a a there)) ∙ fails)
+          let fails : clashes network carrier (get_or xs i a) ≡ false = fails_before_first (clashes network carrier) xs i a (omega (arith, within, past)) in
+          no_fault (clash network carrier a) (ap (clashes network carrier) (sym (get_or_from_slice_get xs i a a there)) ∙ fails)
     ]
 
 -- links of one network stand behind each other, and each has one
@@ -146,7 +145,7 @@ placed_again old networks xs k was x grown p there last kept = record {
 placed_still : (old networks : ℕ) (xs : List LinkSetting) → old ≤ networks → ArePlaced old xs → ArePlaced networks xs
 placed_still old networks xs grown p = record { inside = λ k x at. let low = p.inside k x at in omega (arith, low, grown); ordered = p.ordered }
 
-apart_more : (xs : List LinkSetting) (x : LinkSetting) → AreApart xs → first_clash x.carrier xs ≡ None → AreApart (xs ++ x ∷ [])
+apart_more : (xs : List LinkSetting) (x : LinkSetting) → AreApart xs → first_clash x.network x.carrier xs ≡ None → AreApart (xs ++ x ∷ [])
 apart_more xs x apart free i j a b less at_i at_j =
     let room : length (xs ++ x ∷ []) ≡ length xs + 1 = length-append xs (x ∷ []) in
     let within : j < length (xs ++ x ∷ []) = slice_get_within (xs ++ x ∷ []) j b at_j in
@@ -157,12 +156,12 @@ apart_more xs x apart free i j a b less at_i at_j =
       | inr past ↦
           let last : j ≡ length xs = omega (arith, room, within, past) in
           let b_is : x ≡ b = same_Some x b (sym (get_end xs x) ∙ ap (slice_get (xs ++ x ∷ [])) (sym last) ∙ at_j) in
-          ap (λ (v : LinkSetting). clash v.carrier a) (sym b_is) ∙ free_of_each x.carrier xs i a free a_is
+          ap (λ (v : LinkSetting). clash v.network v.carrier a) (sym b_is) ∙ free_of_each x.network x.carrier xs i a free a_is
     ]
 
 apart_again : (xs : List LinkSetting) (k : ℕ) (old x : LinkSetting) → AreApart xs → slice_get xs k ≡ Some old → k + 1 ≡ length xs → x.carrier ≡ old.carrier
-    → AreApart (set xs k x)
-apart_again xs k old x apart there last kept i j a b less at_i at_j =
+    → x.network ≡ old.network → AreApart (set xs k x)
+apart_again xs k old x apart there last kept stays i j a b less at_i at_j =
     let within : j < length (set xs k x) = slice_get_within (set xs k x) j b at_j in
     let room : length (set xs k x) ≡ length xs = length-set xs k x in
     let front : i < k = omega (arith, room, within, less, last) in
@@ -173,7 +172,8 @@ apart_again xs k old x apart there last kept i j a b less at_i at_j =
           let here : j ≡ k = omega (arith, room, within, past, last) in
           let inside : k < length xs = omega (arith, last) in
           let b_is : x ≡ b = same_Some x b (sym (get_there xs k x inside) ∙ ap (slice_get (set xs k x)) (sym here) ∙ at_j) in
-          ap (λ (v : LinkSetting). clash v.carrier a) (sym b_is) ∙ ap (λ (v : Carrier). clash v a) kept ∙ apart i k a old front a_is there
+          ap (λ (v : LinkSetting). clash v.network v.carrier a) (sym b_is) ∙ ap (λ (v : Carrier). clash x.network v a) kept
+          ∙ ap (λ (n : ℕ). clash n old.carrier a) stays ∙ apart i k a old front a_is there
     ]
 
 -- ---- memory
@@ -184,7 +184,7 @@ pub record Holds (networks : ℕ) (l : LinkList) : Type 0 where
   pub apart : AreApart (links_in l)
   pub placed : ArePlaced networks (links_in l)
 
-holds_more : (old networks : ℕ) (l : LinkList) (x : LinkSetting) → old ≤ networks → Holds old l → first_clash x.carrier (links_in l) ≡ None → l.count < 64
+holds_more : (old networks : ℕ) (l : LinkList) (x : LinkSetting) → old ≤ networks → Holds old l → first_clash x.network x.carrier (links_in l) ≡ None → l.count < 64
     → x.network + 1 ≡ networks → Holds networks (with_link l x)
 holds_more old networks l x grown h free less last =
     let inside : l.count < length l.list = omega (arith, h.room, less) in
@@ -206,7 +206,7 @@ holds_again was networks l old x grown h some there kept stays =
     record {
       room = length-set l.list k x ∙ h.room;
       within = h.within;
-      apart = subst AreApart (sym (take_set l.count l.list k x)) (apart_again (links_in l) k old x h.apart at (omega (arith, long, some)) kept);
+      apart = subst AreApart (sym (take_set l.count l.list k x)) (apart_again (links_in l) k old x h.apart at (omega (arith, long, some)) kept stays);
       placed = subst (ArePlaced networks) (sym (take_set l.count l.list k x))
           (placed_again was networks (links_in l) k old x grown h.placed at (omega (arith, long, some)) stays);
     }

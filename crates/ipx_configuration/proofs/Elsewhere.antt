@@ -71,7 +71,7 @@ pub network_routed : (capacity : Capacity) (b : NetworkBegun) (own : Option Expe
 network_routed capacity b own c number is some =
     fourth (when (is_full capacity c) fault.ManyNetworks) (number_fault (number_in b) (networks_in c.networks)) (internal_clash (number_in b) c.internal)
     (routed_fault (number_in b) (networks_in c.networks))
-    ((if names_link b own then more_links (link_in b) (head_or_none b).longest c.links own else line_fault own) ∷ []) (routed_found (number_in b) (networks_in c.networks) number is some)
+    ((if names_link b own then more_links c.networks.count (link_in b) (head_or_none b).longest c.links own else line_fault own) ∷ []) (routed_found (number_in b) (networks_in c.networks) number is some)
 
 pub internal_routed : (capacity : Capacity) (b : InternalBegun) (own : Option Expected) (c : Configuration) (number : ℕ) → internal_number b ≡ Some number
     → list_any (has_route number) (networks_in c.networks) ≡ true → is_some (internal_fault capacity b own c) ≡ true

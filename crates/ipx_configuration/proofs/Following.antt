@@ -4,6 +4,7 @@ use Rattle.std.specs.Option.{is_some}
 use Rattle.std.proofs.lemmas.Bool.{cases_Bool, cases_eq, ltb-true, lt-ltb}
 use Rattle.std.proofs.lemmas.Option.{same_Some}
 use Rattle.ipx_settings.specs.Networks.{link_in, number_in}
+use Rattle.ipx_settings.specs.declared.addresses.Place.{Place}
 use Rattle.ipx_settings.specs.declared.expected.Expected.{Expected}
 use Rattle.ipx_settings.specs.declared.internal.InternalBegun.{InternalBegun}
 use Rattle.ipx_settings.specs.declared.line.Line.{Line}
@@ -13,9 +14,9 @@ use Rattle.ipx_settings.specs.declared.link.LinkBegun.TheVariants as begun
 use Rattle.ipx_settings.specs.declared.network.NetworkBegun.{NetworkBegun}
 use Rattle.ipx_settings.specs.declared.reading.Reading.{Reading}
 use Rattle.ipx_settings.specs.declared.statics.RouteBegun.{RouteBegun}
-use Rattle.ipx_configuration.specs.Carriers.{may_hear_itself, longest_on}
-use Rattle.ipx_configuration.specs.Clashes.{when, first_of, line_fault, first_clash, carrier_in, link_by}
-use Rattle.ipx_configuration.specs.Configurations.{nothing, a_network, a_link, a_wrong_network, names_link, names_link_by, head_or_none, more_links, network_fault, after_network, linked, link_line_by, link_line_fault, link_line, after_internal, internal_fault, network_above, extended_by, route_clash, routed, link_extended_by, is_below_tunnel, below_network_by, below_link_by, tunnel_fault, now_linked, taken_below, taken_by, read_in, after}
+use Rattle.ipx_configuration.specs.Carriers.{may_hear_itself, longest_of}
+use Rattle.ipx_configuration.specs.Clashes.{when, first_of, line_fault, first_clash, carrier_in, is_only, link_by}
+use Rattle.ipx_configuration.specs.Configurations.{nothing, a_network, a_link, a_wrong_network, names_link, names_link_by, head_or_none, more_links, network_fault, after_network, linked, link_line_by, link_line_fault, link_line, after_internal, internal_fault, network_above, extended_by, route_clash, routed, peer_clash, peered, link_extended_by, is_below_tunnel, is_web, below_network_by, below_link_by, tunnel_fault, now_linked, taken_below, taken_by, read_in, after}
 use Rattle.ipx_configuration.specs.Internals.{all_networks, is_full, internal_clash}
 use Rattle.ipx_configuration.specs.Lines.{if_right, once, rate_of, clients_said, rate_said, number_said, with_clients, with_rate, with_strangers, with_kilobits, with_nodes, kilobits_fault, link_taken, link_by as line_by}
 use Rattle.ipx_configuration.specs.Memory.{networks_in, links_in, last_network, last_link, with_link, with_last_link}
@@ -35,7 +36,7 @@ use Rattle.ipx_configuration.proofs.Adding.{no_fault}
 -- (the number is that of all networks then)
 pub data Follows (networks : ℕ) (l m : LinkList) : Type 0 where
   same : m ≡ l → Follows networks l m
-  more : (x : LinkSetting) → first_clash x.carrier (links_in l) ≡ None → l.count < 64 → x.network + 1 ≡ networks → m ≡ with_link l x → Follows networks l m
+  more : (x : LinkSetting) → first_clash x.network x.carrier (links_in l) ≡ None → l.count < 64 → x.network + 1 ≡ networks → m ≡ with_link l x → Follows networks l m
   again : (old x : LinkSetting) → last_link l ≡ Some old → x.carrier ≡ old.carrier → x.network ≡ old.network → m ≡ with_last_link l x
       → Follows networks l m
 
@@ -56,7 +57,7 @@ not_not false e = absurd (true≢false e)
 abbrev after_clash : Carrier → ℕ → Option Expected → List (Option Fault)
 after_clash carrier longest own =
     when (may_hear_itself carrier) fault.OwnAddress
-    ∷ when (nat_lt (longest_on carrier.frames) longest) (fault.Longest longest (longest_on carrier.frames))
+    ∷ when (nat_lt (longest_of carrier) longest) (fault.Longest longest (longest_of carrier))
     ∷ line_fault own
     ∷ []
 
@@ -64,24 +65,24 @@ and_left : (a b : Bool) → a && b ≡ true → a ≡ true
 and_left true b e = refl
 and_left false b e = absurd (true≢false (sym e))
 
-link_free : (longest : ℕ) (links : List LinkSetting) (own : Option Expected) (o : Option Carrier) (carrier : Carrier)
-    → link_by o longest links own ≡ None → o ≡ Some carrier → first_clash carrier links ≡ None
-link_free longest links own None carrier e is = absurd cc
-link_free longest links own (Some found) carrier e is =
+link_free : (network longest : ℕ) (links : List LinkSetting) (own : Option Expected) (o : Option Carrier) (carrier : Carrier)
+    → link_by network o longest links own ≡ None → o ≡ Some carrier → first_clash network carrier links ≡ None
+link_free network longest links own None carrier e is = absurd cc
+link_free network longest links own (Some found) carrier e is =
     let same_one : found ≡ carrier = same_Some found carrier is in
-    subst (λ v. first_clash v links ≡ None) same_one (first_none (first_clash found links) (after_clash found longest own) e).0
+    subst (λ v. first_clash network v links ≡ None) same_one (first_none (first_clash network found links) (after_clash found longest own) e).0
 
 -- a link more, of which nothing is wrong, has room, and clashes with none
-pub free_and_room : (begun : LinkBegun) (longest : ℕ) (l : LinkList) (own : Option Expected) (carrier : Carrier)
-    → more_links begun longest l own ≡ None → carrier_in begun ≡ Some carrier → (first_clash carrier (links_in l) ≡ None) × (l.count < 64)
-free_and_room begun longest l own carrier e is =
-    let checks = first_none (when (not (nat_lt l.count 64)) fault.ManyLinks) (link_by (carrier_in begun) longest (links_in l) own ∷ []) e in
+pub free_and_room : (network : ℕ) (begun : LinkBegun) (longest : ℕ) (l : LinkList) (own : Option Expected) (carrier : Carrier)
+    → more_links network begun longest l own ≡ None → carrier_in begun ≡ Some carrier → (first_clash network carrier (links_in l) ≡ None) × (l.count < 64)
+free_and_room network begun longest l own carrier e is =
+    let checks = first_none (when (not (nat_lt l.count 64)) fault.ManyLinks) (link_by network (carrier_in begun) longest (links_in l) own ∷ []) e in
     let room : nat_lt l.count 64 ≡ true = not_not (nat_lt l.count 64) (unless (not (nat_lt l.count 64)) fault.ManyLinks checks.0) in
-    let right = first_none (link_by (carrier_in begun) longest (links_in l) own) [] checks.1 in
-    (link_free longest (links_in l) own (carrier_in begun) carrier right.0 is, ltb-true l.count 64 room)
+    let right = first_none (link_by network (carrier_in begun) longest (links_in l) own) [] checks.1 in
+    (link_free network longest (links_in l) own (carrier_in begun) carrier right.0 is, ltb-true l.count 64 room)
 
 linked_follows : (networks n network : ℕ) (l : LinkList) (o : Option Carrier) → network + 1 ≡ networks
-    → ((carrier : Carrier) → o ≡ Some carrier → (first_clash carrier (links_in l) ≡ None) × (l.count < 64)) → Follows networks l (linked n network l o)
+    → ((carrier : Carrier) → o ≡ Some carrier → (first_clash network carrier (links_in l) ≡ None) × (l.count < 64)) → Follows networks l (linked n network l o)
 linked_follows networks n network l None last free = same refl
 linked_follows networks n network l (Some carrier) last free = let f = free carrier refl in more (new_link n network carrier) f.0 f.1 last refl
 
@@ -97,6 +98,14 @@ names begun.Listen own carrier e = refl
 names begun.Connect own carrier e = refl
 names begun.Tap own carrier e = refl
 names begun.Interface own carrier e = refl
+names begun.Multicast own carrier e = refl
+names (begun.Group group) own carrier e = refl
+names (begun.Via group) own carrier e = refl
+names begun.Vde own carrier e = refl
+names begun.Web own carrier e = refl
+names begun.Peers own carrier e = refl
+names (begun.PeersAt local) own carrier e = refl
+names begun.Rfc1234 own carrier e = refl
 names (begun.End end) own carrier e = refl
 names (begun.Whole link) own carrier e = refl
 
@@ -105,7 +114,7 @@ of_named true x y is e = e
 of_named false x y is e = absurd (true≢false (sym is))
 
 abbrev named_fault : NetworkBegun → Option Expected → Configuration → Option Fault
-named_fault b own c = if names_link b own then more_links (link_in b) (head_or_none b).longest c.links own else line_fault own
+named_fault b own c = if names_link b own then more_links c.networks.count (link_in b) (head_or_none b).longest c.links own else line_fault own
 
 abbrev routed_and_link : NetworkBegun → Option Expected → Configuration → List (Option Fault)
 routed_and_link b own c = routed_fault (number_in b) (networks_in c.networks) ∷ named_fault b own c ∷ []
@@ -133,22 +142,23 @@ network_follows capacity n b own c = elim (cases_Bool (is_some (network_fault ca
       let links = first_none (named_fault b own c) [] routes.1 in
       let free : nat_lt c.networks.count 32 ≡ true = has_room capacity c (unless (is_full capacity c) fault.ManyNetworks checks.0) in
       rw (right, free) (linked_follows (c.networks.count + 1) n c.networks.count c.links (carrier_in (link_in b)) refl (λ carrier is.
-      free_and_room (link_in b) (head_or_none b).longest c.links own carrier
-      (of_named (names_link b own) (more_links (link_in b) (head_or_none b).longest c.links own) (line_fault own) (names (link_in b) own carrier is) links.0) is))
+      free_and_room c.networks.count (link_in b) (head_or_none b).longest c.links own carrier
+      (of_named (names_link b own) (more_links c.networks.count (link_in b) (head_or_none b).longest c.links own) (line_fault own) (names (link_in b) own carrier is) links.0) is))
 ]
 
-abbrev few_and_free : Capacity → LinkBegun → Option Expected → LinkList → NetworkSetting → List (Option Fault)
-few_and_free capacity b own l network =
-    when (not (nat_lt (l.count - network.first) capacity.links)) fault.ManyLinksOfNetwork ∷ more_links b network.longest l own ∷ []
+abbrev few_and_free : Capacity → ℕ → LinkBegun → Option Expected → LinkList → NetworkSetting → List (Option Fault)
+few_and_free capacity number b own l network =
+    when (not (nat_lt (l.count - network.first) capacity.links)) fault.ManyLinksOfNetwork ∷ more_links number b network.longest l own ∷ []
 
-line_free : (capacity : Capacity) (b : LinkBegun) (own : Option Expected) (l : LinkList) (o : Option NetworkSetting) (carrier : Carrier)
-    → link_line_by capacity b own l o ≡ None → carrier_in b ≡ Some carrier → (first_clash carrier (links_in l) ≡ None) × (l.count < 64)
-line_free capacity b own l None carrier e is = absurd cc
-line_free capacity b own l (Some network) carrier e is =
-    let several = first_none (when (not network.is_of_several) fault.LinkBelow) (few_and_free capacity b own l network) e in
-    let few = first_none (when (not (nat_lt (l.count - network.first) capacity.links)) fault.ManyLinksOfNetwork) (more_links b network.longest l own ∷ []) several.1 in
-    let links = first_none (more_links b network.longest l own) [] few.1 in
-    free_and_room b network.longest l own carrier links.0 is
+line_free : (capacity : Capacity) (number : ℕ) (b : LinkBegun) (own : Option Expected) (l : LinkList) (o : Option NetworkSetting) (carrier : Carrier)
+    → link_line_by capacity number b own l o ≡ None → carrier_in b ≡ Some carrier → (first_clash number carrier (links_in l) ≡ None) × (l.count < 64)
+line_free capacity number b own l None carrier e is = absurd cc
+line_free capacity number b own l (Some network) carrier e is =
+    let several = first_none (when (not network.is_of_several) fault.LinkBelow) (when (is_only b) fault.OnOwnLine ∷ few_and_free capacity number b own l network) e in
+    let one_of_some = first_none (when (is_only b) fault.OnOwnLine) (few_and_free capacity number b own l network) several.1 in
+    let few = first_none (when (not (nat_lt (l.count - network.first) capacity.links)) fault.ManyLinksOfNetwork) (more_links number b network.longest l own ∷ []) one_of_some.1 in
+    let links = first_none (more_links number b network.longest l own) [] few.1 in
+    free_and_room number b network.longest l own carrier links.0 is
 
 now_count : (n : NetworkList) (o : Option NetworkSetting) → (now_linked n o).count ≡ n.count
 now_count n None = refl
@@ -158,10 +168,10 @@ now_count n (Some network) = elim (cases_Bool (nat_lt 0 n.count && nat_le n.coun
 ]
 
 -- where nothing is wrong with a link's line, a network stands above
-has_one : (capacity : Capacity) (b : LinkBegun) (own : Option Expected) (l : LinkList) (o : Option NetworkSetting)
-    → link_line_by capacity b own l o ≡ None → is_some o ≡ true
-has_one capacity b own l None e = absurd cc
-has_one capacity b own l (Some network) e = refl
+has_one : (capacity : Capacity) (number : ℕ) (b : LinkBegun) (own : Option Expected) (l : LinkList) (o : Option NetworkSetting)
+    → link_line_by capacity number b own l o ≡ None → is_some o ≡ true
+has_one capacity number b own l None e = absurd cc
+has_one capacity number b own l (Some network) e = refl
 
 counted : (n : NetworkList) (o : Option NetworkSetting) → last_network n ≡ o → is_some o ≡ true → (n.count - 1) + 1 ≡ n.count
 counted n o e is = elim (cases_eq n.count 0) [
@@ -172,7 +182,7 @@ counted n o e is = elim (cases_eq n.count 0) [
 ]
 
 added_follows : (n : ℕ) (o : Option Carrier) (c : Configuration) (last : Option NetworkSetting) → last_network c.networks ≡ last → is_some last ≡ true
-    → ((carrier : Carrier) → o ≡ Some carrier → (first_clash carrier (links_in c.links) ≡ None) × (c.links.count < 64))
+    → ((carrier : Carrier) → o ≡ Some carrier → (first_clash (c.networks.count - 1) carrier (links_in c.links) ≡ None) × (c.links.count < 64))
     → Follows (now_linked c.networks last).count c.links (linked n (c.networks.count - 1) c.links o)
 added_follows n o c last e is free =
     let is_last : (c.networks.count - 1) + 1 ≡ (now_linked c.networks last).count = counted c.networks last e is ∙ sym (now_count c.networks last) in
@@ -191,8 +201,8 @@ link_follows capacity n b own c = elim (cases_Bool (nat_lt c.above a_wrong_netwo
   | inl looked ↦ rw looked (elim (cases_Bool (is_some (link_line_fault capacity b own c))) [
     | inl wrong ↦ rw wrong (same refl)
     | inr right ↦ rw right (added_follows n (carrier_in b) c (last_network c.networks) refl
-        (above_last c (has_one capacity b own c.links (network_above c) (no_fault (link_line_fault capacity b own c) right))) (λ carrier is.
-        line_free capacity b own c.links (network_above c) carrier (no_fault (link_line_fault capacity b own c) right) is))
+        (above_last c (has_one capacity (c.networks.count - 1) b own c.links (network_above c) (no_fault (link_line_fault capacity b own c) right))) (λ carrier is.
+        line_free capacity (c.networks.count - 1) b own c.links (network_above c) carrier (no_fault (link_line_fault capacity b own c) right) is))
   ])
   | inr passed ↦ rw passed (same refl)
 ]
@@ -223,6 +233,8 @@ carrier_kept n text (line.Extend b) read own links link = refl
 carrier_kept n text (line.Clients b) read own links link = kept (once link.clients.line own) link (with_clients link (clients_said n b)) refl
 carrier_kept n text (line.Allow b) read own links link = refl
 carrier_kept n text (line.Trust b) read own links link = refl
+carrier_kept n text (line.Origins b) read own links link = refl
+carrier_kept n text (line.Peer b) read own links link = refl
 carrier_kept n text (line.Rate b) read own links link = kept (once (rate_of link links).line own) link (with_rate link (rate_said n b)) refl
 carrier_kept n text (line.Strangers b) read own links link = kept (once link.strangers.line own) link (with_strangers link (number_said n b)) refl
 carrier_kept n text (line.Kilobits b) read own links link = kept (kilobits_fault link b own links) link (with_kilobits link (number_said n b)) refl
@@ -242,6 +254,8 @@ number_kept n text (line.Extend b) read own links link = refl
 number_kept n text (line.Clients b) read own links link = network_kept (once link.clients.line own) link (with_clients link (clients_said n b)) refl
 number_kept n text (line.Allow b) read own links link = refl
 number_kept n text (line.Trust b) read own links link = refl
+number_kept n text (line.Origins b) read own links link = refl
+number_kept n text (line.Peer b) read own links link = refl
 number_kept n text (line.Rate b) read own links link = network_kept (once (rate_of link links).line own) link (with_rate link (rate_said n b)) refl
 number_kept n text (line.Strangers b) read own links link = network_kept (once link.strangers.line own) link (with_strangers link (number_said n b)) refl
 number_kept n text (line.Kilobits b) read own links link = network_kept (kilobits_fault link b own links) link (with_kilobits link (number_said n b)) refl
@@ -275,6 +289,12 @@ routed_follows c n text r b =
     either c.links (is_some (route_clash b c)) (c, route_clash b c) (extended_by c n text r (last_network c.networks)) (same refl)
     (extends_follow c n text r (last_network c.networks))
 
+peered_follows : (c : Configuration) (n : ℕ) (text : List ℕ) (r : Reading) (b : Option Place)
+    → Follows (peered n text r b c).0.networks.count c.links (peered n text r b c).0.links
+peered_follows c n text r b =
+    either c.links (is_some (peer_clash b c)) (c, peer_clash b c) (extended_by c n text r (last_network c.networks)) (same refl)
+    (extends_follow c n text r (last_network c.networks))
+
 below_network_follows : (n : ℕ) (text : List ℕ) (r : Reading) (l : Line) (c : Configuration)
     → Follows (below_network_by n text r l c).0.networks.count c.links (below_network_by n text r l c).0.links
 below_network_follows n text r line.Nothing c = same refl
@@ -284,6 +304,8 @@ below_network_follows n text r (line.Extend b) c = extends_follow c n text r (la
 below_network_follows n text r (line.Clients b) c = same refl
 below_network_follows n text r (line.Allow b) c = same refl
 below_network_follows n text r (line.Trust b) c = same refl
+below_network_follows n text r (line.Origins b) c = same refl
+below_network_follows n text r (line.Peer b) c = same refl
 below_network_follows n text r (line.Rate b) c = same refl
 below_network_follows n text r (line.Strangers b) c = same refl
 below_network_follows n text r (line.Kilobits b) c = same refl
@@ -312,6 +334,8 @@ module _ (n : ℕ) (text : List ℕ) (r : Reading) (c : Configuration) where
   below_link_follows (line.Clients b) = tunnel_follows (tunnel_fault c)
   below_link_follows (line.Allow b) = tunnel_follows (tunnel_fault c)
   below_link_follows (line.Trust b) = tunnel_follows (tunnel_fault c)
+  below_link_follows (line.Origins b) = either c.links (is_web (last_link c.links)) (link_extended_by c n text r (last_link c.links)) (c, Some fault.BelowWeb) last_follows (same refl)
+  below_link_follows (line.Peer b) = peered_follows c n text r b
   below_link_follows (line.Rate b) = last_follows
   below_link_follows (line.Strangers b) = tunnel_follows (tunnel_fault c)
   below_link_follows (line.Kilobits b) = tunnel_follows (tunnel_fault c)
@@ -336,6 +360,8 @@ module _ (n : ℕ) (text : List ℕ) (r : Reading) (c : Configuration) where
   taken_follows capacity (line.Clients b) = below_follows
   taken_follows capacity (line.Allow b) = below_follows
   taken_follows capacity (line.Trust b) = below_follows
+  taken_follows capacity (line.Origins b) = below_follows
+  taken_follows capacity (line.Peer b) = below_follows
   taken_follows capacity (line.Rate b) = below_follows
   taken_follows capacity (line.Strangers b) = below_follows
   taken_follows capacity (line.Kilobits b) = below_follows

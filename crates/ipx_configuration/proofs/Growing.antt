@@ -3,6 +3,7 @@ use Rattle.std.proofs.Common.{◌≡◌, ℕ, ◌-◌, ◌<◌, ◌≤◌, Bool,
 use Rattle.std.specs.Option.{is_some}
 use Rattle.std.proofs.lemmas.Bool.{cases_Bool, ltb-true}
 use Rattle.std.proofs.lemmas.List.{length-set}
+use Rattle.ipx_settings.specs.declared.addresses.Place.{Place}
 use Rattle.ipx_settings.specs.declared.expected.Expected.{Expected}
 use Rattle.ipx_settings.specs.declared.internal.InternalBegun.{InternalBegun}
 use Rattle.ipx_settings.specs.declared.line.Line.{Line}
@@ -11,12 +12,13 @@ use Rattle.ipx_settings.specs.declared.link.LinkBegun.{LinkBegun}
 use Rattle.ipx_settings.specs.declared.network.NetworkBegun.{NetworkBegun}
 use Rattle.ipx_settings.specs.declared.reading.Reading.{Reading}
 use Rattle.ipx_settings.specs.declared.statics.RouteBegun.{RouteBegun}
-use Rattle.ipx_configuration.specs.Configurations.{nothing, a_network, a_link, a_wrong_network, names_link, network_of, network_fault, after_network, internal_fault, after_internal, now_linked, with_a_link, link_line_fault, link_line, extended_by, route_clash, routed, link_extended_by, is_below_tunnel, tunnel_fault, below_network_by, below_link_by, taken_below, taken_by, read_in, after}
+use Rattle.ipx_configuration.specs.Configurations.{nothing, a_network, a_link, a_wrong_network, names_link, network_of, network_fault, after_network, internal_fault, after_internal, now_linked, with_a_link, link_line_fault, link_line, extended_by, route_clash, routed, peer_clash, peered, link_extended_by, is_below_tunnel, is_web, tunnel_fault, below_network_by, below_link_by, taken_below, taken_by, read_in, after}
 use Rattle.ipx_configuration.specs.Extends.{network_taken}
 use Rattle.ipx_configuration.specs.Memory.{last_network, last_link, with_network, with_last_network}
 use Rattle.ipx_configuration.specs.declared.configuration.Capacity.{Capacity}
 use Rattle.ipx_configuration.specs.declared.configuration.Configuration.{Configuration}
 use Rattle.ipx_configuration.specs.declared.fault.Fault.{Fault}
+use Rattle.ipx_configuration.specs.declared.fault.Fault.TheVariants as fault
 use Rattle.ipx_configuration.specs.declared.memory.NetworkList.{NetworkList}
 use Rattle.ipx_configuration.specs.declared.said.LinkSetting.{LinkSetting}
 use Rattle.ipx_configuration.specs.declared.said.NetworkSetting.{NetworkSetting}
@@ -92,6 +94,11 @@ module _ (n : ℕ) (text : List ℕ) (r : Reading) (c : Configuration) where
       either c.networks (is_some (route_clash b c)) (c, route_clash b c) (extended_by c n text r (last_network c.networks)) (stays c.networks)
       (extended_grows c n text r (last_network c.networks))
 
+  peered_grows : (b : Option Place) → Grows c.networks (peered n text r b c).0.networks
+  peered_grows b =
+      either c.networks (is_some (peer_clash b c)) (c, peer_clash b c) (extended_by c n text r (last_network c.networks)) (stays c.networks)
+      (extended_grows c n text r (last_network c.networks))
+
   below_network_grows : (l : Line) → Grows c.networks (below_network_by n text r l c).0.networks
   below_network_grows line.Nothing = stays c.networks
   below_network_grows (line.Network b) = stays c.networks
@@ -100,6 +107,8 @@ module _ (n : ℕ) (text : List ℕ) (r : Reading) (c : Configuration) where
   below_network_grows (line.Clients b) = stays c.networks
   below_network_grows (line.Allow b) = stays c.networks
   below_network_grows (line.Trust b) = stays c.networks
+  below_network_grows (line.Origins b) = stays c.networks
+  below_network_grows (line.Peer b) = stays c.networks
   below_network_grows (line.Rate b) = stays c.networks
   below_network_grows (line.Strangers b) = stays c.networks
   below_network_grows (line.Kilobits b) = stays c.networks
@@ -124,6 +133,8 @@ module _ (n : ℕ) (text : List ℕ) (r : Reading) (c : Configuration) where
   below_link_grows (line.Clients b) = tunnel_grows
   below_link_grows (line.Allow b) = tunnel_grows
   below_link_grows (line.Trust b) = tunnel_grows
+  below_link_grows (line.Origins b) = either c.networks (is_web (last_link c.links)) (link_extended_by c n text r (last_link c.links)) (c, Some fault.BelowWeb) last_grows (stays c.networks)
+  below_link_grows (line.Peer b) = peered_grows b
   below_link_grows (line.Rate b) = last_grows
   below_link_grows (line.Strangers b) = tunnel_grows
   below_link_grows (line.Kilobits b) = tunnel_grows
@@ -148,6 +159,8 @@ module _ (n : ℕ) (text : List ℕ) (r : Reading) (c : Configuration) where
   taken_grows capacity (line.Clients b) = below_grows
   taken_grows capacity (line.Allow b) = below_grows
   taken_grows capacity (line.Trust b) = below_grows
+  taken_grows capacity (line.Origins b) = below_grows
+  taken_grows capacity (line.Peer b) = below_grows
   taken_grows capacity (line.Rate b) = below_grows
   taken_grows capacity (line.Strangers b) = below_grows
   taken_grows capacity (line.Kilobits b) = below_grows

@@ -20,6 +20,7 @@ use Rattle.ipx_settings.specs.declared.statics.StaticService.{StaticService}
 use Rattle.ipx_configuration.specs.Clashes.{first_of, when, line_fault}
 use Rattle.ipx_configuration.specs.Extends.{network_by}
 use Rattle.ipx_configuration.specs.Lines.{once, if_right}
+use Rattle.ipx_configuration.specs.Peers.{peer_fault}
 use Rattle.ipx_configuration.specs.Rules.{rule_fault}
 use Rattle.ipx_configuration.specs.Statics.{route_said, routes_in, leads_to, first_route, route_fault, service_said, services_in, is_named, first_service, service_fault}
 use Rattle.ipx_configuration.specs.Wholes.{is_of_route, is_of_service}
@@ -63,14 +64,14 @@ some_first p f xs some =
 -- ---- lines that are wrong
 
 -- another network with the same list
-kept_by : {A : Type 0} (of : NetworkSetting → A) (f : Option Fault) (was next : NetworkSetting) → of next ≡ of was → of (if_right f was next).0 ≡ of was
+pub kept_by : {A : Type 0} (of : NetworkSetting → A) (f : Option Fault) (was next : NetworkSetting) → of next ≡ of was → of (if_right f was next).0 ≡ of was
 kept_by of None was next e = e
 kept_by of (Some f) was next e = refl
 
-abbrev IsWrong : NetworkSetting → NetworkSetting × Option Fault → Type 0
+abbrev pub IsWrong : NetworkSetting → NetworkSetting × Option Fault → Type 0
 IsWrong n taken = (taken.0 ≡ n) × (is_some taken.1 ≡ true)
 
-wrong : (f : Option Fault) (was next : NetworkSetting) → is_some f ≡ true → IsWrong was (if_right f was next)
+pub wrong : (f : Option Fault) (was next : NetworkSetting) → is_some f ≡ true → IsWrong was (if_right f was next)
 wrong None was next is = absurd (true≢false (sym is))
 wrong (Some f) was next is = (refl, refl)
 
@@ -120,6 +121,8 @@ module _ (number : ℕ) (text : List ℕ) (read : ℕ) (own : Option Expected) (
   full_routes (line.Clients b) is many = absurd (true≢false (sym is))
   full_routes (line.Allow b) is many = absurd (true≢false (sym is))
   full_routes (line.Trust b) is many = absurd (true≢false (sym is))
+  full_routes (line.Origins b) is many = absurd (true≢false (sym is))
+  full_routes (line.Peer b) is many = absurd (true≢false (sym is))
   full_routes (line.Rate b) is many = absurd (true≢false (sym is))
   full_routes (line.Strangers b) is many = absurd (true≢false (sym is))
   full_routes (line.Kilobits b) is many = absurd (true≢false (sym is))
@@ -138,6 +141,8 @@ module _ (number : ℕ) (text : List ℕ) (read : ℕ) (own : Option Expected) (
   other_routes (line.Clients b) is = refl
   other_routes (line.Allow b) is = refl
   other_routes (line.Trust b) is = refl
+  other_routes (line.Origins b) is = refl
+  other_routes (line.Peer b) is = kept_by (λ m. m.static_routes) (peer_fault n.peers b own) n _ refl
   other_routes (line.Rate b) is = refl
   other_routes (line.Strangers b) is = refl
   other_routes (line.Kilobits b) is = refl
@@ -174,6 +179,8 @@ module _ (number : ℕ) (text : List ℕ) (read : ℕ) (own : Option Expected) (
   full_services (line.Clients b) is many = absurd (true≢false (sym is))
   full_services (line.Allow b) is many = absurd (true≢false (sym is))
   full_services (line.Trust b) is many = absurd (true≢false (sym is))
+  full_services (line.Origins b) is many = absurd (true≢false (sym is))
+  full_services (line.Peer b) is many = absurd (true≢false (sym is))
   full_services (line.Rate b) is many = absurd (true≢false (sym is))
   full_services (line.Strangers b) is many = absurd (true≢false (sym is))
   full_services (line.Kilobits b) is many = absurd (true≢false (sym is))
@@ -192,6 +199,8 @@ module _ (number : ℕ) (text : List ℕ) (read : ℕ) (own : Option Expected) (
   other_services (line.Clients b) is = refl
   other_services (line.Allow b) is = refl
   other_services (line.Trust b) is = refl
+  other_services (line.Origins b) is = refl
+  other_services (line.Peer b) is = kept_by (λ m. m.static_services) (peer_fault n.peers b own) n _ refl
   other_services (line.Rate b) is = refl
   other_services (line.Strangers b) is = refl
   other_services (line.Kilobits b) is = refl

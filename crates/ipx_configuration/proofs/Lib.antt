@@ -11,5 +11,6 @@ pub mod Owning
 pub mod Adopting
 pub mod Ruling
 pub mod Leading
+pub mod Peering
 pub mod Elsewhere
 pub mod examples

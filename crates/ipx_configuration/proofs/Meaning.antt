@@ -1,5 +1,5 @@
 -- What it is to be apart, and to be wrong.
-use Rattle.std.proofs.Common.{◌≡◌, ℕ, Bool, true, false, not, ◌==◌, ◌&&◌, nat_lt, if◌then◌else◌, List, refl, sym, ap, ◌∙◌, Option, Some, None, inl, inr, true≢false}
+use Rattle.std.proofs.Common.{◌≡◌, ℕ, Bool, true, false, not, ◌==◌, ◌&&◌, ◌||◌, nat_lt, if◌then◌else◌, List, [], ◌∷◌, refl, sym, ap, ◌∙◌, Option, Some, None, inl, inr, true≢false}
 use Rattle.std.specs.Option.{is_some}
 use Rattle.std.proofs.lemmas.Bool.{cases_Bool}
 use Rattle.ipx_settings.specs.declared.expected.Expected.{Expected}
@@ -9,7 +9,7 @@ use Rattle.ipx_settings.specs.declared.link.LinkBegun.{LinkBegun}
 use Rattle.ipx_settings.specs.declared.network.NetworkBegun.{NetworkBegun}
 use Rattle.ipx_settings.specs.declared.reading.Reading.{Reading}
 use Rattle.ipx_configuration.specs.Carriers.{tunnel, any_frames, same_carrier, take_the_same}
-use Rattle.ipx_configuration.specs.Clashes.{when, kind_clash, clash}
+use Rattle.ipx_configuration.specs.Clashes.{when, first_of, kind_clash, is_on_path, are_of_peers, clash}
 use Rattle.ipx_configuration.specs.Configurations.{a_wrong_network, network_fault, after_network, link_line_fault, link_line, taken_by}
 use Rattle.ipx_configuration.specs.Wholes.{is_of_network_or_link}
 use Rattle.ipx_configuration.specs.declared.carrier.Carrier.{Carrier}
@@ -39,17 +39,41 @@ never : (b : Bool) (f : Fault) → when b f ≡ None → b ≡ false
 never true f e = absurd cc
 never false f e = refl
 
+-- two checks that hold
+neither_fails : (o p : Option Fault) → first_of (o ∷ p ∷ []) ≡ None → (o ≡ None) × (p ≡ None)
+neither_fails None None e = (refl, refl)
+neither_fails None (Some f) e = absurd cc
+neither_fails (Some f) p e = absurd cc
+
+none_of : (a b : Bool) → (a || b) ≡ false → (a ≡ false) × (b ≡ false)
+none_of true b e = absurd (true≢false e)
+none_of false b e = (refl, e)
+
 no_kind : (a b d : Bool) (f g h : Fault) → (if a then Some f else if b then Some g else when d h) ≡ None → (a ≡ false) × (b ≡ false) × (d ≡ false)
 no_kind true b d f g h e = absurd cc
 no_kind false true d f g h e = absurd cc
 no_kind false false d f g h e = (refl, refl, never d h e)
 
-module _ (carrier : Carrier) (other : LinkSetting) (apart : clash carrier other ≡ None) where
+module _ (network : ℕ) (carrier : Carrier) (other : LinkSetting) (apart : clash network carrier other ≡ None) where
   abbrev kind_fault : Option Fault
   kind_fault = kind_clash carrier.frames other.carrier.frames other.line
 
   abbrev address_fault : Option Fault
-  address_fault = when (take_the_same carrier other.carrier) (fault.OtherPort other.line)
+  address_fault =
+      first_of (
+      when (take_the_same carrier other.carrier || is_on_path network carrier other) (fault.OtherPort other.line)
+      ∷ when (are_of_peers network carrier other) (fault.OnePeers other.line)
+      ∷ [])
+
+  both_hold : address_fault ≡ None
+      → (when (take_the_same carrier other.carrier || is_on_path network carrier other) (fault.OtherPort other.line) ≡ None)
+      × (when (are_of_peers network carrier other) (fault.OnePeers other.line) ≡ None)
+  both_hold e = neither_fails _ _ e
+
+  neither : address_fault ≡ None → (take_the_same carrier other.carrier ≡ false) × (is_on_path network carrier other ≡ false)
+  neither e =
+      none_of (take_the_same carrier other.carrier) (is_on_path network carrier other)
+      (never (take_the_same carrier other.carrier || is_on_path network carrier other) (fault.OtherPort other.line) (both_hold e).0)
 
   pub kinds : (carrier.number == tunnel) ≡ false → same_carrier carrier other.carrier ≡ true
       → ((other.carrier.frames == any_frames) ≡ false) × ((carrier.frames == any_frames) ≡ false) × ((carrier.frames == other.carrier.frames) ≡ false)
@@ -59,14 +83,18 @@ module _ (carrier : Carrier) (other : LinkSetting) (apart : clash carrier other 
       (on_one (carrier.number == tunnel) (same_carrier carrier other.carrier) kind_fault address_fault apart no_tunnel same)
 
   pub tunnels : (carrier.number == tunnel) ≡ true → take_the_same carrier other.carrier ≡ false
-  tunnels is =
-      never (take_the_same carrier other.carrier) (fault.OtherPort other.line)
-      (of_tunnels (carrier.number == tunnel) (same_carrier carrier other.carrier) kind_fault address_fault apart is)
+  tunnels is = (neither (of_tunnels (carrier.number == tunnel) (same_carrier carrier other.carrier) kind_fault address_fault apart is)).0
 
   pub others : same_carrier carrier other.carrier ≡ false → take_the_same carrier other.carrier ≡ false
-  others differ =
-      never (take_the_same carrier other.carrier) (fault.OtherPort other.line)
-      (on_two (carrier.number == tunnel) (same_carrier carrier other.carrier) kind_fault address_fault apart differ)
+  others differ = (neither (on_two (carrier.number == tunnel) (same_carrier carrier other.carrier) kind_fault address_fault apart differ)).0
+
+  pub paths : same_carrier carrier other.carrier ≡ false → is_on_path network carrier other ≡ false
+  paths differ = (neither (on_two (carrier.number == tunnel) (same_carrier carrier other.carrier) kind_fault address_fault apart differ)).1
+
+  pub one_of_peers : same_carrier carrier other.carrier ≡ false → are_of_peers network carrier other ≡ false
+  one_of_peers differ =
+      never (are_of_peers network carrier other) (fault.OnePeers other.line)
+      (both_hold (on_two (carrier.number == tunnel) (same_carrier carrier other.carrier) kind_fault address_fault apart differ)).1
 
 -- ---- lines that are wrong
 
@@ -100,6 +128,8 @@ unchanged capacity n text r c f (line.Extend b) is wrong = absurd (true≢false 
 unchanged capacity n text r c f (line.Clients b) is wrong = absurd (true≢false (sym is))
 unchanged capacity n text r c f (line.Allow b) is wrong = absurd (true≢false (sym is))
 unchanged capacity n text r c f (line.Trust b) is wrong = absurd (true≢false (sym is))
+unchanged capacity n text r c f (line.Origins b) is wrong = absurd (true≢false (sym is))
+unchanged capacity n text r c f (line.Peer b) is wrong = absurd (true≢false (sym is))
 unchanged capacity n text r c f (line.Rate b) is wrong = absurd (true≢false (sym is))
 unchanged capacity n text r c f (line.Strangers b) is wrong = absurd (true≢false (sym is))
 unchanged capacity n text r c f (line.Kilobits b) is wrong = absurd (true≢false (sym is))

@@ -20,6 +20,8 @@ module _ (n : ℕ) (text : List ℕ) (read : ℕ) (own : Option Expected) (links
   first (line.Clients b) is right none = absurd (true≢false (sym is))
   first (line.Allow b) is right none = absurd (true≢false (sym is))
   first (line.Trust b) is right none = absurd (true≢false (sym is))
+  first (line.Origins b) is right none = absurd (true≢false (sym is))
+  first (line.Peer b) is right none = absurd (true≢false (sym is))
   first (line.Rate b) is right none = absurd (true≢false (sym is))
   first (line.Strangers b) is right none = absurd (true≢false (sym is))
   first (line.Kilobits b) is right none = absurd (true≢false (sym is))
@@ -38,6 +40,8 @@ module _ (n : ℕ) (text : List ℕ) (read : ℕ) (own : Option Expected) (links
   again (line.Clients b) is some = absurd (true≢false (sym is))
   again (line.Allow b) is some = absurd (true≢false (sym is))
   again (line.Trust b) is some = absurd (true≢false (sym is))
+  again (line.Origins b) is some = absurd (true≢false (sym is))
+  again (line.Peer b) is some = absurd (true≢false (sym is))
   again (line.Rate b) is some = absurd (true≢false (sym is))
   again (line.Strangers b) is some = absurd (true≢false (sym is))
   again (line.Kilobits b) is some = absurd (true≢false (sym is))
@@ -60,6 +64,8 @@ module _ (n : ℕ) (text : List ℕ) (read : ℕ) (own : Option Expected) (links
   others (line.Clients b) is = kept (once link.clients.line own) (with_clients link (clients_said n b)) refl
   others (line.Allow b) is = refl
   others (line.Trust b) is = refl
+  others (line.Origins b) is = refl
+  others (line.Peer b) is = refl
   others (line.Rate b) is = kept (once (rate_of link links).line own) (with_rate link (rate_said n b)) refl
   others (line.Strangers b) is = kept (once link.strangers.line own) (with_strangers link (number_said n b)) refl
   others (line.Kilobits b) is = kept (kilobits_fault link b own links) (with_kilobits link (number_said n b)) refl

@@ -3,6 +3,7 @@ use Rattle.std.proofs.Common.{◌≡◌, ℕ, ◌<◌, Bool, true, false, ◌==�
 use Rattle.std.specs.Option.{is_some}
 use Rattle.std.proofs.lemmas.Bool.{lt-ltb, eq-eqb}
 use Rattle.ipx_settings.specs.Networks.{link_in, number_in}
+use Rattle.ipx_settings.specs.declared.addresses.Place.{Place}
 use Rattle.ipx_settings.specs.declared.expected.Expected.{Expected}
 use Rattle.ipx_settings.specs.declared.internal.InternalBegun.{InternalBegun}
 use Rattle.ipx_settings.specs.declared.line.Line.{Line}
@@ -12,7 +13,7 @@ use Rattle.ipx_settings.specs.declared.network.NetworkBegun.{NetworkBegun}
 use Rattle.ipx_settings.specs.declared.reading.Reading.{Reading}
 use Rattle.ipx_settings.specs.declared.statics.RouteBegun.{RouteBegun}
 use Rattle.ipx_configuration.specs.Clashes.{when, first_of, line_fault}
-use Rattle.ipx_configuration.specs.Configurations.{nothing, a_network, a_link, a_wrong_network, names_link, head_or_none, more_links, network_fault, internal_fault, after_internal, link_line_fault, link_line, extended_by, route_clash, routed, link_extended_by, is_below_tunnel, tunnel_fault, below_network_by, below_link_by, taken_below, taken_by}
+use Rattle.ipx_configuration.specs.Configurations.{nothing, a_network, a_link, a_wrong_network, names_link, head_or_none, more_links, network_fault, internal_fault, after_internal, link_line_fault, link_line, extended_by, route_clash, routed, peer_clash, peered, link_extended_by, is_below_tunnel, is_web, tunnel_fault, below_network_by, below_link_by, taken_below, taken_by}
 use Rattle.ipx_configuration.specs.Internals.{is_full, internal_clash}
 use Rattle.ipx_configuration.specs.Memory.{networks_in, last_network, last_link}
 use Rattle.ipx_configuration.specs.Numbers.{number_fault, routed_fault}
@@ -35,6 +36,8 @@ of_internal (line.Extend b) is = absurd (true≢false (sym is))
 of_internal (line.Clients b) is = absurd (true≢false (sym is))
 of_internal (line.Allow b) is = absurd (true≢false (sym is))
 of_internal (line.Trust b) is = absurd (true≢false (sym is))
+of_internal (line.Origins b) is = absurd (true≢false (sym is))
+of_internal (line.Peer b) is = absurd (true≢false (sym is))
 of_internal (line.Rate b) is = absurd (true≢false (sym is))
 of_internal (line.Strangers b) is = absurd (true≢false (sym is))
 of_internal (line.Kilobits b) is = absurd (true≢false (sym is))
@@ -92,6 +95,9 @@ module _ (n : ℕ) (text : List ℕ) (r : Reading) (c : Configuration) where
   routed_same : (b : RouteBegun) → Same (routed n text r b c)
   routed_same b = either (is_some (route_clash b c)) (c, route_clash b c) (extended_by c n text r (last_network c.networks)) refl (extended_same (last_network c.networks))
 
+  peered_same : (b : Option Place) → Same (peered n text r b c)
+  peered_same b = either (is_some (peer_clash b c)) (c, peer_clash b c) (extended_by c n text r (last_network c.networks)) refl (extended_same (last_network c.networks))
+
   below_network_same : (l : Line) → Same (below_network_by n text r l c)
   below_network_same line.Nothing = refl
   below_network_same (line.Network b) = refl
@@ -100,6 +106,8 @@ module _ (n : ℕ) (text : List ℕ) (r : Reading) (c : Configuration) where
   below_network_same (line.Clients b) = refl
   below_network_same (line.Allow b) = refl
   below_network_same (line.Trust b) = refl
+  below_network_same (line.Origins b) = refl
+  below_network_same (line.Peer b) = refl
   below_network_same (line.Rate b) = refl
   below_network_same (line.Strangers b) = refl
   below_network_same (line.Kilobits b) = refl
@@ -118,6 +126,8 @@ module _ (n : ℕ) (text : List ℕ) (r : Reading) (c : Configuration) where
   below_link_same (line.Clients b) = tunnel_same
   below_link_same (line.Allow b) = tunnel_same
   below_link_same (line.Trust b) = tunnel_same
+  below_link_same (line.Origins b) = either (is_web (last_link c.links)) (link_extended_by c n text r (last_link c.links)) (c, Some fault.BelowWeb) (link_same (last_link c.links)) refl
+  below_link_same (line.Peer b) = peered_same b
   below_link_same (line.Rate b) = link_same (last_link c.links)
   below_link_same (line.Strangers b) = tunnel_same
   below_link_same (line.Kilobits b) = tunnel_same
@@ -147,6 +157,8 @@ module _ (n : ℕ) (text : List ℕ) (r : Reading) (c : Configuration) where
   others capacity (line.Clients b) is = below_same
   others capacity (line.Allow b) is = below_same
   others capacity (line.Trust b) is = below_same
+  others capacity (line.Origins b) is = below_same
+  others capacity (line.Peer b) is = below_same
   others capacity (line.Rate b) is = below_same
   others capacity (line.Strangers b) is = below_same
   others capacity (line.Kilobits b) is = below_same
@@ -169,4 +181,4 @@ number_taken capacity b own c said has =
     let clash : internal_clash (number_in b) c.internal ≡ Some (fault.OtherNetwork c.internal.line) = rw (has, lt-ltb 0 c.internal.line said, eq-eqb c.internal.number c.internal.number refl) refl in
     rw clash
     (third (when (is_full capacity c) fault.ManyNetworks) (number_fault (number_in b) (networks_in c.networks)) (fault.OtherNetwork c.internal.line)
-    (routed_fault (number_in b) (networks_in c.networks) ∷ (if names_link b own then more_links (link_in b) (head_or_none b).longest c.links own else line_fault own) ∷ []))
+    (routed_fault (number_in b) (networks_in c.networks) ∷ (if names_link b own then more_links c.networks.count (link_in b) (head_or_none b).longest c.links own else line_fault own) ∷ []))

@@ -9,6 +9,7 @@ use Rattle.ipx_settings.specs.declared.rule.RuleBegun.TheVariants as rule
 use Rattle.ipx_settings.specs.declared.rule.What.{What}
 use Rattle.ipx_configuration.specs.Extends.{network_by}
 use Rattle.ipx_configuration.specs.Lines.{once, if_right}
+use Rattle.ipx_configuration.specs.Peers.{peer_fault}
 use Rattle.ipx_configuration.specs.Rules.{rule_said, rules_in}
 use Rattle.ipx_configuration.specs.Statics.{route_fault, service_fault}
 use Rattle.ipx_configuration.specs.Wholes.{is_of_rule}
@@ -36,6 +37,8 @@ module _ (number : ℕ) (text : List ℕ) (read : ℕ) (own : Option Expected) (
   full (line.Clients b) is many = absurd (true≢false (sym is))
   full (line.Allow b) is many = absurd (true≢false (sym is))
   full (line.Trust b) is many = absurd (true≢false (sym is))
+  full (line.Origins b) is many = absurd (true≢false (sym is))
+  full (line.Peer b) is many = absurd (true≢false (sym is))
   full (line.Rate b) is many = absurd (true≢false (sym is))
   full (line.Strangers b) is many = absurd (true≢false (sym is))
   full (line.Kilobits b) is many = absurd (true≢false (sym is))
@@ -54,6 +57,8 @@ module _ (number : ℕ) (text : List ℕ) (read : ℕ) (own : Option Expected) (
   others (line.Clients b) is = refl
   others (line.Allow b) is = refl
   others (line.Trust b) is = refl
+  others (line.Origins b) is = refl
+  others (line.Peer b) is = kept (peer_fault n.peers b own) n _ refl
   others (line.Rate b) is = refl
   others (line.Strangers b) is = refl
   others (line.Kilobits b) is = refl

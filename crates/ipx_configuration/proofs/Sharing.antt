@@ -1,18 +1,16 @@
 -- Links on one carrier share a rate.
-use Rattle.std.proofs.Common.{◌≡◌, ℕ, ◌<◌, ◌≤◌, Bool, true, false, not, ◌==◌, ◌&&◌, ◌||◌, nat_eq, nat_lt, if◌then◌else◌, List, length, get_or, refl, sym, ap, subst, ◌∙◌, arith, rules, Option, Some, None, inl, inr, true≢false}
+use Rattle.std.proofs.Common.{◌≡◌, ℕ, ◌<◌, ◌≤◌, Bool, true, false, not, ◌==◌, ◌&&◌, nat_eq, nat_lt, if◌then◌else◌, List, length, get_or, refl, sym, ap, ◌∙◌, arith, rules, Some, None, inl, inr, true≢false}
 use Rattle.std.specs.Prelude.{slice_get}
 use Rattle.std.specs.Cmp.Lexicographic.{pointwise}
 use Rattle.std.specs.List.{position, position_or_len}
-use Rattle.std.specs.Option.{is_some}
 use Rattle.std.specs.Str.{bytes_eq}
 use Rattle.std.proofs.lemmas.Bool.{cases_Bool, cases_lt, lt-ltb, le-ltb, and_parts, eqb-true}
 use Rattle.std.proofs.lemmas.List.Sums.{fails_before_first}
 use Rattle.std.proofs.lemmas.Option.{slice_get_within, slice_get-get_or, get_or_from_slice_get}
-use Rattle.ipx_settings.specs.Cutting.{◌>>=◌}
 use Rattle.ipx_configuration.specs.Carriers.{tunnel, is_fixed, same_carrier, carrier_at}
 use Rattle.ipx_configuration.specs.Configured.{rate_or_usual}
 use Rattle.ipx_configuration.specs.Endpoints.{same_endpoint, endpoint_at, is_of_one_kind}
-use Rattle.ipx_configuration.specs.Lines.{shares_rate, rate_or, rate_of}
+use Rattle.ipx_configuration.specs.Lines.{shares_rate, rate_of}
 use Rattle.ipx_configuration.specs.declared.carrier.Carrier.{Carrier}
 use Rattle.ipx_configuration.specs.declared.endpoint.Endpoint.{Endpoint}
 use Rattle.ipx_configuration.specs.declared.said.LinkSetting.{LinkSetting}

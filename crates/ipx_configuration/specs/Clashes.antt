@@ -1,13 +1,14 @@
 -- What may not stand beside each other.
-use Rattle.std.specs.Prelude.{ℕ, Bool, true, false, not, ◌==◌, ◌&&◌, if◌then◌else◌, nat_lt, List, [], ◌∷◌, Option, Some, None, slice_get}
+use Rattle.std.specs.Prelude.{ℕ, Bool, true, false, not, ◌==◌, ◌&&◌, ◌||◌, if◌then◌else◌, nat_lt, List, [], ◌∷◌, Option, Some, None, slice_get}
 use Rattle.std.specs.List.{position}
 use Rattle.std.specs.Option.{is_some, unwrap_or, option_map}
 use Rattle.ipx_settings.specs.Cutting.{◌>>=◌}
 use Rattle.ipx_settings.specs.declared.expected.Expected.{Expected}
 use Rattle.ipx_settings.specs.declared.expected.Expected.TheVariants as expected
+use Rattle.ipx_settings.specs.declared.link.Link.TheVariants as link
 use Rattle.ipx_settings.specs.declared.link.LinkBegun.{LinkBegun}
 use Rattle.ipx_settings.specs.declared.link.LinkBegun.TheVariants as begun
-use Rattle.ipx_configuration.specs.Carriers.{tunnel, any_frames, carrier_of, same_carrier, take_the_same, may_hear_itself, longest_on}
+use Rattle.ipx_configuration.specs.Carriers.{tunnel, peers, any_frames, carrier_of, same_carrier, take_the_same, share_a_path, may_hear_itself, longest_of}
 use Rattle.ipx_configuration.specs.declared.carrier.Carrier.{Carrier}
 use Rattle.ipx_configuration.specs.declared.fault.Fault.{Fault}
 use Rattle.ipx_configuration.specs.declared.fault.Fault.TheVariants as fault
@@ -37,38 +38,56 @@ kind_clash frames other line =
     else if frames == any_frames then Some (fault.OneKind line)
     else when (frames == other) (fault.OtherKind line)
 
--- two links are on one carrier with different kinds of frames, or take different addresses of this machine
-abbrev pub clash : Carrier → LinkSetting → Option Fault
-clash carrier other =
-    if not (carrier.number == tunnel) && same_carrier carrier other.carrier then kind_clash carrier.frames other.carrier.frames other.line
-    else when (take_the_same carrier other.carrier) (fault.OtherPort other.line)
+-- clients by WebSocket would come by one path to a network
+abbrev pub is_on_path : ℕ → Carrier → LinkSetting → Bool
+is_on_path network carrier other = (network == other.network) && share_a_path carrier other.carrier
 
-abbrev pub clashes : Carrier → LinkSetting → Bool
-clashes carrier other = is_some (clash carrier other)
+-- a network has one link of peers
+abbrev pub are_of_peers : ℕ → Carrier → LinkSetting → Bool
+are_of_peers network carrier other = (network == other.network) && (carrier.number == peers) && (other.carrier.number == peers)
+
+-- two links are on one carrier with different kinds of frames, or take different addresses of this machine, or have different paths there
+-- (the first is of the network with that number)
+abbrev pub clash : ℕ → Carrier → LinkSetting → Option Fault
+clash network carrier other =
+    if not (carrier.number == tunnel) && same_carrier carrier other.carrier then kind_clash carrier.frames other.carrier.frames other.line
+    else first_of (
+    when (take_the_same carrier other.carrier || is_on_path network carrier other) (fault.OtherPort other.line)
+    ∷ when (are_of_peers network carrier other) (fault.OnePeers other.line)
+    ∷ [])
+
+abbrev pub clashes : ℕ → Carrier → LinkSetting → Bool
+clashes network carrier other = is_some (clash network carrier other)
 
 -- the first link that it may not stand beside
-abbrev pub first_clash : Carrier → List LinkSetting → Option Fault
-first_clash carrier links = position (clashes carrier) links >>= λ k. slice_get links k >>= λ other. clash carrier other
+abbrev pub first_clash : ℕ → Carrier → List LinkSetting → Option Fault
+first_clash network carrier links = position (clashes network carrier) links >>= λ k. slice_get links k >>= λ other. clash network carrier other
 
 -- ---- a link beside those above it
 
 abbrev pub carrier_in : LinkBegun → Option Carrier
-carrier_in (begun.Whole link) = Some (carrier_of link)
+carrier_in (begun.Whole it) = Some (carrier_of it)
 carrier_in other = None
 
-abbrev pub carrier_fault : Carrier → ℕ → List LinkSetting → Option Expected → Option Fault
-carrier_fault carrier longest links own =
+-- it is its network's only link, by RFC 1234, as far as it was read
+abbrev pub is_only : LinkBegun → Bool
+is_only begun.Rfc1234 = true
+is_only (begun.Whole (link.Rfc1234 local)) = true
+is_only other = false
+
+abbrev pub carrier_fault : ℕ → Carrier → ℕ → List LinkSetting → Option Expected → Option Fault
+carrier_fault network carrier longest links own =
     first_of (
-    first_clash carrier links
+    first_clash network carrier links
     ∷ when (may_hear_itself carrier) fault.OwnAddress
-    ∷ when (nat_lt (longest_on carrier.frames) longest) (fault.Longest longest (longest_on carrier.frames))
+    ∷ when (nat_lt (longest_of carrier) longest) (fault.Longest longest (longest_of carrier))
     ∷ line_fault own
     ∷ [])
 
-abbrev pub link_by : Option Carrier → ℕ → List LinkSetting → Option Expected → Option Fault
-link_by None longest links own = Some (fault.Line (unwrap_or own expected.Link))
-link_by (Some carrier) longest links own = carrier_fault carrier longest links own
+abbrev pub link_by : ℕ → Option Carrier → ℕ → List LinkSetting → Option Expected → Option Fault
+link_by network None longest links own = Some (fault.Line (unwrap_or own expected.Link))
+link_by network (Some carrier) longest links own = carrier_fault network carrier longest links own
 
--- what is wrong with a link, in a network with packets of so many bytes
-abbrev pub link_fault : LinkBegun → ℕ → List LinkSetting → Option Expected → Option Fault
-link_fault begun longest links own = link_by (carrier_in begun) longest links own
+-- what is wrong with a link, in the network with that number, with packets of so many bytes
+abbrev pub link_fault : ℕ → LinkBegun → ℕ → List LinkSetting → Option Expected → Option Fault
+link_fault network begun longest links own = link_by network (carrier_in begun) longest links own

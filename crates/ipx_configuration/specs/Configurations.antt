@@ -1,10 +1,13 @@
 -- A configuration, line by line.
-use Rattle.std.specs.Prelude.{ℕ, ◌-◌, Bool, true, false, not, ◌==◌, ◌&&◌, if◌then◌else◌, nat_lt, List, [], ◌∷◌, replicate, Option, Some, None}
+use Rattle.std.specs.Prelude.{ℕ, ◌-◌, Bool, true, false, not, ◌==◌, ◌&&◌, if◌then◌else◌, nat_lt, List, [], ◌∷◌, replicate, Option, Some, None, slice_get}
+use Rattle.std.specs.List.{position}
 use Rattle.std.specs.Option.{is_some, unwrap_or, option_map}
+use Rattle.ipx_settings.specs.Cutting.{◌>>=◌}
 use Rattle.ipx_settings.specs.Internals.{internal_number}
 use Rattle.ipx_settings.specs.Lines.{reading_of}
 use Rattle.ipx_settings.specs.Networks.{number_in, head_in, link_in, node_in}
 use Rattle.ipx_settings.specs.Statics.{route_to}
+use Rattle.ipx_settings.specs.declared.addresses.Place.{Place}
 use Rattle.ipx_settings.specs.declared.expected.Expected.{Expected}
 use Rattle.ipx_settings.specs.declared.expected.Expected.TheVariants as expected
 use Rattle.ipx_settings.specs.declared.internal.InternalBegun.{InternalBegun}
@@ -18,13 +21,14 @@ use Rattle.ipx_settings.specs.declared.network.NetworkBegun.{NetworkBegun}
 use Rattle.ipx_settings.specs.declared.network.Shares.{Shares}
 use Rattle.ipx_settings.specs.declared.reading.Reading.{Reading}
 use Rattle.ipx_settings.specs.declared.statics.RouteBegun.{RouteBegun}
-use Rattle.ipx_configuration.specs.Carriers.{tunnel}
-use Rattle.ipx_configuration.specs.Clashes.{first_of, when, line_fault, carrier_in, link_fault}
+use Rattle.ipx_configuration.specs.Carriers.{web, has_clients, is_with_peers}
+use Rattle.ipx_configuration.specs.Clashes.{first_of, when, line_fault, carrier_in, is_only, link_fault}
 use Rattle.ipx_configuration.specs.Extends.{network_taken}
 use Rattle.ipx_configuration.specs.Internals.{is_said, is_full, internal_clash, internal_said}
 use Rattle.ipx_configuration.specs.Lines.{link_taken}
 use Rattle.ipx_configuration.specs.Memory.{most_links, networks_in, links_in, last_network, last_link, with_network, with_link, with_last_network, with_last_link}
 use Rattle.ipx_configuration.specs.Numbers.{number_fault, routed_fault}
+use Rattle.ipx_configuration.specs.Peers.{no_peers, unlike}
 use Rattle.ipx_configuration.specs.Rules.{no_rules}
 use Rattle.ipx_configuration.specs.Said.{no_sockets, new_link}
 use Rattle.ipx_configuration.specs.Statics.{no_routes, no_services}
@@ -66,11 +70,15 @@ with_above c above = configuration_at c.networks c.links c.internal above
 
 abbrev pub is_tunnel : Option LinkSetting → Bool
 is_tunnel None = false
-is_tunnel (Some link) = link.carrier.number == tunnel
+is_tunnel (Some link) = has_clients link.carrier
 
 -- the next line stands below a tunnel
 abbrev pub is_below_tunnel : Configuration → Bool
 is_below_tunnel c = (c.above == a_link) && is_tunnel (last_link c.links)
+
+abbrev pub is_web : Option LinkSetting → Bool
+is_web None = false
+is_web (Some link) = link.carrier.number == web
 
 -- the line of the last network, if it has no link
 abbrev pub unlinked : Configuration → Option ℕ
@@ -125,14 +133,16 @@ network_by line first head node is_of_several = record {
   rules = no_rules;
   static_routes = no_routes;
   static_services = no_services;
+  peers = no_peers;
 }
 
 abbrev pub network_of : ℕ → ℕ → NetworkBegun → Bool → NetworkSetting
 network_of line first begun is_of_several = network_by line first (head_or_none begun) (node_in begun) is_of_several
 
 -- what is wrong with one more link
-abbrev pub more_links : LinkBegun → ℕ → LinkList → Option Expected → Option Fault
-more_links begun longest l own = first_of (when (not (nat_lt l.count most_links)) fault.ManyLinks ∷ link_fault begun longest (links_in l) own ∷ [])
+abbrev pub more_links : ℕ → LinkBegun → ℕ → LinkList → Option Expected → Option Fault
+more_links network begun longest l own =
+    first_of (when (not (nat_lt l.count most_links)) fault.ManyLinks ∷ link_fault network begun longest (links_in l) own ∷ [])
 
 -- and with one more network
 abbrev pub network_fault : Capacity → NetworkBegun → Option Expected → Configuration → Option Fault
@@ -142,7 +152,7 @@ network_fault capacity begun own c =
     ∷ number_fault (number_in begun) (networks_in c.networks)
     ∷ internal_clash (number_in begun) c.internal
     ∷ routed_fault (number_in begun) (networks_in c.networks)
-    ∷ (if names_link begun own then more_links (link_in begun) (head_or_none begun).longest c.links own else line_fault own)
+    ∷ (if names_link begun own then more_links c.networks.count (link_in begun) (head_or_none begun).longest c.links own else line_fault own)
     ∷ [])
 
 abbrev pub linked : ℕ → ℕ → LinkList → Option Carrier → LinkList
@@ -186,17 +196,18 @@ after_internal capacity line begun own c =
 abbrev pub network_above : Configuration → Option NetworkSetting
 network_above c = if c.above == nothing then None else last_network c.networks
 
-abbrev pub link_line_by : Capacity → LinkBegun → Option Expected → LinkList → Option NetworkSetting → Option Fault
-link_line_by capacity begun own l None = Some fault.LinkBelow
-link_line_by capacity begun own l (Some network) =
+abbrev pub link_line_by : Capacity → ℕ → LinkBegun → Option Expected → LinkList → Option NetworkSetting → Option Fault
+link_line_by capacity number begun own l None = Some fault.LinkBelow
+link_line_by capacity number begun own l (Some network) =
     first_of (
     when (not network.is_of_several) fault.LinkBelow
+    ∷ when (is_only begun) fault.OnOwnLine
     ∷ when (not (nat_lt (l.count - network.first) capacity.links)) fault.ManyLinksOfNetwork
-    ∷ more_links begun network.longest l own
+    ∷ more_links number begun network.longest l own
     ∷ [])
 
 abbrev pub link_line_fault : Capacity → LinkBegun → Option Expected → Configuration → Option Fault
-link_line_fault capacity begun own c = link_line_by capacity begun own c.links (network_above c)
+link_line_fault capacity begun own c = link_line_by capacity (c.networks.count - 1) begun own c.links (network_above c)
 
 abbrev pub with_a_link : NetworkSetting → NetworkSetting
 with_a_link n = record {
@@ -217,6 +228,7 @@ with_a_link n = record {
   rules = n.rules;
   static_routes = n.static_routes;
   static_services = n.static_services;
+  peers = n.peers;
 }
 
 abbrev pub now_linked : NetworkList → Option NetworkSetting → NetworkList
@@ -255,6 +267,25 @@ route_clash begun c =
 abbrev pub routed : ℕ → List ℕ → Reading → RouteBegun → Configuration → Configuration × Option Fault
 routed line text r begun c = if is_some (route_clash begun c) then (c, route_clash begun c) else extended line text r c
 
+-- the link of the last network that is with its other places
+abbrev pub is_with_places : ℕ → LinkSetting → Bool
+is_with_places network link = (link.network == network) && is_with_peers link.carrier
+
+abbrev pub peers_link : Configuration → Option LinkSetting
+peers_link c = position (is_with_places (c.networks.count - 1)) (links_in c.links) >>= λ k. slice_get (links_in c.links) k
+
+abbrev pub peer_clash_by : Option LinkSetting → Option Place → Option Fault
+peer_clash_by None begun = Some fault.BelowPeers
+peer_clash_by (Some link) begun = begun >>= λ place. unlike link.carrier.local place
+
+-- there is none, or it can't reach the place
+abbrev pub peer_clash : Option Place → Configuration → Option Fault
+peer_clash begun c = peer_clash_by (peers_link c) begun
+
+-- behind the line of another place of the last network
+abbrev pub peered : ℕ → List ℕ → Reading → Option Place → Configuration → Configuration × Option Fault
+peered line text r begun c = if is_some (peer_clash begun c) then (c, peer_clash begun c) else extended line text r c
+
 abbrev pub link_extended_by : Configuration → ℕ → List ℕ → Reading → Option LinkSetting → Configuration × Option Fault
 link_extended_by c line text r None = (c, None)
 link_extended_by c line text r (Some link) = (
@@ -265,6 +296,10 @@ link_extended_by c line text r (Some link) = (
 -- behind a line that the last link takes
 abbrev pub link_extended : ℕ → List ℕ → Reading → Configuration → Configuration × Option Fault
 link_extended line text r c = link_extended_by c line text r (last_link c.links)
+
+-- behind a line of origins below a link
+abbrev pub origins_below : ℕ → List ℕ → Reading → Configuration → Configuration × Option Fault
+origins_below line text r c = if is_web (last_link c.links) then link_extended line text r c else (c, Some fault.BelowWeb)
 
 abbrev pub tunnel_fault_by : Option NetworkSetting → Fault
 tunnel_fault_by None = fault.BelowTunnel
@@ -280,6 +315,8 @@ below_network_by n text r (line.Rule permits begun) c = extended n text r c
 below_network_by n text r (line.Route begun) c = routed n text r begun c
 below_network_by n text r (line.Service begun) c = extended n text r c
 below_network_by n text r (line.Rate begun) c = (c, Some fault.BelowLink)
+below_network_by n text r (line.Origins has_some) c = (c, Some fault.BelowWeb)
+below_network_by n text r (line.Peer begun) c = (c, Some fault.BelowPeers)
 below_network_by n text r other c = (c, Some fault.BelowTunnelLink)
 
 abbrev pub below_network : ℕ → List ℕ → Reading → Configuration → Configuration × Option Fault
@@ -292,6 +329,8 @@ below_link_by n text r (line.Rule permits begun) c = extended n text r c
 below_link_by n text r (line.Route begun) c = routed n text r begun c
 below_link_by n text r (line.Service begun) c = extended n text r c
 below_link_by n text r (line.Rate begun) c = link_extended n text r c
+below_link_by n text r (line.Origins has_some) c = origins_below n text r c
+below_link_by n text r (line.Peer begun) c = peered n text r begun c
 below_link_by n text r other c = if is_below_tunnel c then link_extended n text r c else (c, Some (tunnel_fault c))
 
 abbrev pub below_link : ℕ → List ℕ → Reading → Configuration → Configuration × Option Fault
@@ -318,7 +357,7 @@ abbrev pub taken : Capacity → ℕ → List ℕ → Reading → Configuration �
 taken capacity n text r c = taken_by capacity n text r r.line c
 
 abbrev pub context_of : Capacity → Configuration → Context
-context_of capacity c = record { has_cards = capacity.has_cards; is_below_tunnel = is_below_tunnel c; most_clients = capacity.clients }
+context_of capacity c = record { cards = capacity.cards; is_below_tunnel = is_below_tunnel c; most_clients = capacity.clients }
 
 -- the next line as its words say it
 abbrev pub read_in : Capacity → List ℕ → Configuration → Reading

@@ -2,7 +2,7 @@
 use Rattle.std.specs.Prelude.{ℕ, ◌*◌, Bool, ◌==◌, ◌&&◌, if◌then◌else◌, nat_lt, List, Option, Some, slice_get}
 use Rattle.std.specs.List.{list_any}
 use Rattle.ipx_settings.specs.Cutting.{◌>>=◌}
-use Rattle.ipx_configuration.specs.Carriers.{tunnel}
+use Rattle.ipx_configuration.specs.Carriers.{has_clients}
 use Rattle.ipx_configuration.specs.Lines.{clients_at, rate_whole, usual_share, usual_household, rate_of}
 use Rattle.ipx_configuration.specs.Memory.{networks_in, links_in}
 use Rattle.ipx_configuration.specs.declared.configuration.Capacity.{Capacity}
@@ -39,14 +39,14 @@ strangers_or_usual said = if nat_lt 0 said.line then said.number else usual_stra
 
 -- ---- shares of the tables
 
--- the link is one of that network's, and DOSBox'
+-- the link is one of that network's, and has clients
 abbrev pub is_tunnel_of : ℕ → LinkSetting → Bool
-is_tunnel_of port link = (link.network == port) && (link.carrier.number == tunnel)
+is_tunnel_of port link = (link.network == port) && has_clients link.carrier
 
 abbrev pub has_tunnel : ℕ → List LinkSetting → Bool
 has_tunnel port links = list_any (is_tunnel_of port) links
 
--- those that its line says; else those of DOSBox' where one of its links is
+-- those that its line says; else those of networks with clients where one of its links has some
 abbrev pub shares_of : Capacity → NetworkSetting → ℕ → List LinkSetting → ℕ × ℕ
 shares_of capacity network port links =
     if network.has_shares then (network.routes, network.services)
@@ -79,11 +79,13 @@ configured_at link network shares shared = record {
   sockets = network.sockets;
   allowed = link.allowed;
   trusted = link.trusted;
+  origins = link.origins;
   nodes_by_address = nat_lt 0 link.nodes_line;
   adopts = network.adopt_line == 0;
   rules = network.rules;
   static_routes = network.static_routes;
   static_services = network.static_services;
+  peers = network.peers;
 }
 
 abbrev pub configured_by : Capacity → LinkSetting → List LinkSetting → NetworkSetting → LinkConfigured

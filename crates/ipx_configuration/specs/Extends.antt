@@ -7,6 +7,7 @@ use Rattle.ipx_settings.specs.declared.line.Line.TheVariants as line
 use Rattle.ipx_settings.specs.declared.reading.Reading.{Reading}
 use Rattle.ipx_configuration.specs.Clashes.{first_of, when, line_fault}
 use Rattle.ipx_configuration.specs.Lines.{once, if_right, words_from}
+use Rattle.ipx_configuration.specs.Peers.{peer_taken}
 use Rattle.ipx_configuration.specs.Rules.{rule_taken}
 use Rattle.ipx_configuration.specs.Said.{has_socket, with_socket, most_sockets}
 use Rattle.ipx_configuration.specs.Statics.{route_taken, service_taken}
@@ -54,6 +55,7 @@ with_sockets n sockets = record {
   rules = n.rules;
   static_routes = n.static_routes;
   static_services = n.static_services;
+  peers = n.peers;
 }
 
 abbrev pub taken_by : NetworkSetting → Sockets × Option Fault → Option Expected → NetworkSetting × Option Fault
@@ -83,6 +85,7 @@ with_adopt n line = record {
   rules = n.rules;
   static_routes = n.static_routes;
   static_services = n.static_services;
+  peers = n.peers;
 }
 
 abbrev pub adopt_taken : ℕ → NetworkSetting → Option Expected → NetworkSetting × Option Fault
@@ -96,6 +99,7 @@ network_by number text (line.Adopt is_off) read own n = adopt_taken number n own
 network_by number text (line.Rule permits begun) read own n = rule_taken n permits begun own
 network_by number text (line.Route begun) read own n = route_taken number n begun own
 network_by number text (line.Service begun) read own n = service_taken number n begun own
+network_by number text (line.Peer begun) read own n = peer_taken number n begun own
 network_by number text other read own n = (n, None)
 
 -- what a network is behind a line that says more of it, and what is wrong with that line

@@ -7,6 +7,7 @@ pub mod Clashes
 pub mod Lines
 pub mod Rules
 pub mod Statics
+pub mod Peers
 pub mod Extends
 -- all networks and links
 pub mod Memory

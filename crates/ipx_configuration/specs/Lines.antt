@@ -1,10 +1,11 @@
 -- What a line below a link says of it.
 use Rattle.std.specs.Prelude.{ℕ, ◌+◌, ◌*◌, Bool, not, ◌==◌, ◌&&◌, if◌then◌else◌, nat_lt, List, [], ◌∷◌, take, drop, Option, Some, None, slice_get}
 use Rattle.std.specs.List.{position}
-use Rattle.std.specs.Option.{is_none, unwrap_or, option_map}
+use Rattle.std.specs.Option.{unwrap_or, option_map}
 use Rattle.ipx_settings.specs.Addresses.{range_of}
 use Rattle.ipx_settings.specs.Cutting.{◌>>=◌}
 use Rattle.ipx_settings.specs.Lines.{most_rate}
+use Rattle.ipx_settings.specs.Names.{origin_of}
 use Rattle.ipx_settings.specs.Words.{words, before_mark}
 use Rattle.ipx_settings.specs.declared.addresses.HostRange.{HostRange}
 use Rattle.ipx_settings.specs.declared.expected.Expected.{Expected}
@@ -17,13 +18,14 @@ use Rattle.ipx_settings.specs.declared.line.RateBegun.TheVariants as rate
 use Rattle.ipx_settings.specs.declared.reading.Reading.{Reading}
 use Rattle.ipx_configuration.specs.Carriers.{tunnel, same_carrier}
 use Rattle.ipx_configuration.specs.Clashes.{first_of, when, line_fault}
-use Rattle.ipx_configuration.specs.Said.{most_ranges, with_range, link_at}
+use Rattle.ipx_configuration.specs.Said.{most_ranges, with_range, with_origin, link_at}
 use Rattle.ipx_configuration.specs.declared.carrier.Carrier.{Carrier}
 use Rattle.ipx_configuration.specs.declared.fault.Fault.{Fault}
 use Rattle.ipx_configuration.specs.declared.fault.Fault.TheVariants as fault
 use Rattle.ipx_configuration.specs.declared.said.ClientsSaid.{ClientsSaid}
 use Rattle.ipx_configuration.specs.declared.said.LinkSetting.{LinkSetting}
 use Rattle.ipx_configuration.specs.declared.said.NumberSaid.{NumberSaid}
+use Rattle.ipx_configuration.specs.declared.said.Origins.{Origins}
 use Rattle.ipx_configuration.specs.declared.said.Ranges.{Ranges}
 use Rattle.ipx_configuration.specs.declared.said.RateSaid.{RateSaid}
 
@@ -101,25 +103,28 @@ if_right None was next = (next, None)
 if_right (Some f) was next = (was, Some f)
 
 abbrev pub with_clients : LinkSetting → ClientsSaid → LinkSetting
-with_clients l said = link_at l.line l.network l.carrier said l.rate l.strangers l.kilobits l.allowed l.trusted l.nodes_line
+with_clients l said = link_at l.line l.network l.carrier said l.rate l.strangers l.kilobits l.allowed l.trusted l.nodes_line l.origins
 
 abbrev pub with_rate : LinkSetting → RateSaid → LinkSetting
-with_rate l said = link_at l.line l.network l.carrier l.clients said l.strangers l.kilobits l.allowed l.trusted l.nodes_line
+with_rate l said = link_at l.line l.network l.carrier l.clients said l.strangers l.kilobits l.allowed l.trusted l.nodes_line l.origins
 
 abbrev pub with_strangers : LinkSetting → NumberSaid → LinkSetting
-with_strangers l said = link_at l.line l.network l.carrier l.clients l.rate said l.kilobits l.allowed l.trusted l.nodes_line
+with_strangers l said = link_at l.line l.network l.carrier l.clients l.rate said l.kilobits l.allowed l.trusted l.nodes_line l.origins
 
 abbrev pub with_kilobits : LinkSetting → NumberSaid → LinkSetting
-with_kilobits l said = link_at l.line l.network l.carrier l.clients l.rate l.strangers said l.allowed l.trusted l.nodes_line
+with_kilobits l said = link_at l.line l.network l.carrier l.clients l.rate l.strangers said l.allowed l.trusted l.nodes_line l.origins
 
 abbrev pub with_allowed : LinkSetting → Ranges → LinkSetting
-with_allowed l said = link_at l.line l.network l.carrier l.clients l.rate l.strangers l.kilobits said l.trusted l.nodes_line
+with_allowed l said = link_at l.line l.network l.carrier l.clients l.rate l.strangers l.kilobits said l.trusted l.nodes_line l.origins
 
 abbrev pub with_trusted : LinkSetting → Ranges → LinkSetting
-with_trusted l said = link_at l.line l.network l.carrier l.clients l.rate l.strangers l.kilobits l.allowed said l.nodes_line
+with_trusted l said = link_at l.line l.network l.carrier l.clients l.rate l.strangers l.kilobits l.allowed said l.nodes_line l.origins
 
 abbrev pub with_nodes : LinkSetting → ℕ → LinkSetting
-with_nodes l said = link_at l.line l.network l.carrier l.clients l.rate l.strangers l.kilobits l.allowed l.trusted said
+with_nodes l said = link_at l.line l.network l.carrier l.clients l.rate l.strangers l.kilobits l.allowed l.trusted said l.origins
+
+abbrev pub with_origins : LinkSetting → Origins → LinkSetting
+with_origins l said = link_at l.line l.network l.carrier l.clients l.rate l.strangers l.kilobits l.allowed l.trusted l.nodes_line said
 
 abbrev pub clients_taken : ℕ → LinkSetting → ClientsBegun → Option Expected → LinkSetting × Option Fault
 clients_taken line link begun own = if_right (once link.clients.line own) link (with_clients link (clients_said line begun))
@@ -170,6 +175,25 @@ abbrev pub trusted_taken : LinkSetting → List ℕ → ℕ → Option Expected 
 trusted_taken link text read own =
     (with_trusted link (ranges_taken link.trusted text read own).0, (ranges_taken link.trusted text read own).1)
 
+-- ---- origins
+
+-- an origin more, and then others; what stands before the end of the room counts
+abbrev pub origin_then : Origins → ℕ → Option (List ℕ) → (Origins → Origins × Option Fault) → Origins × Option Fault
+origin_then origins number None more = (origins, None)
+origin_then origins number (Some text) more =
+    if nat_lt origins.count most_ranges then more (with_origin origins text) else (origins, Some (fault.ManyRanges number))
+
+-- the origins of words, of which the first has that number
+abbrev pub origins_from : Origins → ℕ → List (List ℕ) → Origins × Option Fault
+origins_from origins number [] = (origins, None)
+origins_from origins number (word ∷ more) = origin_then origins number (origin_of word) (λ next. origins_from next (number + 1) more)
+
+abbrev pub origins_taken : LinkSetting → List ℕ → ℕ → Option Expected → LinkSetting × Option Fault
+origins_taken link text read own = (
+  with_origins link (origins_from link.origins 1 (words_from text 1 read)).0,
+  (or_own (origins_from link.origins 1 (words_from text 1 read)) own).1,
+)
+
 -- ---- lines
 
 abbrev pub link_by : ℕ → List ℕ → Line → ℕ → Option Expected → List LinkSetting → LinkSetting → LinkSetting × Option Fault
@@ -180,6 +204,7 @@ link_by n text (line.Kilobits begun) read own links link = kilobits_taken n link
 link_by n text (line.Allow has_some) read own links link = allowed_taken link text read own
 link_by n text (line.Trust has_some) read own links link = trusted_taken link text read own
 link_by n text (line.Nodes by_address) read own links link = nodes_taken n link own
+link_by n text (line.Origins has_some) read own links link = origins_taken link text read own
 link_by n text other read own links link = (link, None)
 
 -- what a link is behind a line that says more of it, and what is wrong with that line

@@ -1,5 +1,5 @@
 -- The networks and links of a configuration: the first so many places of memory.
-use Rattle.std.specs.Prelude.{ℕ, ◌+◌, ◌-◌, Bool, ◌==◌, ◌&&◌, if◌then◌else◌, nat_lt, nat_le, List, take, Option, None, slice_get, slice_set}
+use Rattle.std.specs.Prelude.{ℕ, ◌+◌, ◌-◌, ◌==◌, ◌&&◌, if◌then◌else◌, nat_lt, nat_le, List, take, Option, None, slice_get, slice_set}
 use Rattle.ipx_configuration.specs.declared.memory.LinkList.{LinkList}
 use Rattle.ipx_configuration.specs.declared.memory.NetworkList.{NetworkList}
 use Rattle.ipx_configuration.specs.declared.said.LinkSetting.{LinkSetting}

@@ -106,6 +106,7 @@ with_rules n rules = record {
   rules = rules;
   static_routes = n.static_routes;
   static_services = n.static_services;
+  peers = n.peers;
 }
 
 -- a network behind the line of a rule, and what is wrong with that

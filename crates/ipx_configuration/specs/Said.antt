@@ -1,17 +1,20 @@
 -- What lines say of networks and links.
 use Rattle.std.specs.Prelude.{ℕ, ◌+◌, Bool, ◌==◌, nat_lt, if◌then◌else◌, List, [], ◌∷◌, take, replicate, slice_set}
 use Rattle.std.specs.List.{list_any}
+use Rattle.ipx_settings.specs.Names.{origin_room}
 use Rattle.ipx_settings.specs.declared.addresses.HostRange.{HostRange}
 use Rattle.ipx_configuration.specs.declared.carrier.Carrier.{Carrier}
 use Rattle.ipx_configuration.specs.declared.said.ClientsSaid.{ClientsSaid}
 use Rattle.ipx_configuration.specs.declared.said.InternalSaid.{InternalSaid}
 use Rattle.ipx_configuration.specs.declared.said.LinkSetting.{LinkSetting}
 use Rattle.ipx_configuration.specs.declared.said.NumberSaid.{NumberSaid}
+use Rattle.ipx_configuration.specs.declared.said.OriginSaid.{OriginSaid}
+use Rattle.ipx_configuration.specs.declared.said.Origins.{Origins}
 use Rattle.ipx_configuration.specs.declared.said.Ranges.{Ranges}
 use Rattle.ipx_configuration.specs.declared.said.RateSaid.{RateSaid}
 use Rattle.ipx_configuration.specs.declared.said.Sockets.{Sockets}
 
--- the most sockets that a network extends, and ranges of a list
+-- the most sockets that a network extends, and ranges or origins of a list
 abbrev pub most_sockets : ℕ
 most_sockets = 16
 
@@ -36,6 +39,20 @@ no_range = record { first = replicate 4 0; bits = 0 }
 abbrev pub no_ranges : Ranges
 no_ranges = record { list = replicate 16 no_range; count = 0 }
 
+-- the room for an origin
+abbrev pub no_origin : OriginSaid
+no_origin = record { text = replicate origin_room 0 }
+
+abbrev pub no_origins : Origins
+no_origins = record { list = replicate 16 no_origin; count = 0 }
+
+abbrev pub origin_said : List ℕ → OriginSaid
+origin_said text = record { text = text }
+
+abbrev pub with_origin : Origins → List ℕ → Origins
+with_origin o text =
+    if nat_lt o.count most_ranges then record { list = slice_set o.list o.count (origin_said text); count = o.count + 1 } else o
+
 abbrev pub with_range : Ranges → HostRange → Ranges
 with_range r range =
     if nat_lt r.count most_ranges then record { list = slice_set r.list r.count range; count = r.count + 1 } else r
@@ -58,8 +75,8 @@ no_internal = record { line = 0; number = 0; node = replicate 6 0 }
 abbrev pub usual_node : List ℕ
 usual_node = 0 ∷ 0 ∷ 0 ∷ 0 ∷ 0 ∷ 1 ∷ []
 
-abbrev pub link_at : ℕ → ℕ → Carrier → ClientsSaid → RateSaid → NumberSaid → NumberSaid → Ranges → Ranges → ℕ → LinkSetting
-link_at line network carrier clients rate strangers kilobits allowed trusted nodes_line = record {
+abbrev pub link_at : ℕ → ℕ → Carrier → ClientsSaid → RateSaid → NumberSaid → NumberSaid → Ranges → Ranges → ℕ → Origins → LinkSetting
+link_at line network carrier clients rate strangers kilobits allowed trusted nodes_line origins = record {
   line = line;
   network = network;
   carrier = carrier;
@@ -70,8 +87,9 @@ link_at line network carrier clients rate strangers kilobits allowed trusted nod
   allowed = allowed;
   trusted = trusted;
   nodes_line = nodes_line;
+  origins = origins;
 }
 
 -- a link of which its own line alone says something
 abbrev pub new_link : ℕ → ℕ → Carrier → LinkSetting
-new_link line network carrier = link_at line network carrier no_clients no_rate no_number no_number no_ranges no_ranges 0
+new_link line network carrier = link_at line network carrier no_clients no_rate no_number no_number no_ranges no_ranges 0 no_origins

@@ -154,6 +154,7 @@ with_statics n static_routes static_services = record {
   rules = n.rules;
   static_routes = static_routes;
   static_services = static_services;
+  peers = n.peers;
 }
 
 -- a network behind the line of a route, and what is wrong with that

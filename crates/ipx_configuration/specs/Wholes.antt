@@ -25,7 +25,7 @@ pub record IsBlank (c : Configuration) : Type 0 where
 
 -- no link clashes with one above it
 abbrev pub AreApart : List LinkSetting → Type 0
-AreApart links = (i j : ℕ) (a b : LinkSetting) → i < j → slice_get links i ≡ Some a → slice_get links j ≡ Some b → clash b.carrier a ≡ None
+AreApart links = (i j : ℕ) (a b : LinkSetting) → i < j → slice_get links i ≡ Some a → slice_get links j ≡ Some b → clash b.network b.carrier a ≡ None
 
 -- links stand in the order of their networks: those of one network behind each other
 abbrev pub AreOrdered : List LinkSetting → Type 0
@@ -61,6 +61,11 @@ is_of_route other = false
 abbrev pub is_of_service : Line → Bool
 is_of_service (line.Service begun) = true
 is_of_service other = false
+
+-- a line that begins with peer
+abbrev pub is_of_peer : Line → Bool
+is_of_peer (line.Peer begun) = true
+is_of_peer other = false
 
 -- a line that begins with nodes
 abbrev pub is_of_nodes : Line → Bool

@@ -1,10 +1,11 @@
 //! What carries a link.
 ghost use Rattle.std.specs.Prelude.{◌≡◌};
 ghost use Rattle.std.specs.Str.{bytes_eq};
-ghost use Rattle.ipx_configuration.specs.Carriers.{no_carrier, place_at, place_name, frames_number, end_carrier, carrier_of, is_fixed, same_carrier, takes_datagrams, take_the_same, longest_on, may_hear_itself};
+ghost use Rattle.ipx_settings.specs.Addresses.{four_at};
+ghost use Rattle.ipx_configuration.specs.Carriers.{no_carrier, place_at, place_name, frames_number, end_carrier, carrier_of, is_with_peers, opens_its_own, is_fixed, same_carrier, takes_datagrams, has_clients, address_taken, are_of_groups, takes_connections, share_an_address, are_of_one_sort, share_a_path, take_the_same, longest_of, may_hear_itself};
 
 use crate::endpoint::Endpoint;
-use ipx_settings::{End, Frames, Link, Place};
+use ipx_settings::{Address, End, Frames, Host, Link, Place};
 
 /// What carries a link, by its number. 0 is none.
 pub const TUNNEL: u8 = 1;
@@ -18,6 +19,16 @@ pub const CONNECT: u8 = 4;
 pub const TAP: u8 = 5;
 
 pub const INTERFACE: u8 = 6;
+
+pub const GROUP: u8 = 7;
+
+pub const SWITCH: u8 = 8;
+
+pub const WEB: u8 = 9;
+
+pub const PEERS: u8 = 10;
+
+pub const RFC1234: u8 = 11;
 
 /// The kinds of frames, by their numbers. 0 is none: that of a tunnel.
 pub const ETHERNET2: u8 = 1;
@@ -44,7 +55,7 @@ pub struct Carrier {
     pub local: Endpoint,
     /// Where they go,
     pub remote: Endpoint,
-    /// or the name of the host there, with zeros behind it.
+    /// or the name of the host there, with zeros behind it; of a switch its path, and of peers that of the file with their key.
     pub host: [u8; 254],
     /// The name of a TAP or an interface, alike.
     pub name: [u8; 16],
@@ -62,7 +73,7 @@ fn frames_number(frames: Frames) -> u8
     }
 }
 
-fn place_at(place: Place) -> Endpoint
+pub(crate) fn place_at(place: Place) -> Endpoint
     ensures { result ≡ place_at place }
 {
     match place {
@@ -76,12 +87,22 @@ fn place_at(place: Place) -> Endpoint
     }
 }
 
-fn place_name(place: Place) -> [u8; 254]
+pub(crate) fn place_name(place: Place) -> [u8; 254]
     ensures { result ≡ place_name place }
 {
     match place {
         Place::At(_) => [0; 254],
         Place::Named(name, _) => name,
+    }
+}
+
+/// The address of a card, where the system takes a port.
+fn card_address(card: [u8; 4]) -> Address
+    ensures { result ≡ four_at card 0 }
+{
+    Address {
+        host: Host::Four(card),
+        port: 0,
     }
 }
 
@@ -134,6 +155,24 @@ impl Carrier {
                 it.number = INTERFACE;
                 it.name = name;
             }
+            End::Group(group, card) => {
+                it.number = GROUP;
+                it.local = Endpoint::of(card_address(card));
+                it.remote = Endpoint::of(group);
+            }
+            End::Switch(path) => {
+                it.number = SWITCH;
+                it.host = path;
+            }
+            End::Web(local) => {
+                it.number = WEB;
+                it.local = Endpoint::of(local);
+            }
+            End::Peers(local, file) => {
+                it.number = PEERS;
+                it.local = Endpoint::of(local);
+                it.host = file;
+            }
         }
         it
     }
@@ -149,7 +188,40 @@ impl Carrier {
                 it
             }
             Link::Framed(end, frames) => Carrier::of_end(end, frames_number(frames)),
+            Link::Web(local) => {
+                let mut it = Carrier::none();
+                it.number = WEB;
+                it.local = Endpoint::of(local);
+                it
+            }
+            Link::Rfc1234(local) => {
+                let mut it = Carrier::none();
+                it.number = RFC1234;
+                it.local = Endpoint::of(local);
+                it
+            }
         }
+    }
+
+    /// Whether its datagrams are those of clients, of DOSBox or by WebSocket, whose nodes are theirs alone.
+    pub fn has_clients(&self) -> bool
+        ensures { result ≡ has_clients self.now }
+    {
+        self.number == TUNNEL || (self.number == WEB && self.frames == 0)
+    }
+
+    /// Whether it is with the other places that lines of its network say.
+    pub fn is_with_peers(&self) -> bool
+        ensures { result ≡ is_with_peers self.now }
+    {
+        self.number == PEERS || self.number == RFC1234
+    }
+
+    /// Whether each link opens one of its own, at whatever address.
+    fn opens_its_own(&self) -> bool
+        ensures { result ≡ opens_its_own self.now }
+    {
+        self.number == WEB || self.is_with_peers()
     }
 
     /// Whether each link on it has the same one: with port 0, each has a port of its own.
@@ -159,7 +231,9 @@ impl Carrier {
         self.number == CONNECT
             || self.number == TAP
             || self.number == INTERFACE
-            || self.local.port != 0
+            || self.number == GROUP
+            || self.number == SWITCH
+            || (!self.opens_its_own() && self.local.port != 0)
     }
 
     /// Whether two links are on one carrier, which is opened once for both.
@@ -177,22 +251,75 @@ impl Carrier {
     fn takes_datagrams(&self) -> bool
         ensures { result ≡ takes_datagrams self.now }
     {
-        self.number == TUNNEL || self.number == UDP
+        self.number == TUNNEL || self.number == UDP || self.number == GROUP || self.is_with_peers()
+    }
+
+    /// The address that it takes: that of a group itself, whichever card its frames come by.
+    fn address_taken(&self) -> &Endpoint
+        ensures { result.now ≡ address_taken self.now }
+    {
+        if self.number == GROUP {
+            &self.remote
+        } else {
+            &self.local
+        }
+    }
+
+    /// Whether both are groups, of which one may be taken by several cards.
+    fn are_of_groups(&self, other: &Carrier) -> bool
+        ensures { result ≡ are_of_groups self.now other.now }
+    {
+        self.number == GROUP && other.number == GROUP
+    }
+
+    fn takes_connections(&self) -> bool
+        ensures { result ≡ takes_connections self.now }
+    {
+        self.number == LISTEN || self.number == WEB
+    }
+
+    /// Whether clients by WebSocket come in at one address for both,
+    fn share_an_address(&self, other: &Carrier) -> bool
+        ensures { result ≡ share_an_address self.now other.now }
+    {
+        self.number == WEB && other.number == WEB && self.local.is_same(&other.local)
+    }
+
+    fn are_of_one_sort(&self, other: &Carrier) -> bool
+        ensures { result ≡ are_of_one_sort self.now other.now }
+    {
+        if self.frames == 0 {
+            other.frames == 0
+        } else {
+            other.frames != 0
+        }
+    }
+
+    /// and by one path, if the networks are the same.
+    pub(crate) fn share_a_path(&self, other: &Carrier) -> bool
+        ensures { result ≡ share_a_path self.now other.now }
+    {
+        self.share_an_address(other) && self.local.port != 0 && self.are_of_one_sort(other)
     }
 
     /// Whether both would take one address of this machine.
     pub(crate) fn takes_the_same(&self, other: &Carrier) -> bool
         ensures { result ≡ take_the_same self.now other.now }
     {
-        ((self.takes_datagrams() && other.takes_datagrams())
-            || (self.number == LISTEN && other.number == LISTEN))
-            && self.local.overlaps(&other.local)
+        ((self.takes_datagrams() && other.takes_datagrams() && !self.are_of_groups(other))
+            || (self.takes_connections()
+                && other.takes_connections()
+                && !self.share_an_address(other)))
+            && self.address_taken().overlaps(other.address_taken())
     }
 
     /// Bytes of the longest packet that it carries.
     pub(crate) fn longest(&self) -> u16
-        ensures { result ≡ longest_on self.now.frames }
+        ensures { result ≡ longest_of self.now }
     {
+        if self.number == RFC1234 {
+            return 1472;
+        }
         match self.frames {
             0 => 1424,
             LLC => 1497,

@@ -2,21 +2,23 @@
 ghost use Rattle.std.specs.Prelude.{◌≡◌};
 ghost use Rattle.ipx_configuration.specs.Internals.{is_full, told_internal};
 ghost use Rattle.ipx_configuration.specs.Wholes.{IsBlank};
-ghost use Rattle.ipx_configuration.specs.Configurations.{unlinked, is_below_tunnel, head_or_none, names_link, network_of, more_links, network_fault, add_network, after_network, internal_fault, after_internal, network_above, link_line_fault, add_link, link_line, extended, route_clash, routed, link_extended, tunnel_fault, below_network, below_link, taken_below, taken, told, after};
+ghost use Rattle.ipx_configuration.specs.Configurations.{unlinked, is_below_tunnel, head_or_none, names_link, network_of, network_fault, add_network, after_network, internal_fault, after_internal, network_above, link_line_fault, add_link, link_line, extended, route_clash, routed, link_extended, tunnel_fault, below_network, below_link, taken_below, taken, told, after};
 
-use crate::carrier::{Carrier, TUNNEL};
-use crate::clash::{carrier_in, line_fault, link_fault};
+use crate::carrier::Carrier;
+use crate::clash::{carrier_in, is_only, line_fault, more_links};
 use crate::fault::Fault;
 use crate::internal::{internal_clash, internal_said};
 use crate::lines::link_taken;
-use crate::memory::{LinkList, MOST_LINKS, MOST_NETWORKS, NetworkList};
+use crate::memory::{LinkList, MOST_NETWORKS, NetworkList};
 use crate::numbers::{number_fault, routed_fault};
+use crate::peers::Peers;
 use crate::rules::Rules;
 use crate::said::{InternalSaid, NetworkSetting, Sockets, new_link};
 use crate::sockets::network_taken;
 use crate::statics::{StaticRoutes, StaticServices};
 use ipx_settings::{
-    Context, Expected, Head, InternalBegun, Line, LinkBegun, NetworkBegun, Reading, RouteBegun,
+    Cards, Context, Expected, Head, InternalBegun, Line, LinkBegun, NetworkBegun, Reading,
+    RouteBegun,
 };
 
 /// What a line stands below: nothing, or the router's own network,
@@ -39,8 +41,8 @@ const WRONG_NETWORK: u8 = 4;
 /// See the example of [`Configuration`].
 #[derive(Clone, Copy, Debug, PartialEq, Eq)]
 pub struct Capacity {
-    /// This system has TAPs and interfaces.
-    pub has_cards: bool,
+    /// Which cards this system has.
+    pub cards: Cards,
     /// The most networks, of which a configuration has room for 32.
     pub networks: usize,
     /// The most links of a network, of which it has room for 64 together.
@@ -69,7 +71,7 @@ pub struct Told {
 ///
 /// ```
 /// let capacity = Capacity {
-///     has_cards: true,
+///     cards: Cards::All,
 ///     networks: 32,
 ///     links: 32,
 ///     clients: 4096,
@@ -120,21 +122,6 @@ fn names_link(begun: NetworkBegun, own: Option<Expected>) -> bool
     }
 }
 
-/// What is wrong with one more link.
-fn more_links(
-    begun: LinkBegun,
-    longest: u16,
-    links: &LinkList,
-    own: Option<Expected>,
-) -> Option<Fault>
-    ensures { result ≡ more_links begun longest links.now own }
-{
-    if links.count >= MOST_LINKS {
-        return Some(Fault::ManyLinks);
-    }
-    link_fault(begun, longest, links.listed(), own)
-}
-
 /// A network, as its line says it.
 fn network_of(line: usize, first: usize, begun: NetworkBegun, is_of_several: bool) -> NetworkSetting
     ensures { result ≡ network_of line first begun is_of_several }
@@ -162,6 +149,7 @@ fn network_of(line: usize, first: usize, begun: NetworkBegun, is_of_several: boo
         rules: Rules::none(),
         static_routes: StaticRoutes::none(),
         static_services: StaticServices::none(),
+        peers: Peers::none(),
     }
 }
 
@@ -191,7 +179,7 @@ impl Configuration {
         ensures { result ≡ is_below_tunnel self.now }
     {
         match self.links.last() {
-            Some(link) => self.above == LINK && link.carrier.number == TUNNEL,
+            Some(link) => self.above == LINK && link.carrier.has_clients(),
             None => false,
         }
     }
@@ -253,7 +241,13 @@ impl Configuration {
             return routed;
         }
         if names_link(begun, own) {
-            more_links(begun.link(), head_or_none(begun).longest, &self.links, own)
+            more_links(
+                self.networks.count,
+                begun.link(),
+                head_or_none(begun).longest,
+                &self.links,
+                own,
+            )
         } else {
             line_fault(own)
         }
@@ -362,10 +356,14 @@ impl Configuration {
                 if !network.is_of_several {
                     return Some(Fault::LinkBelow);
                 }
+                if is_only(begun) {
+                    return Some(Fault::OnOwnLine);
+                }
                 if self.links.count.saturating_sub(network.first) >= capacity.links {
                     return Some(Fault::ManyLinksOfNetwork);
                 }
-                more_links(begun, network.longest, &self.links, own)
+                let number = self.networks.count.saturating_sub(1);
+                more_links(number, begun, network.longest, &self.links, own)
             }
             None => Some(Fault::LinkBelow),
         }
@@ -416,7 +414,12 @@ impl Configuration {
     }
 
     /// Takes what a line says of the last network.
-    fn take_of_network(&mut self, line: usize, text: &[u8], reading: Reading) -> Option<Fault>
+    pub(crate) fn take_of_network(
+        &mut self,
+        line: usize,
+        text: &[u8],
+        reading: Reading,
+    ) -> Option<Fault>
         ensures fault { result ≡ (extended line text.now reading self.old).1 }
         ensures after { self.new ≡ (extended line text.now reading self.old).0 }
     {
@@ -460,7 +463,12 @@ impl Configuration {
     }
 
     /// Takes what a line says of the last link.
-    fn take_of_link(&mut self, line: usize, text: &[u8], reading: Reading) -> Option<Fault>
+    pub(crate) fn take_of_link(
+        &mut self,
+        line: usize,
+        text: &[u8],
+        reading: Reading,
+    ) -> Option<Fault>
         ensures fault { result ≡ (link_extended line text.now reading self.old).1 }
         ensures after { self.new ≡ (link_extended line text.now reading self.old).0 }
     {
@@ -495,6 +503,8 @@ impl Configuration {
             Line::Route(begun) => self.take_route(line, text, reading, begun),
             Line::Service(_) => self.take_of_network(line, text, reading),
             Line::Rate(_) => Some(Fault::BelowLink),
+            Line::Origins(_) => Some(Fault::BelowWeb),
+            Line::Peer(_) => Some(Fault::BelowPeers),
             _ => Some(Fault::BelowTunnelLink),
         }
     }
@@ -510,6 +520,8 @@ impl Configuration {
             Line::Route(begun) => self.take_route(line, text, reading, begun),
             Line::Service(_) => self.take_of_network(line, text, reading),
             Line::Rate(_) => self.take_of_link(line, text, reading),
+            Line::Origins(_) => self.take_origins(line, text, reading),
+            Line::Peer(begun) => self.take_peer(line, text, reading, begun),
             _ => {
                 if self.is_below_tunnel() {
                     self.take_of_link(line, text, reading)
@@ -559,7 +571,7 @@ impl Configuration {
         ensures after { self.new ≡ after capacity line text.now self.old }
     {
         let context = Context {
-            has_cards: capacity.has_cards,
+            cards: capacity.cards,
             is_below_tunnel: self.is_below_tunnel(),
             most_clients: capacity.clients,
         };

@@ -3,12 +3,13 @@ ghost use Rattle.std.specs.Prelude.{◌≡◌};
 ghost use Rattle.std.specs.List.{list_any};
 ghost use Rattle.ipx_configuration.specs.Configured.{is_tunnel_of, has_tunnel, shares_of, clients_or_usual, rate_or_usual, strangers_or_usual, configured_at, configured};
 
-use crate::carrier::{Carrier, TUNNEL};
+use crate::carrier::Carrier;
 use crate::configuration::{Capacity, Configuration};
 use crate::lines::{USUAL_HOUSEHOLD, USUAL_SHARE, rate_of};
+use crate::peers::Peers;
 use crate::rules::Rules;
 use crate::said::{
-    ClientsSaid, LinkSetting, NetworkSetting, NumberSaid, Ranges, RateSaid, Sockets,
+    ClientsSaid, LinkSetting, NetworkSetting, NumberSaid, Origins, Ranges, RateSaid, Sockets,
 };
 use crate::statics::{StaticRoutes, StaticServices};
 
@@ -67,6 +68,7 @@ pub struct LinkConfigured {
     pub sockets: Sockets,
     pub allowed: Ranges,
     pub trusted: Ranges,
+    pub origins: Origins,
     /// The nodes of clients may be their addresses.
     pub nodes_by_address: bool,
     /// What comes from the cable gets the network's number where it says none, and what routers carried there is held.
@@ -76,12 +78,14 @@ pub struct LinkConfigured {
     pub static_routes: StaticRoutes,
     /// and services.
     pub static_services: StaticServices,
+    /// Other places of the network.
+    pub peers: Peers,
 }
 
 fn is_tunnel_of(port: usize, link: LinkSetting) -> bool
     ensures { result ≡ is_tunnel_of port link }
 {
-    link.network == port && link.carrier.number == TUNNEL
+    link.network == port && link.carrier.has_clients()
 }
 
 fn has_tunnel(port: usize, links: &[LinkSetting]) -> bool
@@ -179,11 +183,13 @@ fn configured_at(
         sockets: network.sockets,
         allowed: link.allowed,
         trusted: link.trusted,
+        origins: link.origins,
         nodes_by_address: link.nodes_line > 0,
         adopts: network.adopt_line == 0,
         rules: network.rules,
         static_routes: network.static_routes,
         static_services: network.static_services,
+        peers: network.peers,
     }
 }
 

@@ -53,4 +53,20 @@ pub enum Fault {
     ManyServices,
     /// A line says a service of the type with the name.
     OtherService(usize),
+    /// The link above isn't one of clients by WebSocket.
+    BelowWeb,
+    /// No link above is with the other places of the network.
+    BelowPeers,
+    /// A line says the other place already.
+    OtherPeer(usize),
+    /// A network has no room for one more.
+    ManyPeers,
+    /// The other place is of IPv6, and the link's own address of IPv4,
+    PeerOfFour,
+    /// or the other way round.
+    PeerOfSix,
+    /// The network has a link of peers already.
+    OnePeers(usize),
+    /// The link is its network's only one, and stands on a line of its own.
+    OnOwnLine,
 }

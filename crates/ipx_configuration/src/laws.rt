@@ -5,10 +5,11 @@ ghost use Rattle.std.specs.Option.{is_some};
 ghost use Rattle.ipx_settings.specs.Internals.{internal_number};
 ghost use Rattle.ipx_settings.specs.Networks.{number_in};
 ghost use Rattle.ipx_settings.specs.Statics.{route_to, service_named};
+ghost use Rattle.ipx_settings.specs.declared.addresses.Place.{Place};
 ghost use Rattle.ipx_settings.specs.declared.expected.Expected.{Expected};
 ghost use Rattle.ipx_settings.specs.declared.internal.InternalBegun.{InternalBegun};
 ghost use Rattle.ipx_settings.specs.declared.network.NetworkBegun.{NetworkBegun};
-ghost use Rattle.ipx_settings.specs.declared.line.Line.TheVariants.{Rule, Route, Service};
+ghost use Rattle.ipx_settings.specs.declared.line.Line.TheVariants.{Rule, Route, Service, Peer};
 ghost use Rattle.ipx_settings.specs.declared.reading.Reading.{Reading};
 ghost use Rattle.ipx_settings.specs.declared.rule.RuleBegun.TheVariants.{Whole};
 ghost use Rattle.ipx_settings.specs.declared.rule.What.{What};
@@ -19,7 +20,7 @@ ghost use Rattle.ipx_settings.specs.declared.statics.ServiceBegun.TheVariants.{W
 ghost use Rattle.ipx_settings.specs.declared.statics.StaticRoute.{StaticRoute};
 ghost use Rattle.ipx_settings.specs.declared.statics.StaticService.{StaticService};
 ghost use Rattle.ipx_configuration.specs.Carriers.{tunnel, any_frames, same_carrier, take_the_same};
-ghost use Rattle.ipx_configuration.specs.Clashes.{clash};
+ghost use Rattle.ipx_configuration.specs.Clashes.{is_on_path, are_of_peers, clash};
 ghost use Rattle.ipx_configuration.specs.Configurations.{read_in, told, after, network_fault, internal_fault, route_clash};
 ghost use Rattle.ipx_configuration.specs.Configured.{configured, rate_or_usual};
 ghost use Rattle.ipx_configuration.specs.Extends.{with_adopt, network_taken};
@@ -27,11 +28,12 @@ ghost use Rattle.ipx_configuration.specs.Rules.{most_rules, rules_in, rule_said}
 ghost use Rattle.ipx_configuration.specs.Lines.{rate_of, with_nodes, link_taken};
 ghost use Rattle.ipx_configuration.specs.Memory.{most_networks, networks_in, links_in};
 ghost use Rattle.ipx_configuration.specs.Numbers.{has_number, has_route};
+ghost use Rattle.ipx_configuration.specs.Peers.{most_peers, peers_in, peer_said, is_there};
 ghost use Rattle.ipx_configuration.specs.Statics.{most_routes, routes_in, route_said, leads_to, most_services, services_in, service_said, is_named};
-ghost use Rattle.ipx_configuration.specs.Wholes.{after_lines, IsBlank, AreApart, AreOrdered, is_of_network_or_link, is_of_internal, is_of_adopt, is_of_rule, is_of_route, is_of_service, is_of_nodes};
+ghost use Rattle.ipx_configuration.specs.Wholes.{after_lines, IsBlank, AreApart, AreOrdered, is_of_network_or_link, is_of_internal, is_of_adopt, is_of_rule, is_of_route, is_of_service, is_of_peer, is_of_nodes};
 ghost use Rattle.ipx_configuration.specs.declared.carrier.Carrier.{Carrier};
 ghost use Rattle.ipx_configuration.specs.declared.fault.Fault.{Fault};
-ghost use Rattle.ipx_configuration.specs.declared.fault.Fault.TheVariants.{Once, ManyRules, ManyRoutes, ManyServices};
+ghost use Rattle.ipx_configuration.specs.declared.fault.Fault.TheVariants.{Once, ManyRules, ManyRoutes, ManyServices, ManyPeers};
 ghost use Rattle.ipx_configuration.specs.declared.said.LinkSetting.{LinkSetting};
 ghost use Rattle.ipx_configuration.specs.declared.said.NetworkSetting.{NetworkSetting};
 ghost use Rattle.ipx_configuration.specs.declared.configuration.Capacity.{Capacity};
@@ -52,12 +54,14 @@ pub fn links_are_told()
 {}
 
 /// Of two links that don't clash, those on one carrier have two different kinds of frames; two tunnels, and two links on different carriers,
-/// don't take one address of this machine.
+/// don't take one address of this machine, clients by WebSocket don't come to both by one path, and both aren't one network's links of peers.
 pub fn what_apart_is()
-    ensures kinds { (carrier : Carrier) (other : LinkSetting) → clash carrier other ≡ None → (carrier.number == tunnel) ≡ false → same_carrier carrier other.carrier ≡ true
+    ensures kinds { (network : ℕ) (carrier : Carrier) (other : LinkSetting) → clash network carrier other ≡ None → (carrier.number == tunnel) ≡ false → same_carrier carrier other.carrier ≡ true
         → ((other.carrier.frames == any_frames) ≡ false) × ((carrier.frames == any_frames) ≡ false) × ((carrier.frames == other.carrier.frames) ≡ false) }
-    ensures tunnels { (carrier : Carrier) (other : LinkSetting) → clash carrier other ≡ None → (carrier.number == tunnel) ≡ true → take_the_same carrier other.carrier ≡ false }
-    ensures others { (carrier : Carrier) (other : LinkSetting) → clash carrier other ≡ None → same_carrier carrier other.carrier ≡ false → take_the_same carrier other.carrier ≡ false }
+    ensures tunnels { (network : ℕ) (carrier : Carrier) (other : LinkSetting) → clash network carrier other ≡ None → (carrier.number == tunnel) ≡ true → take_the_same carrier other.carrier ≡ false }
+    ensures others { (network : ℕ) (carrier : Carrier) (other : LinkSetting) → clash network carrier other ≡ None → same_carrier carrier other.carrier ≡ false → take_the_same carrier other.carrier ≡ false }
+    ensures paths { (network : ℕ) (carrier : Carrier) (other : LinkSetting) → clash network carrier other ≡ None → same_carrier carrier other.carrier ≡ false → is_on_path network carrier other ≡ false }
+    ensures peers { (network : ℕ) (carrier : Carrier) (other : LinkSetting) → clash network carrier other ≡ None → same_carrier carrier other.carrier ≡ false → are_of_peers network carrier other ≡ false }
 {}
 
 /// A network or a link whose line is wrong leaves all networks and links as they were.
@@ -133,6 +137,21 @@ pub fn services_stand_in_order()
         → network_taken n text r network ≡ (network, Some ManyServices) }
     ensures others { (n : ℕ) (text : List ℕ) (r : Reading) (network : NetworkSetting) → is_of_service r.line ≡ false
         → (network_taken n text r network).0.static_services ≡ network.static_services }
+{}
+
+/// So does another place of a network. One that another line says is wrong and changes nothing; so is one more where there are 32. No other
+/// line changes places.
+pub fn peers_stand_in_order()
+    ensures last { (n : ℕ) (text : List ℕ) (r : Reading) (network : NetworkSetting) (place : Place) → r.line ≡ Peer (Some place) → r.fault ≡ None
+        → network.peers.count < most_peers → length network.peers.list ≡ most_peers → list_any (is_there place) (peers_in network.peers) ≡ false
+        → peers_in (network_taken n text r network).0.peers ≡ peers_in network.peers ++ peer_said n place ∷ [] }
+    ensures again { (n : ℕ) (text : List ℕ) (r : Reading) (network : NetworkSetting) (place : Place) → r.line ≡ Peer (Some place)
+        → list_any (is_there place) (peers_in network.peers) ≡ true
+        → ((network_taken n text r network).0 ≡ network) × (is_some (network_taken n text r network).1 ≡ true) }
+    ensures full { (n : ℕ) (text : List ℕ) (r : Reading) (network : NetworkSetting) → is_of_peer r.line ≡ true → most_peers ≤ network.peers.count
+        → network_taken n text r network ≡ (network, Some ManyPeers) }
+    ensures others { (n : ℕ) (text : List ℕ) (r : Reading) (network : NetworkSetting) → is_of_peer r.line ≡ false
+        → (network_taken n text r network).0.peers ≡ network.peers }
 {}
 
 /// A route leads to no network of the configuration, and no network is said where a route leads.

@@ -11,6 +11,7 @@
 //! It stands on `ipx_settings`, which reads a line by itself.
 #![tactic(auto)]
 
+mod below;
 mod carrier;
 mod clash;
 mod configuration;
@@ -22,6 +23,7 @@ pub mod laws;
 mod lines;
 mod memory;
 mod numbers;
+mod peers;
 mod rules;
 mod said;
 mod sockets;
@@ -33,6 +35,7 @@ pub use crate::configured::LinkConfigured;
 pub use crate::endpoint::Endpoint;
 pub use crate::fault::Fault;
 pub use crate::memory::{LinkList, NetworkList};
+pub use crate::peers::{PeerSaid, Peers};
 pub use crate::rules::{RuleSaid, Rules};
 pub use crate::said::{
     ClientsSaid, InternalSaid, LinkSetting, NetworkSetting, NumberSaid, Ranges, RateSaid, Sockets,

@@ -1,13 +1,13 @@
 //! What a line below a link says of it.
 ghost use Rattle.std.specs.Prelude.{◌≡◌};
 ghost use Rattle.std.specs.List.{position};
-ghost use Rattle.ipx_configuration.specs.Lines.{once, clients_said, rate_at, rate_said, number_said, shares_rate, rate_of, first_kilobits, other_kilobits, clients_taken, rate_taken, strangers_taken, kilobits_taken, ranges_from, words_from, ranges_taken, allowed_taken, trusted_taken, nodes_taken, link_taken, has_kilobits};
+ghost use Rattle.ipx_configuration.specs.Lines.{once, clients_said, rate_at, rate_said, number_said, shares_rate, rate_of, first_kilobits, other_kilobits, clients_taken, rate_taken, strangers_taken, kilobits_taken, ranges_from, words_from, ranges_taken, allowed_taken, trusted_taken, nodes_taken, origins_from, origins_taken, link_taken, has_kilobits};
 
 use crate::carrier::{Carrier, TUNNEL};
 use crate::clash::line_fault;
 use crate::fault::Fault;
-use crate::said::{ClientsSaid, LinkSetting, MOST_RANGES, NumberSaid, Ranges, RateSaid};
-use ipx_settings::{ClientsBegun, Expected, Line, RateBegun, Reading, read_range, word};
+use crate::said::{ClientsSaid, LinkSetting, MOST_RANGES, NumberSaid, Origins, Ranges, RateSaid};
+use ipx_settings::{ClientsBegun, Expected, Line, RateBegun, Reading, origin, read_range, word};
 
 /// The most that a rate may be.
 const MOST_RATE: u32 = 1_000_000;
@@ -307,6 +307,47 @@ fn nodes_taken(
     (taken, fault)
 }
 
+/// The origins of a line's words, behind those that are there, alike.
+fn add_origins(origins: Origins, text: &[u8], read: usize) -> (Origins, Option<Fault>)
+    ensures { result ≡ origins_from origins 1 (words_from text.now 1 read) }
+{
+    let mut it = origins;
+    let mut number = 1;
+    while number < read {
+        match word(text, number) {
+            Some(found) => match origin(found) {
+                Some(text) => {
+                    if it.count >= MOST_RANGES {
+                        return (it, Some(Fault::ManyRanges(number)));
+                    }
+                    it = it.with(text);
+                }
+                None => return (it, None),
+            },
+            None => return (it, None),
+        }
+        number += 1;
+    }
+    (it, None)
+}
+
+fn origins_taken(
+    link: LinkSetting,
+    text: &[u8],
+    read: usize,
+    own: Option<Expected>,
+) -> (LinkSetting, Option<Fault>)
+    ensures { result ≡ origins_taken link text.now read own }
+{
+    let (origins, fault) = add_origins(link.origins, text, read);
+    let mut taken = link;
+    taken.origins = origins;
+    if fault.is_some() {
+        return (taken, fault);
+    }
+    (taken, line_fault(own))
+}
+
 /// What a link is behind a line that says more of it, and what is wrong with that line.
 pub(crate) fn link_taken(
     line: usize,
@@ -326,6 +367,7 @@ pub(crate) fn link_taken(
         Line::Allow(_) => allowed_taken(link, text, reading.read, own),
         Line::Trust(_) => trusted_taken(link, text, reading.read, own),
         Line::Nodes(_) => nodes_taken(line, link, own),
+        Line::Origins(_) => origins_taken(link, text, reading.read, own),
         _ => (link, None),
     }
 }

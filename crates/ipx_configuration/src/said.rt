@@ -1,9 +1,10 @@
 //! What lines say of networks and links, as memory of C has it.
 ghost use Rattle.std.specs.Prelude.{◌≡◌, take};
-ghost use Rattle.ipx_configuration.specs.Said.{has_socket, with_socket, with_range, no_sockets, no_ranges, no_internal, new_link};
+ghost use Rattle.ipx_configuration.specs.Said.{has_socket, with_socket, with_range, with_origin, no_sockets, no_ranges, no_origins, no_internal, new_link};
 ghost use Rattle.std.specs.List.{list_any};
 
 use crate::carrier::Carrier;
+use crate::peers::Peers;
 use crate::rules::Rules;
 use crate::statics::{StaticRoutes, StaticServices};
 use ipx_settings::HostRange;
@@ -11,7 +12,7 @@ use ipx_settings::HostRange;
 /// The most sockets that a network extends.
 pub(crate) const MOST_SOCKETS: usize = 16;
 
-/// The most ranges of a list.
+/// The most ranges or origins of a list.
 pub(crate) const MOST_RANGES: usize = 16;
 
 /// The sockets that a network extends, in the order of their words.
@@ -31,6 +32,25 @@ pub struct Sockets {
 #[derive(Clone, Copy, Debug, PartialEq, Eq)]
 pub struct Ranges {
     pub list: [HostRange; 16],
+    pub count: usize,
+}
+
+/// The origin of pages, with zeros behind it.
+///
+/// See the example of [`Configuration`](crate::Configuration).
+#[repr(C)]
+#[derive(Clone, Copy, Debug, PartialEq, Eq)]
+pub struct OriginSaid {
+    pub text: [u8; 89],
+}
+
+/// Origins, in the order of their words.
+///
+/// See the example of [`Configuration`](crate::Configuration).
+#[repr(C)]
+#[derive(Clone, Copy, Debug, PartialEq, Eq)]
+pub struct Origins {
+    pub list: [OriginSaid; 16],
     pub count: usize,
 }
 
@@ -123,6 +143,8 @@ pub struct NetworkSetting {
     pub static_routes: StaticRoutes,
     /// and services.
     pub static_services: StaticServices,
+    /// Its other places.
+    pub peers: Peers,
 }
 
 /// A link, as its line says it, and the lines below.
@@ -148,6 +170,8 @@ pub struct LinkSetting {
     pub trusted: Ranges,
     /// The number of the line that says that the nodes of clients may be their addresses, or 0.
     pub nodes_line: usize,
+    /// Where pages may come from whose programs are clients; only from where they ask, where none is listed.
+    pub origins: Origins,
 }
 
 impl InternalSaid {
@@ -228,6 +252,29 @@ impl Ranges {
     }
 }
 
+impl Origins {
+    pub(crate) fn none() -> Origins
+        ensures { result ≡ no_origins }
+    {
+        Origins {
+            list: [OriginSaid { text: [0; 89] }; 16],
+            count: 0,
+        }
+    }
+
+    /// One more, alike.
+    pub(crate) fn with(self, text: [u8; 89]) -> Origins
+        ensures { result ≡ with_origin self text }
+    {
+        let mut it = self;
+        if it.count < MOST_RANGES {
+            it.list[it.count] = OriginSaid { text };
+            it.count += 1;
+        }
+        it
+    }
+}
+
 /// A link of which its own line alone says something.
 pub(crate) fn new_link(line: usize, network: usize, carrier: Carrier) -> LinkSetting
     ensures { result ≡ new_link line network carrier }
@@ -252,5 +299,6 @@ pub(crate) fn new_link(line: usize, network: usize, carrier: Carrier) -> LinkSet
         allowed: Ranges::none(),
         trusted: Ranges::none(),
         nodes_line: 0,
+        origins: Origins::none(),
     }
 }

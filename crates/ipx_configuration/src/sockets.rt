@@ -6,6 +6,7 @@ ghost use Rattle.ipx_configuration.specs.Lines.{words_from};
 use crate::clash::line_fault;
 use crate::fault::Fault;
 use crate::lines::once;
+use crate::peers::peer_taken;
 use crate::rules::rule_taken;
 use crate::said::{MOST_SOCKETS, NetworkSetting, Sockets};
 use crate::statics::{route_taken, service_taken};
@@ -98,6 +99,7 @@ pub(crate) fn network_taken(
         Line::Rule(permits, begun) => rule_taken(network, permits, begun, own),
         Line::Route(begun) => route_taken(line, network, begun, own),
         Line::Service(begun) => service_taken(line, network, begun, own),
+        Line::Peer(begun) => peer_taken(line, network, begun, own),
         _ => (network, None),
     }
 }

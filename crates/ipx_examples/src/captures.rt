@@ -2,6 +2,7 @@
 
 use anyhow::Result;
 use ipx_capture::{Capture, CaptureFault, Captured, Frame, FrameKind, frame, write_frame};
+use ipx_recording::{Carried, Kept, Recording, Step, carried};
 use ipx_wire::{Intake, Node};
 
 /// The records of a capture.
@@ -50,5 +51,54 @@ pub fn frame_kind(rt: &HostRuntime, to: Node, from: Node, packet: &[u8]) -> Resu
         None => println!(rt; "a frame of this kind can't carry it")?,
     }
     // prints a frame of 60 bytes
+    Ok(())
+}
+
+/// The packets of a recording.
+pub fn recording(rt: &HostRuntime, file: &[u8]) -> Result<()> {
+    if file.len() < Recording::HEADER {
+        return Ok(());
+    }
+    let (header, mut rest) = file.split_at(Recording::HEADER);
+    let mut recording = Recording::begin(header)?;
+    for _ in 0..u64::MAX {
+        match recording.step(rest)? {
+            Step::Wants(_) => break,
+            Step::Passed(size) => rest = &rest[size..],
+            Step::Packet(Kept { link, size, .. }) => {
+                println!(rt; "a packet of link type {link} keeps {size} bytes")?;
+                rest = &rest[4..];
+                rest = &rest[size..];
+            }
+        }
+    }
+    match recording.end(rest) {
+        None => println!(rt; "the file is whole")?,
+        Some(fault) => println!(rt; "{fault}")?,
+    }
+    // prints a packet of link type 1 keeps 2 bytes
+    // prints the file is whole
+    Ok(())
+}
+
+/// What is no recording.
+pub fn recording_fault(rt: &HostRuntime, bytes: &[u8]) -> Result<()> {
+    match Recording::begin(bytes) {
+        Ok(_) => println!(rt; "this is a recording")?,
+        Err(fault) => println!(rt; "{fault}")?,
+    }
+    // prints the file ends inside its first section's header
+    Ok(())
+}
+
+/// What a recorded packet carries.
+pub fn carried_by(rt: &HostRuntime, bytes: &[u8]) -> Result<()> {
+    match carried(1, bytes) {
+        Carried::Framed(Frame::Other) => println!(rt; "no IPX")?,
+        Carried::Framed(_) => println!(rt; "in a frame")?,
+        Carried::Ppp(packet) => println!(rt; "over a modem: {} bytes", packet.len())?,
+        Carried::Udp(packet) => println!(rt; "in a datagram: {} bytes", packet.len())?,
+    }
+    // prints in a frame
     Ok(())
 }

@@ -10,11 +10,13 @@ mod captures;
 mod edges;
 mod ends;
 mod fates;
+mod insides;
 mod internets;
 mod keyed;
 mod limited;
 mod offers;
 mod packets;
+mod peers;
 mod plans;
 mod routers;
 mod routes;
@@ -62,6 +64,12 @@ const FAR: [u8; 30] = [
     0, 0, 0xAA, 0x40, 3,
 ];
 
+/// Node AA, on network 10, asks server CC on network 30 what it is.
+const ASKED: [u8; 40] = [
+    0xFF, 0xFF, 0, 0x28, 0, 17, 0, 0, 0, 0x30, 0, 0, 0, 0, 0, 0xCC, 4, 0x51, 0, 0, 0, 0x10, 0, 0,
+    0, 0, 0, 0xAA, 0x40, 3, 0x22, 0x22, 3, 5, 1, 0, 23, 0, 1, 17,
+];
+
 /// A registration in DOSBox' tunnel.
 const REGISTRATION: [u8; 30] = [
     0xFF, 0xFF, 0, 0x1E, 0, 0, 0, 0, 0, 0, 0, 0, 0, 0, 0, 0, 0, 2, 0, 0, 0, 0, 0, 0, 0, 0, 0, 0, 0,
@@ -78,6 +86,15 @@ const ANSWER: [u8; 30] = [
 const WORD: [u8; 30] = [
     0xFF, 0xFF, 0, 0x1E, 0, 0, 0, 0, 0, 0x10, 0xFF, 0xFF, 0xFF, 0xFF, 0xFF, 0xFF, 0x86, 0x9C, 0, 0,
     0, 0x10, 2, 0xA1, 0xB2, 0xC3, 0xD4, 0xE5, 0x86, 0x9C,
+];
+
+/// A recording: a section, an interface of Ethernet, and a packet that keeps two bytes.
+const RECORDING: [u8; 84] = [
+    0x0A, 0x0D, 0x0D, 0x0A, 28, 0, 0, 0, 0x4D, 0x3C, 0x2B, 0x1A, 1, 0, 0, 0, 0xFF, 0xFF, 0xFF,
+    0xFF, 0xFF, 0xFF, 0xFF, 0xFF, 28, 0, 0, 0, //
+    1, 0, 0, 0, 20, 0, 0, 0, 1, 0, 0, 0, 0, 0, 0, 0, 20, 0, 0, 0, //
+    6, 0, 0, 0, 36, 0, 0, 0, 0, 0, 0, 0, 0, 0, 0, 0, 0, 0, 0, 0, 2, 0, 0, 0, 2, 0, 0, 0, 7, 9, 0,
+    0, 36, 0, 0, 0,
 ];
 
 /// The header of a capture file, and a record of sixty bytes, of which two are kept.
@@ -113,7 +130,11 @@ fn read(rt: &HostRuntime) -> Result<()> {
     frame[12] = 0;
     frame[13] = 46;
     captures::frame_of(rt, &frame)?;
-    captures::frame_kind(rt, at(0xBB).node, at(0xFF).node, &FAR)
+    captures::frame_kind(rt, at(0xBB).node, at(0xFF).node, &FAR)?;
+    captures::recording(rt, &RECORDING)?;
+    captures::recording_fault(rt, &ANSWER[..20])?;
+    captures::carried_by(rt, &frame)?;
+    insides::inside(rt, &Packet::read(&ASKED)?)
 }
 
 fn read_routes(rt: &HostRuntime) -> Result<()> {
@@ -262,7 +283,7 @@ fn port(network: u32, node: u8) -> Result<Port, PortFault> {
     Port::new(Network(network), Node([0, 0, 0, 0, 0, node]), 1, 576)
 }
 
-/// The examples of both tunnels, of a plan, of a line of a configuration, of a segment, of receivers and meters, and of limits.
+/// The examples of both tunnels, of a plan, of a line of a configuration, of a segment, of receivers and meters, of limits, and of peers.
 fn serve(rt: &HostRuntime) -> Result<()> {
     let cookies = Cookies {
         current: Node([2, 0x11, 0x22, 0x33, 0x44, 0x55]),
@@ -290,5 +311,6 @@ fn serve(rt: &HostRuntime) -> Result<()> {
     cables::asked(rt)?;
     cables::own_nodes(rt)?;
     fates::course(rt)?;
-    fates::counts(rt)
+    fates::counts(rt)?;
+    peers::two(rt)
 }

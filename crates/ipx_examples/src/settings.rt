@@ -2,12 +2,12 @@
 
 use anyhow::Result;
 use ipx_configuration::{Capacity, Configuration, Fault};
-use ipx_settings::{Context, Expected, Reading};
+use ipx_settings::{Cards, Context, Expected, Reading};
 
 /// A line with a wrong word.
 pub fn line(rt: &HostRuntime) -> Result<()> {
     let context = Context {
-        has_cards: true,
+        cards: Cards::All,
         is_below_tunnel: false,
         most_clients: 4096,
     };
@@ -22,7 +22,7 @@ pub fn line(rt: &HostRuntime) -> Result<()> {
 /// Two lines that can't stand together.
 pub fn configuration(rt: &HostRuntime) -> Result<()> {
     let capacity = Capacity {
-        has_cards: true,
+        cards: Cards::All,
         networks: 32,
         links: 32,
         clients: 4096,

@@ -9,7 +9,7 @@ use Rattle.ipx_fates.specs.declared.counts.Counts.{Counts}
 use Rattle.ipx_fates.specs.declared.fate.Fate.{Fate}
 use Rattle.ipx_fates.specs.declared.fate.Fate.TheVariants.{Elsewhere, Heard, Dropped, HandedOn, Answered, Stays, Awaited, Probe, Lost}
 use Rattle.ipx_fates.specs.declared.reason.Reason.{Reason}
-use Rattle.ipx_fates.specs.declared.reason.Reason.TheVariants.{TooLong, FalseSource, Stranger, NoRoom, NotAllowed, NoClient, NoIpx, OtherKind, SecondKind, ForAnother, OwnFrame, NoMemory, NotExtended, NotSent, NobodyThere, TooManyStrangers, TooMuchForClient, TooMuchForAddress, TooMuchForLine, TooMuchForLink, TooManyPings, TooManyQuestions, TooManyAdvertisements, TooManyAnswers, ForFarRouters, TooMuchForRouter, FromAfar, Denied}
+use Rattle.ipx_fates.specs.declared.reason.Reason.TheVariants.{TooLong, FalseSource, Stranger, NoRoom, NotAllowed, NoClient, NoIpx, OtherKind, SecondKind, ForAnother, OwnFrame, NoMemory, NotExtended, NotSent, NobodyThere, TooManyStrangers, TooMuchForClient, TooMuchForAddress, TooMuchForLine, TooMuchForLink, TooManyPings, TooManyQuestions, TooManyAdvertisements, TooManyAnswers, ForFarRouters, TooMuchForRouter, FromAfar, Denied, NotSealed, Repeated, OtherSession}
 use Rattle.ipx_fates.specs.Fates.{reasons_count, reason_number}
 use Rattle.ipx_fates.specs.Counting.{largest, more, more_at, has_place, place_of, hundreds_count, rest_count, drops_count, nothing, one_came, one_lost, one_dropped, counted}
 use Rattle.ipx_fates.specs.Laws.{counts_of, one, number_of, is_taken, is_here, can_be, is_lost_for}
@@ -58,6 +58,9 @@ reason_small ForFarRouters = omega arith
 reason_small TooMuchForRouter = omega arith
 reason_small FromAfar = omega arith
 reason_small Denied = omega arith
+reason_small NotSealed = omega arith
+reason_small Repeated = omega arith
+reason_small OtherSession = omega arith
 
 place_small : (number : ℕ) → has_place number ≡ true → place_of number < drops_count
 place_small number has =

@@ -1,11 +1,11 @@
 -- Why a packet goes no further, by number.
 use Rattle.std.specs.Prelude.{ℕ, ◌==◌, if◌then◌else◌, Option, None, Some}
 use Rattle.ipx_fates.specs.declared.reason.Reason.{Reason}
-use Rattle.ipx_fates.specs.declared.reason.Reason.TheVariants.{TooLong, FalseSource, Stranger, NoRoom, NotAllowed, NoClient, NoIpx, OtherKind, SecondKind, ForAnother, OwnFrame, NoMemory, NotExtended, NotSent, NobodyThere, TooManyStrangers, TooMuchForClient, TooMuchForAddress, TooMuchForLine, TooMuchForLink, TooManyPings, TooManyQuestions, TooManyAdvertisements, TooManyAnswers, ForFarRouters, TooMuchForRouter, FromAfar, Denied}
+use Rattle.ipx_fates.specs.declared.reason.Reason.TheVariants.{TooLong, FalseSource, Stranger, NoRoom, NotAllowed, NoClient, NoIpx, OtherKind, SecondKind, ForAnother, OwnFrame, NoMemory, NotExtended, NotSent, NobodyThere, TooManyStrangers, TooMuchForClient, TooMuchForAddress, TooMuchForLine, TooMuchForLink, TooManyPings, TooManyQuestions, TooManyAdvertisements, TooManyAnswers, ForFarRouters, TooMuchForRouter, FromAfar, Denied, NotSealed, Repeated, OtherSession}
 
 -- how many reasons there are
 abbrev pub reasons_count : ℕ
-reasons_count = 28
+reasons_count = 31
 
 abbrev pub reason_number : Reason → ℕ
 reason_number TooLong = 0
@@ -36,6 +36,9 @@ reason_number ForFarRouters = 24
 reason_number TooMuchForRouter = 25
 reason_number FromAfar = 26
 reason_number Denied = 27
+reason_number NotSealed = 28
+reason_number Repeated = 29
+reason_number OtherSession = 30
 
 -- the reason with a number
 abbrev pub reason_at : ℕ → Option Reason
@@ -68,4 +71,7 @@ reason_at number =
     else if number == 25 then Some TooMuchForRouter
     else if number == 26 then Some FromAfar
     else if number == 27 then Some Denied
+    else if number == 28 then Some NotSealed
+    else if number == 29 then Some Repeated
+    else if number == 30 then Some OtherSession
     else None

@@ -26,7 +26,7 @@ pub struct Counts {
     /// Packets that came.
     pub came: u64,
     /// Packets, and copies, that were lost, by the numbers of the reasons.
-    pub lost: [u64; 28],
+    pub lost: [u64; 31],
     /// Packets that the router dropped, by its number: ten for each hundred.
     pub dropped: [u64; 190],
 }
@@ -38,7 +38,7 @@ impl Counts {
     {
         Counts {
             came: 0,
-            lost: [0; 28],
+            lost: [0; 31],
             dropped: [0; 190],
         }
     }

@@ -63,6 +63,12 @@ pub enum Reason {
     FromAfar,
     /// A rule of the network denies it.
     Denied,
+    /// A datagram of a place that isn't sealed by the key of its network.
+    NotSealed,
+    /// A datagram of a place that was heard before, or comes too late to tell.
+    Repeated,
+    /// A datagram of a place for another session than the gateway's own: it was recorded, or its sender doesn't know that one yet.
+    OtherSession,
 }
 
 impl Reason {
@@ -99,6 +105,9 @@ impl Reason {
             25 => Some(Reason::TooMuchForRouter),
             26 => Some(Reason::FromAfar),
             27 => Some(Reason::Denied),
+            28 => Some(Reason::NotSealed),
+            29 => Some(Reason::Repeated),
+            30 => Some(Reason::OtherSession),
             _ => None,
         }
     }
@@ -106,7 +115,7 @@ impl Reason {
     /// Its number.
     pub fn number(self) -> u8
         ensures number { result ≡ reason_number self }
-        ensures small { result < 28 }
+        ensures small { result < 31 }
     {
         match self {
             Reason::TooLong => 0,
@@ -137,6 +146,9 @@ impl Reason {
             Reason::TooMuchForRouter => 25,
             Reason::FromAfar => 26,
             Reason::Denied => 27,
+            Reason::NotSealed => 28,
+            Reason::Repeated => 29,
+            Reason::OtherSession => 30,
         }
     }
 }

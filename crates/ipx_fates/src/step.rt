@@ -39,7 +39,7 @@ pub enum FrameStep {
     IsForAnother,
     /// A deed: it is written to the capture.
     Capture,
-    /// By which reason, as its number, it goes nowhere, since too much of its kind came; or 28, or any higher number.
+    /// By which reason, as its number, it goes nowhere, since too much of its kind came; or 31, or any higher number.
     LetsIn,
     /// Whether its network has several links.
     HasLinks,
@@ -118,7 +118,7 @@ pub enum WordStep {
     IsForSomebody,
     /// Whether it is for routers of another network.
     IsForFarRouters,
-    /// By which reason, as its number, nobody gets it, since its sender said too much; or 28, or any higher number.
+    /// By which reason, as its number, nobody gets it, since its sender said too much; or 31, or any higher number.
     LetsSay,
     /// A deed: it goes to the clients and the links that get it.
     Carry,
@@ -134,7 +134,7 @@ pub enum WordStep {
 #[derive(Clone, Copy, Debug, PartialEq, Eq)]
 pub enum RouterStep {
     /// By which reason, as its number, the router doesn't hear it, since its sender said too much, or the edge of its network doesn't let it in;
-    /// or 28, or any higher number.
+    /// or 31, or any higher number.
     LetsHear,
     /// Whether it is for all of the network where it came.
     IsForAll,

@@ -180,7 +180,7 @@ six_right word six e = by (gap_of word) e
 
 -- ---- addresses
 
-own_right : AreNumbers 4 8 own_host
+pub own_right : AreNumbers 4 8 own_host
 own_right = four_numbers 127 0 0 1 (omega arith) (omega arith) (omega arith) (omega arith)
 
 host_right : (word four : List ℕ) → host_of word ≡ Some four → AreNumbers 4 8 four

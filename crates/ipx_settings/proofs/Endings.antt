@@ -1,7 +1,7 @@
 use Rattle.std.proofs.Common.{◌≡◌, ℕ, ◌≤◌, nat_le, Bool, true, false, List, [], ◌∷◌, refl, arith, Some, None}
 use Rattle.std.specs.Prelude.{codes}
 use Rattle.ipx_settings.specs.Addresses.{own_host, four_at, six_at}
-use Rattle.ipx_settings.specs.Names.{padded, name_room}
+use Rattle.ipx_settings.specs.Names.{padded, name_room, host_room}
 use Rattle.ipx_settings.specs.Rules.{service_room}
 use Rattle.ipx_settings.specs.Statics.{route_at, service_address_at, service_at}
 use Rattle.ipx_settings.specs.Beginnings.{said_by}
@@ -50,6 +50,9 @@ ends_now c l is = ([], (l, (refl, is)))
 abbrev own : Address
 own = four_at own_host 1
 
+abbrev a_group : Address
+a_group = four_at (224 ∷ 0 ∷ 0 ∷ 0 ∷ []) 1
+
 abbrev framed : End → LinkBegun
 framed end = begun.Whole (link.Framed end Raw)
 
@@ -72,6 +75,14 @@ link_can_end c begun.Listen = (codes "1" ∷ codes "raw" ∷ [], (line.Link (fra
 link_can_end c begun.Connect = (codes "1" ∷ codes "raw" ∷ [], (line.Link (framed (ends.Connect (At own))), (refl, refl)))
 link_can_end c begun.Tap = (codes "a" ∷ codes "raw" ∷ [], (line.Link (framed (ends.Tap (padded name_room (codes "a")))), (refl, refl)))
 link_can_end c begun.Interface = (codes "a" ∷ codes "raw" ∷ [], (line.Link (framed (ends.Interface (padded name_room (codes "a")))), (refl, refl)))
+link_can_end c begun.Multicast = (codes "224.0.0.0:1" ∷ codes "raw" ∷ [], (line.Link (framed (ends.Group a_group own_host)), (refl, refl)))
+link_can_end c (begun.Group group) = (codes "raw" ∷ [], (line.Link (framed (ends.Group group own_host)), (refl, refl)))
+link_can_end c (begun.Via group) = (codes "1.1.1.1" ∷ codes "raw" ∷ [], (line.Link (framed (ends.Group group (1 ∷ 1 ∷ 1 ∷ 1 ∷ []))), (refl, refl)))
+link_can_end c begun.Vde = (codes "a" ∷ codes "raw" ∷ [], (line.Link (framed (ends.Switch (padded host_room (codes "a")))), (refl, refl)))
+link_can_end c begun.Web = (codes "1" ∷ [], (line.Link (begun.Whole (link.Web own)), (refl, refl)))
+link_can_end c begun.Peers = (codes "1" ∷ codes "a" ∷ codes "raw" ∷ [], (line.Link (framed (ends.Peers own (padded host_room (codes "a")))), (refl, refl)))
+link_can_end c (begun.PeersAt a) = (codes "a" ∷ codes "raw" ∷ [], (line.Link (framed (ends.Peers a (padded host_room (codes "a")))), (refl, refl)))
+link_can_end c begun.Rfc1234 = (codes "1" ∷ [], (line.Link (begun.Whole (link.Rfc1234 own)), (refl, refl)))
 link_can_end c (begun.UdpFrom a) = from_link_can_end c a.host a.port
 link_can_end c (begun.End end) = (codes "raw" ∷ [], (line.Link (framed end), (refl, refl)))
 link_can_end c (begun.Whole whole) = ends_now c (line.Link (begun.Whole whole)) refl
@@ -89,6 +100,14 @@ network_can_end c head begun.Listen = (codes "1" ∷ codes "raw" ∷ [], (line.N
 network_can_end c head begun.Connect = (codes "1" ∷ codes "raw" ∷ [], (line.Network (network.Link head (framed (ends.Connect (At own)))), (refl, refl)))
 network_can_end c head begun.Tap = (codes "a" ∷ codes "raw" ∷ [], (line.Network (network.Link head (framed (ends.Tap (padded name_room (codes "a"))))), (refl, refl)))
 network_can_end c head begun.Interface = (codes "a" ∷ codes "raw" ∷ [], (line.Network (network.Link head (framed (ends.Interface (padded name_room (codes "a"))))), (refl, refl)))
+network_can_end c head begun.Multicast = (codes "224.0.0.0:1" ∷ codes "raw" ∷ [], (line.Network (network.Link head (framed (ends.Group a_group own_host))), (refl, refl)))
+network_can_end c head (begun.Group group) = (codes "raw" ∷ [], (line.Network (network.Link head (framed (ends.Group group own_host))), (refl, refl)))
+network_can_end c head (begun.Via group) = (codes "1.1.1.1" ∷ codes "raw" ∷ [], (line.Network (network.Link head (framed (ends.Group group (1 ∷ 1 ∷ 1 ∷ 1 ∷ [])))), (refl, refl)))
+network_can_end c head begun.Vde = (codes "a" ∷ codes "raw" ∷ [], (line.Network (network.Link head (framed (ends.Switch (padded host_room (codes "a"))))), (refl, refl)))
+network_can_end c head begun.Web = (codes "1" ∷ [], (line.Network (network.Link head (begun.Whole (link.Web own))), (refl, refl)))
+network_can_end c head begun.Peers = (codes "1" ∷ codes "a" ∷ codes "raw" ∷ [], (line.Network (network.Link head (framed (ends.Peers own (padded host_room (codes "a"))))), (refl, refl)))
+network_can_end c head (begun.PeersAt a) = (codes "a" ∷ codes "raw" ∷ [], (line.Network (network.Link head (framed (ends.Peers a (padded host_room (codes "a"))))), (refl, refl)))
+network_can_end c head begun.Rfc1234 = (codes "1" ∷ [], (line.Network (network.Link head (begun.Whole (link.Rfc1234 own))), (refl, refl)))
 network_can_end c head (begun.UdpFrom a) = from_network_can_end c head a.host a.port
 network_can_end c head (begun.End end) = (codes "raw" ∷ [], (line.Network (network.Link head (framed end)), (refl, refl)))
 network_can_end c head (begun.Whole whole) = ends_now c (line.Network (network.Link head (begun.Whole whole))) refl
@@ -200,6 +219,9 @@ can_end c (line.Adopt true) some = ends_now c (line.Adopt true) refl
 can_end c (line.Rule permits it) some = rule_can_end c permits it
 can_end c (line.Route it) some = route_can_end c it
 can_end c (line.Service it) some = service_can_end c it
+can_end c (line.Origins has_some) some = (codes "*" ∷ [], (line.Origins true, (refl, refl)))
+can_end c (line.Peer None) some = (codes "1" ∷ [], (line.Peer (Some (At own)), (refl, refl)))
+can_end c (line.Peer (Some place)) some = ends_now c (line.Peer (Some place)) refl
 
 -- ---- what doesn't end says what was expected
 
@@ -216,6 +238,14 @@ link_refuses c begun.Listen open_still = (expected.Address, refl)
 link_refuses c begun.Connect open_still = (expected.Remote, refl)
 link_refuses c begun.Tap open_still = (expected.Tap, refl)
 link_refuses c begun.Interface open_still = (expected.Interface, refl)
+link_refuses c begun.Multicast open_still = (expected.Group, refl)
+link_refuses c (begun.Group group) open_still = (expected.ViaOrFrames, refl)
+link_refuses c (begun.Via group) open_still = (expected.Card, refl)
+link_refuses c begun.Vde open_still = (expected.Switch, refl)
+link_refuses c begun.Web open_still = (expected.Address, refl)
+link_refuses c begun.Peers open_still = (expected.Address, refl)
+link_refuses c (begun.PeersAt local) open_still = (expected.KeyFile, refl)
+link_refuses c begun.Rfc1234 open_still = (expected.CardAndPort, refl)
 link_refuses c (begun.End end) open_still = (expected.Frames, refl)
 link_refuses c (begun.Whole whole) open_still = absurd cc
 
@@ -229,6 +259,14 @@ network_refuses c head begun.Listen open_still = (expected.Address, refl)
 network_refuses c head begun.Connect open_still = (expected.Remote, refl)
 network_refuses c head begun.Tap open_still = (expected.Tap, refl)
 network_refuses c head begun.Interface open_still = (expected.Interface, refl)
+network_refuses c head begun.Multicast open_still = (expected.Group, refl)
+network_refuses c head (begun.Group group) open_still = (expected.ViaOrFrames, refl)
+network_refuses c head (begun.Via group) open_still = (expected.Card, refl)
+network_refuses c head begun.Vde open_still = (expected.Switch, refl)
+network_refuses c head begun.Web open_still = (expected.Address, refl)
+network_refuses c head begun.Peers open_still = (expected.Address, refl)
+network_refuses c head (begun.PeersAt local) open_still = (expected.KeyFile, refl)
+network_refuses c head begun.Rfc1234 open_still = (expected.CardAndPort, refl)
 network_refuses c head (begun.End end) open_still = (expected.Frames, refl)
 network_refuses c head (begun.Whole whole) open_still = absurd cc
 
@@ -287,3 +325,6 @@ refuses c (line.Service (service.At kind name address)) open_still = (expected.H
 refuses c (line.Service (service.Hops kind name address hops)) open_still = (expected.Via, refl)
 refuses c (line.Service (service.Via kind name address hops)) open_still = (expected.Node, refl)
 refuses c (line.Service (service.Whole it)) open_still = absurd cc
+refuses c (line.Origins has_some) open_still = (expected.Origin, refl)
+refuses c (line.Peer None) open_still = (expected.Remote, refl)
+refuses c (line.Peer (Some place)) open_still = absurd cc

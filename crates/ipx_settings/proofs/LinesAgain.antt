@@ -1,4 +1,5 @@
-use Rattle.std.proofs.Common.{◌≡◌, ℕ, ◌^◌, ◌<◌, ◌≤◌, Bool, true, false, List, [], ◌∷◌, ◌++◌, length, refl, sym, ap, ◌∙◌, arith, Option, Some, None, ne_eqb, le-ltb}
+use Rattle.std.proofs.Common.{◌≡◌, ℕ, ◌^◌, ◌<◌, ◌≤◌, Bool, true, false, List, [], ◌∷◌, ◌++◌, length, refl, sym, ap, ◌∙◌, arith, Option, Some, None, inl, inr, ne_eqb, le-ltb}
+use Rattle.std.proofs.lemmas.Bool.{cases_Bool}
 use Rattle.std.proofs.lemmas.Bool.Decides.{nat_tests}
 use Rattle.std.proofs.lemmas.Fmt.{decimal_is_IsNumeral}
 use Rattle.std.proofs.lemmas.List.{length-append}
@@ -6,16 +7,19 @@ use Rattle.std.specs.Char.{digit_value, is_ascii_digit}
 use Rattle.std.specs.List.{AllByRecursion}
 use Rattle.std.specs.Option.{is_none}
 use Rattle.std.specs.Prelude.{Result, Ok, Err, codes, decimal}
+use Rattle.std.specs.Str.{bytes_eq}
 use Rattle.std.specs.Str.Parse.{AllDigits}
+use Rattle.ipx_settings.specs.Addresses.{own_host}
 use Rattle.ipx_settings.specs.Beginnings.{said_by, IsLine, if_goes_on, link_said}
 use Rattle.ipx_settings.specs.Lines.{most_rate, most_kilobits, read_from, read_to, reading_of}
 use Rattle.ipx_settings.specs.Links.{is_the, link_step}
 use Rattle.ipx_settings.specs.Networks.{last_network, least_longest, most_longest, head_of, is_share, with_link, behind_head, may_have_node, network_step}
 use Rattle.ipx_settings.specs.Right.{IsWord, IsLink}
-use Rattle.ipx_settings.specs.RightLines.{Within, IsShares, IsHead, IsNode, MayHaveNode, IsWhole, IsNetwork, IsClients, IsRate, IsMost, IsInternal, IsRight}
+use Rattle.ipx_settings.specs.RightLines.{Within, IsShares, IsHead, IsNode, MayHaveNode, IsWhole, IsNetwork, IsClients, IsRate, IsMost, IsInternal, IsPeer, IsRight}
 use Rattle.ipx_settings.specs.Words.{most_words}
-use Rattle.ipx_settings.specs.WritingLinks.{spaced, link_words}
-use Rattle.ipx_settings.specs.WritingLines.{bytes_digits, number_word, shares_words, head_words, maybe_link_words, begun_words, network_words, clients_words, rates_words, strangers_words, kilobits_words, nodes_words, internal_words, adopt_words, permit_word, line_words}
+use Rattle.ipx_settings.specs.WritingLinks.{spaced, frames_word, card_words, link_words}
+use Rattle.ipx_settings.specs.WritingLines.{bytes_digits, number_word, shares_words, head_words, maybe_link_words, begun_words, network_words, clients_words, rates_words, strangers_words, kilobits_words, nodes_words, internal_words, adopt_words, peer_words, permit_word, line_words}
+use Rattle.ipx_settings.specs.declared.addresses.Place.{Place}
 use Rattle.ipx_settings.specs.declared.expected.Expected.{Expected}
 use Rattle.ipx_settings.specs.declared.internal.InternalBegun.{InternalBegun}
 use Rattle.ipx_settings.specs.declared.internal.InternalBegun.TheVariants as internal
@@ -27,6 +31,7 @@ use Rattle.ipx_settings.specs.declared.line.Line.TheVariants as line
 use Rattle.ipx_settings.specs.declared.line.RateBegun.{RateBegun}
 use Rattle.ipx_settings.specs.declared.line.RateBegun.TheVariants as rate
 use Rattle.ipx_settings.specs.declared.link.End.TheVariants as ends
+use Rattle.ipx_settings.specs.declared.link.Cards.{Cards}
 use Rattle.ipx_settings.specs.declared.link.Link.{Link}
 use Rattle.ipx_settings.specs.declared.link.Link.TheVariants as link
 use Rattle.ipx_settings.specs.declared.link.LinkBegun.{LinkBegun}
@@ -40,7 +45,8 @@ use Rattle.ipx_settings.proofs.AddressesAgain.{one_value}
 use Rattle.ipx_settings.proofs.Begun.{said-append}
 use Rattle.ipx_settings.proofs.DigitsAgain.{network_again, number_is_word, decimal_is_word, node_again, node_is_word, rate_again, rate_is_word}
 use Rattle.ipx_settings.proofs.FirstWrong.{read, read_all}
-use Rattle.ipx_settings.proofs.LinksAgain.{link_again, link_is_words, literal}
+use Rattle.ipx_settings.proofs.LinksAgain.{link_again, link_is_words, remote_is_word, literal}
+use Rattle.ipx_settings.proofs.NamesAgain.{remote_again}
 use Rattle.ipx_settings.proofs.NumbersAgain.{number_again}
 use Rattle.ipx_settings.proofs.RulesAgain.{rule_line, rule_is_words, rule_count}
 use Rattle.ipx_settings.proofs.StaticsAgain.{route_line, route_is_words, route_count, service_line, service_is_words, service_count}
@@ -53,47 +59,58 @@ none_said : {A : Type 0} (a : A) → None ≡ Some a → ⊥
 none_said a bad = cc
 
 -- a link's words after `link`
-line_link : (c : Context) (b e : LinkBegun) (ws : List (List ℕ)) → link_said c.has_cards b ws ≡ Some e → said_by c (line.Link b) ws ≡ Some (line.Link e)
+line_link : (c : Context) (b e : LinkBegun) (ws : List (List ℕ)) → link_said c.cards b ws ≡ Some e → said_by c (line.Link b) ws ≡ Some (line.Link e)
 line_link c b e [] said = ap (λ x. Some (line.Link x)) (one_value b e said)
-line_link c b e (w ∷ ws) said = by (λ next. line_link c next e ws) (link_step c.has_cards b w) refl said
+line_link c b e (w ∷ ws) said = by (λ next. line_link c next e ws) (link_step c.cards b w) refl said
   where
-    by : ((next : LinkBegun) → link_said c.has_cards next ws ≡ Some e → said_by c (line.Link next) ws ≡ Some (line.Link e)) → (r : Result LinkBegun Expected) → link_step c.has_cards b w ≡ r
-        → if_goes_on r (λ next. link_said c.has_cards next ws) ≡ Some e → said_by c (line.Link b) (w ∷ ws) ≡ Some (line.Link e)
+    by : ((next : LinkBegun) → link_said c.cards next ws ≡ Some e → said_by c (line.Link next) ws ≡ Some (line.Link e)) → (r : Result LinkBegun Expected) → link_step c.cards b w ≡ r
+        → if_goes_on r (λ next. link_said c.cards next ws) ≡ Some e → said_by c (line.Link b) (w ∷ ws) ≡ Some (line.Link e)
     by each (Ok next) is said = rw is (each next said)
     by each (Err why) is said = absurd (none_said e said)
 
 -- one of them after what stands before the link of a network
-network_next : (has_cards : Bool) (head : Head) (b next : LinkBegun) (w : List ℕ) → link_step has_cards b w ≡ Ok next
-    → network_step has_cards (network.Link head b) w ≡ Ok (network.Link head next)
-network_next has_cards head begun.Nothing next w is = rw is refl
-network_next has_cards head begun.Tunnel next w is = rw is refl
-network_next has_cards head begun.Udp next w is = rw is refl
-network_next has_cards head (begun.UdpFrom local) next w is = rw is refl
-network_next has_cards head begun.Tcp next w is = rw is refl
-network_next has_cards head begun.Listen next w is = rw is refl
-network_next has_cards head begun.Connect next w is = rw is refl
-network_next has_cards head begun.Tap next w is = rw is refl
-network_next has_cards head begun.Interface next w is = rw is refl
-network_next has_cards head (begun.End end) next w is = rw is refl
-network_next has_cards head (begun.Whole it) next w is = absurd cc
+network_next : (cards : Cards) (head : Head) (b next : LinkBegun) (w : List ℕ) → link_step cards b w ≡ Ok next
+    → network_step cards (network.Link head b) w ≡ Ok (network.Link head next)
+network_next cards head begun.Nothing next w is = rw is refl
+network_next cards head begun.Tunnel next w is = rw is refl
+network_next cards head begun.Udp next w is = rw is refl
+network_next cards head (begun.UdpFrom local) next w is = rw is refl
+network_next cards head begun.Tcp next w is = rw is refl
+network_next cards head begun.Listen next w is = rw is refl
+network_next cards head begun.Connect next w is = rw is refl
+network_next cards head begun.Tap next w is = rw is refl
+network_next cards head begun.Interface next w is = rw is refl
+network_next cards head begun.Multicast next w is = rw is refl
+network_next cards head (begun.Group group) next w is = rw is refl
+network_next cards head (begun.Via group) next w is = rw is refl
+network_next cards head begun.Vde next w is = rw is refl
+network_next cards head begun.Web next w is = rw is refl
+network_next cards head begun.Peers next w is = rw is refl
+network_next cards head (begun.PeersAt local) next w is = rw is refl
+network_next cards head begun.Rfc1234 next w is = rw is refl
+network_next cards head (begun.End end) next w is = rw is refl
+network_next cards head (begun.Whole (link.Web address)) next w is = rw is refl
+network_next cards head (begun.Whole (link.Tunnel address)) next w is = absurd cc
+network_next cards head (begun.Whole (link.Rfc1234 address)) next w is = absurd cc
+network_next cards head (begun.Whole (link.Framed end frames)) next w is = absurd cc
 
-network_link : (c : Context) (head : Head) (b e : LinkBegun) (ws : List (List ℕ)) → link_said c.has_cards b ws ≡ Some e
+network_link : (c : Context) (head : Head) (b e : LinkBegun) (ws : List (List ℕ)) → link_said c.cards b ws ≡ Some e
     → said_by c (line.Network (network.Link head b)) ws ≡ Some (line.Network (network.Link head e))
 network_link c head b e [] said = ap (λ x. Some (line.Network (network.Link head x))) (one_value b e said)
-network_link c head b e (w ∷ ws) said = by (λ next. network_link c head next e ws) (link_step c.has_cards b w) refl said
+network_link c head b e (w ∷ ws) said = by (λ next. network_link c head next e ws) (link_step c.cards b w) refl said
   where
-    by : ((next : LinkBegun) → link_said c.has_cards next ws ≡ Some e → said_by c (line.Network (network.Link head next)) ws ≡ Some (line.Network (network.Link head e)))
-        → (r : Result LinkBegun Expected) → link_step c.has_cards b w ≡ r → if_goes_on r (λ next. link_said c.has_cards next ws) ≡ Some e
+    by : ((next : LinkBegun) → link_said c.cards next ws ≡ Some e → said_by c (line.Network (network.Link head next)) ws ≡ Some (line.Network (network.Link head e)))
+        → (r : Result LinkBegun Expected) → link_step c.cards b w ≡ r → if_goes_on r (λ next. link_said c.cards next ws) ≡ Some e
         → said_by c (line.Network (network.Link head b)) (w ∷ ws) ≡ Some (line.Network (network.Link head e))
-    by each (Ok next) is said = rw (network_next c.has_cards head b next w is) (each next said)
+    by each (Ok next) is said = rw (network_next c.cards head b next w is) (each next said)
     by each (Err why) is said = absurd (none_said e said)
 
 -- a word that is neither a share nor `node` begins a link
-begins_link : (head : Head) (has_cards : Bool) (w : List ℕ) → is_share w ≡ false → is_the w (codes "node") ≡ false
-    → behind_head head has_cards w ≡ with_link head (link_step has_cards begun.Nothing w)
-begins_link head has_cards w share node = by (is_none head.shares) refl
+begins_link : (head : Head) (cards : Cards) (w : List ℕ) → is_share w ≡ false → is_the w (codes "node") ≡ false
+    → behind_head head cards w ≡ with_link head (link_step cards begun.Nothing w)
+begins_link head cards w share node = by (is_none head.shares) refl
   where
-    by : (b : Bool) → is_none head.shares ≡ b → behind_head head has_cards w ≡ with_link head (link_step has_cards begun.Nothing w)
+    by : (b : Bool) → is_none head.shares ≡ b → behind_head head cards w ≡ with_link head (link_step cards begun.Nothing w)
     by true is = rw (is, share, node) refl
     by false is = rw (is, node) refl
 
@@ -103,13 +120,13 @@ StartsLink [] = ⊥
 StartsLink (w ∷ ws) = (is_share w ≡ false) × (is_the w (codes "node") ≡ false)
 
 first_link : (c : Context) (head : Head) (e : LinkBegun) (ws : List (List ℕ)) → StartsLink ws
-    → link_said c.has_cards begun.Nothing ws ≡ Some e → said_by c (line.Network (network.Head head)) ws ≡ Some (line.Network (network.Link head e))
+    → link_said c.cards begun.Nothing ws ≡ Some e → said_by c (line.Network (network.Head head)) ws ≡ Some (line.Network (network.Link head e))
 first_link c head e [] starts said = absurd starts
-first_link c head e (w ∷ ws) starts said = by (link_step c.has_cards begun.Nothing w) refl said
+first_link c head e (w ∷ ws) starts said = by (link_step c.cards begun.Nothing w) refl said
   where
-    by : (r : Result LinkBegun Expected) → link_step c.has_cards begun.Nothing w ≡ r → if_goes_on r (λ next. link_said c.has_cards next ws) ≡ Some e
+    by : (r : Result LinkBegun Expected) → link_step c.cards begun.Nothing w ≡ r → if_goes_on r (λ next. link_said c.cards next ws) ≡ Some e
         → said_by c (line.Network (network.Head head)) (w ∷ ws) ≡ Some (line.Network (network.Link head e))
-    by (Ok next) is said = rw (begins_link head c.has_cards w starts.0 starts.1, is) (network_link c head next e ws said)
+    by (Ok next) is said = rw (begins_link head c.cards w starts.0 starts.1, is) (network_link c head next e ws said)
     by (Err why) is said = absurd (none_said e said)
 
 link_starts : (it : Link) → StartsLink (link_words it)
@@ -119,10 +136,16 @@ link_starts (link.Framed (ends.Listen local) frames) = (refl, refl)
 link_starts (link.Framed (ends.Connect remote) frames) = (refl, refl)
 link_starts (link.Framed (ends.Tap name) frames) = (refl, refl)
 link_starts (link.Framed (ends.Interface name) frames) = (refl, refl)
+link_starts (link.Framed (ends.Group group card) frames) = (refl, refl)
+link_starts (link.Framed (ends.Switch path) frames) = (refl, refl)
+link_starts (link.Framed (ends.Web address) frames) = (refl, refl)
+link_starts (link.Web address) = (refl, refl)
+link_starts (link.Framed (ends.Peers local file) frames) = (refl, refl)
+link_starts (link.Rfc1234 address) = (refl, refl)
 
-behind_again : (c : Context) (head : Head) (it : Link) → IsLink c.has_cards it
+behind_again : (c : Context) (head : Head) (it : Link) → IsLink c.cards it
     → said_by c (line.Network (network.Head head)) (link_words it) ≡ Some (line.Network (network.Link head (begun.Whole it)))
-behind_again c head it is = first_link c head (begun.Whole it) (link_words it) (link_starts it) (link_again c.has_cards it is)
+behind_again c head it is = first_link c head (begun.Whole it) (link_words it) (link_starts it) (link_again c.cards it is)
 
 -- ---- networks
 
@@ -164,9 +187,12 @@ node_after c head node is = by (is_none head.shares) refl
 
 node_after_link : (c : Context) (head : Head) (it : Link) (node : List ℕ) → may_have_node it ≡ true → IsNode node
     → said_by c (line.Network (network.Link head (begun.Whole it))) (codes "node" ∷ bytes_digits node ∷ []) ≡ Some (line.Network (network.Whole head (Some it) node))
-node_after_link c head it node may is = rw (may, node_again node is) refl
+node_after_link c head (link.Web address) node may is = absurd cc
+node_after_link c head (link.Tunnel address) node may is = absurd cc
+node_after_link c head (link.Rfc1234 address) node may is = absurd cc
+node_after_link c head (link.Framed end frames) node may is = rw (may, node_again node is) refl
 
-maybe_node : (c : Context) (head : Head) (it : Option Link) (node : List ℕ) → IsHead head → MayHaveNode c.has_cards it → IsNode node
+maybe_node : (c : Context) (head : Head) (it : Option Link) (node : List ℕ) → IsHead head → MayHaveNode c.cards it → IsNode node
     → said_by c line.Nothing (head_words head ++ maybe_link_words it ++ codes "node" ∷ bytes_digits node ∷ []) ≡ Some (line.Network (network.Whole head it node))
 maybe_node c head None node is may one =
     said-append c line.Nothing (line.Network (network.Head head)) (head_words head ++ []) (codes "node" ∷ bytes_digits node ∷ [])
@@ -177,7 +203,7 @@ maybe_node c head (Some it) node is may one =
     (said-append c line.Nothing (line.Network (network.Head head)) (head_words head) (link_words it) (head_again c head is) ∙ behind_again c head it may.0)
     ∙ node_after_link c head it node may.1 one
 
-network_line : (c : Context) (it : NetworkBegun) → IsNetwork c.has_cards it → IsLine c (line.Network it) (network_words it)
+network_line : (c : Context) (it : NetworkBegun) → IsNetwork c.cards it → IsLine c (line.Network it) (network_words it)
 network_line c network.Nothing is = absurd is
 network_line c (network.Number number) is = absurd is
 network_line c (network.Cost number cost) is = absurd is
@@ -194,12 +220,20 @@ network_line c (network.Link head begun.Listen) is = absurd is.1
 network_line c (network.Link head begun.Connect) is = absurd is.1
 network_line c (network.Link head begun.Tap) is = absurd is.1
 network_line c (network.Link head begun.Interface) is = absurd is.1
+network_line c (network.Link head begun.Multicast) is = absurd is.1
+network_line c (network.Link head (begun.Group group)) is = absurd is.1
+network_line c (network.Link head (begun.Via group)) is = absurd is.1
+network_line c (network.Link head begun.Vde) is = absurd is.1
+network_line c (network.Link head begun.Web) is = absurd is.1
+network_line c (network.Link head begun.Peers) is = absurd is.1
+network_line c (network.Link head (begun.PeersAt local)) is = absurd is.1
+network_line c (network.Link head begun.Rfc1234) is = absurd is.1
 network_line c (network.Link head (begun.End end)) is = absurd is.1
 network_line c (network.Node head it) is = absurd is
 network_line c (network.Whole head it node) is = (maybe_node c head it node is.0 is.1 is.2, refl)
 
-link_line : (c : Context) (b : LinkBegun) → IsWhole c.has_cards b → IsLine c (line.Link b) (codes "link" ∷ begun_words b)
-link_line c (begun.Whole it) is = (line_link c begun.Nothing (begun.Whole it) (link_words it) (link_again c.has_cards it is), refl)
+link_line : (c : Context) (b : LinkBegun) → IsWhole c.cards b → IsLine c (line.Link b) (codes "link" ∷ begun_words b)
+link_line c (begun.Whole it) is = (line_link c begun.Nothing (begun.Whole it) (link_words it) (link_again c.cards it is), refl)
 link_line c begun.Nothing is = absurd is
 link_line c begun.Tunnel is = absurd is
 link_line c begun.Udp is = absurd is
@@ -209,6 +243,14 @@ link_line c begun.Listen is = absurd is
 link_line c begun.Connect is = absurd is
 link_line c begun.Tap is = absurd is
 link_line c begun.Interface is = absurd is
+link_line c begun.Multicast is = absurd is
+link_line c (begun.Group group) is = absurd is
+link_line c (begun.Via group) is = absurd is
+link_line c begun.Vde is = absurd is
+link_line c begun.Web is = absurd is
+link_line c begun.Peers is = absurd is
+link_line c (begun.PeersAt local) is = absurd is
+link_line c begun.Rfc1234 is = absurd is
 link_line c (begun.End end) is = absurd is
 
 -- ---- other lines
@@ -250,6 +292,10 @@ adopt_line : (c : Context) (is_off : Bool) → is_off ≡ true → IsLine c (lin
 adopt_line c false is = absurd cc
 adopt_line c true is = (refl, refl)
 
+peer_line : (c : Context) (it : Option Place) → IsPeer it → IsLine c (line.Peer it) (codes "peer" ∷ peer_words it)
+peer_line c None is = absurd is
+peer_line c (Some place) is = (rw (remote_again place is) refl, refl)
+
 pub line_again : (c : Context) (l : Line) → IsRight c l → IsLine c l (line_words l)
 line_again c line.Nothing is = (refl, refl)
 line_again c (line.Network it) is = network_line c it is
@@ -267,6 +313,8 @@ line_again c (line.Adopt is_off) is = adopt_line c is_off is
 line_again c (line.Rule permits it) is = rule_line c permits it is
 line_again c (line.Route it) is = route_line c it is
 line_again c (line.Service it) is = service_line c it is
+line_again c (line.Origins has_some) is = absurd is
+line_again c (line.Peer it) is = peer_line c it is
 
 -- ---- its words
 
@@ -283,35 +331,43 @@ unfolding head_words
 head_is_words head is =
     (literal (codes "network") (omega arith) refl, (number_is_word head.number, (decimal_is_word head.cost (omega (arith, is.1.1)), (decimal_is_word head.longest (omega (arith, is.2.1)), shares_are_words head.shares is.3))))
 
-maybe_is_words : (has_cards : Bool) (it : Option Link) → MayHaveNode has_cards it → AllByRecursion IsWord (maybe_link_words it)
-maybe_is_words has_cards None may = tt
-maybe_is_words has_cards (Some it) may = link_is_words has_cards it may.0
+maybe_is_words : (cards : Cards) (it : Option Link) → MayHaveNode cards it → AllByRecursion IsWord (maybe_link_words it)
+maybe_is_words cards None may = tt
+maybe_is_words cards (Some it) may = link_is_words cards it may.0
 
-begun_is_words : (has_cards : Bool) (b : LinkBegun) → IsWhole has_cards b → AllByRecursion IsWord (begun_words b)
-begun_is_words has_cards (begun.Whole it) is = link_is_words has_cards it is
-begun_is_words has_cards begun.Nothing is = absurd is
-begun_is_words has_cards begun.Tunnel is = absurd is
-begun_is_words has_cards begun.Udp is = absurd is
-begun_is_words has_cards (begun.UdpFrom local) is = absurd is
-begun_is_words has_cards begun.Tcp is = absurd is
-begun_is_words has_cards begun.Listen is = absurd is
-begun_is_words has_cards begun.Connect is = absurd is
-begun_is_words has_cards begun.Tap is = absurd is
-begun_is_words has_cards begun.Interface is = absurd is
-begun_is_words has_cards (begun.End end) is = absurd is
+begun_is_words : (cards : Cards) (b : LinkBegun) → IsWhole cards b → AllByRecursion IsWord (begun_words b)
+begun_is_words cards (begun.Whole it) is = link_is_words cards it is
+begun_is_words cards begun.Nothing is = absurd is
+begun_is_words cards begun.Tunnel is = absurd is
+begun_is_words cards begun.Udp is = absurd is
+begun_is_words cards (begun.UdpFrom local) is = absurd is
+begun_is_words cards begun.Tcp is = absurd is
+begun_is_words cards begun.Listen is = absurd is
+begun_is_words cards begun.Connect is = absurd is
+begun_is_words cards begun.Tap is = absurd is
+begun_is_words cards begun.Interface is = absurd is
+begun_is_words cards begun.Multicast is = absurd is
+begun_is_words cards (begun.Group group) is = absurd is
+begun_is_words cards (begun.Via group) is = absurd is
+begun_is_words cards begun.Vde is = absurd is
+begun_is_words cards begun.Web is = absurd is
+begun_is_words cards begun.Peers is = absurd is
+begun_is_words cards (begun.PeersAt local) is = absurd is
+begun_is_words cards begun.Rfc1234 is = absurd is
+begun_is_words cards (begun.End end) is = absurd is
 
-network_is_words : (has_cards : Bool) (it : NetworkBegun) → IsNetwork has_cards it → AllByRecursion IsWord (network_words it)
-network_is_words has_cards (network.Head head) is = head_is_words head is
-network_is_words has_cards (network.Link head it) is = append_words (head_words head) (begun_words it) (head_is_words head is.0) (begun_is_words has_cards it is.1)
-network_is_words has_cards (network.Whole head it node) is =
+network_is_words : (cards : Cards) (it : NetworkBegun) → IsNetwork cards it → AllByRecursion IsWord (network_words it)
+network_is_words cards (network.Head head) is = head_is_words head is
+network_is_words cards (network.Link head it) is = append_words (head_words head) (begun_words it) (head_is_words head is.0) (begun_is_words cards it is.1)
+network_is_words cards (network.Whole head it node) is =
     append_words (head_words head ++ maybe_link_words it) (codes "node" ∷ bytes_digits node ∷ [])
-    (append_words (head_words head) (maybe_link_words it) (head_is_words head is.0) (maybe_is_words has_cards it is.1))
+    (append_words (head_words head) (maybe_link_words it) (head_is_words head is.0) (maybe_is_words cards it is.1))
     (literal (codes "node") (omega arith) refl, (node_is_word node is.2, tt))
-network_is_words has_cards network.Nothing is = absurd is
-network_is_words has_cards (network.Number number) is = absurd is
-network_is_words has_cards (network.Cost number cost) is = absurd is
-network_is_words has_cards (network.Routes head routes) is = absurd is
-network_is_words has_cards (network.Node head it) is = absurd is
+network_is_words cards network.Nothing is = absurd is
+network_is_words cards (network.Number number) is = absurd is
+network_is_words cards (network.Cost number cost) is = absurd is
+network_is_words cards (network.Routes head routes) is = absurd is
+network_is_words cards (network.Node head it) is = absurd is
 
 clients_are_words : (most : ℕ) (it : ClientsBegun) → most < 2 ^ 16 → IsClients most it → AllByRecursion IsWord (clients_words it)
 clients_are_words most clients.Nothing low is = absurd is
@@ -347,10 +403,14 @@ adopt_are_words : (is_off : Bool) → AllByRecursion IsWord (adopt_words is_off)
 adopt_are_words false = tt
 adopt_are_words true = (literal (codes "no") (omega arith) refl, tt)
 
+peer_is_words : (it : Option Place) → IsPeer it → AllByRecursion IsWord (peer_words it)
+peer_is_words None is = absurd is
+peer_is_words (Some place) is = (remote_is_word place is, tt)
+
 line_is_words : (c : Context) (l : Line) → IsRight c l → AllByRecursion IsWord (line_words l)
 line_is_words c line.Nothing is = tt
-line_is_words c (line.Network it) is = network_is_words c.has_cards it is
-line_is_words c (line.Link it) is = (literal (codes "link") (omega arith) refl, begun_is_words c.has_cards it is)
+line_is_words c (line.Network it) is = network_is_words c.cards it is
+line_is_words c (line.Link it) is = (literal (codes "link") (omega arith) refl, begun_is_words c.cards it is)
 line_is_words c (line.Extend has_some) is = absurd is
 line_is_words c (line.Clients it) is = (literal (codes "clients") (omega arith) refl, clients_are_words c.most_clients it is.0 is.1)
 line_is_words c (line.Allow has_some) is = absurd is
@@ -364,16 +424,30 @@ line_is_words c (line.Adopt is_off) is = (literal (codes "adopt") (omega arith) 
 line_is_words c (line.Rule permits it) is = rule_is_words permits it is
 line_is_words c (line.Route it) is = (literal (codes "route") (omega arith) refl, route_is_words it is)
 line_is_words c (line.Service it) is = (literal (codes "service") (omega arith) refl, service_is_words it is)
+line_is_words c (line.Origins has_some) is = absurd is
+line_is_words c (line.Peer it) is = (literal (codes "peer") (omega arith) refl, peer_is_words it is)
 
 -- ---- how many they are
 
-link_count : (it : Link) → length (link_words it) ≤ 4
+card_count : (card : List ℕ) → length (card_words card) ≤ 2
+card_count card = elim (cases_Bool (bytes_eq card own_host)) [
+  | inl own ↦ rw own (omega arith)
+  | inr other ↦ rw other (omega arith)
+]
+
+link_count : (it : Link) → length (link_words it) ≤ 5
 link_count (link.Tunnel address) = omega arith
 link_count (link.Framed (ends.Udp local remote) frames) = omega arith
 link_count (link.Framed (ends.Listen local) frames) = omega arith
 link_count (link.Framed (ends.Connect remote) frames) = omega arith
 link_count (link.Framed (ends.Tap name) frames) = omega arith
 link_count (link.Framed (ends.Interface name) frames) = omega arith
+link_count (link.Framed (ends.Group group card) frames) = omega (arith, length-append (card_words card) (frames_word frames ∷ []), card_count card)
+link_count (link.Framed (ends.Switch path) frames) = omega arith
+link_count (link.Framed (ends.Web address) frames) = omega arith
+link_count (link.Web address) = omega arith
+link_count (link.Framed (ends.Peers local file) frames) = omega arith
+link_count (link.Rfc1234 address) = omega arith
 
 shares_count : (shares : Option Shares) → length (shares_words shares) ≤ 2
 shares_count None = omega arith
@@ -383,11 +457,11 @@ head_count : (head : Head) → length (head_words head) ≤ 6
 unfolding head_words
 head_count head = omega (arith, shares_count head.shares)
 
-maybe_count : (it : Option Link) → length (maybe_link_words it) ≤ 4
+maybe_count : (it : Option Link) → length (maybe_link_words it) ≤ 5
 maybe_count None = omega arith
 maybe_count (Some it) = link_count it
 
-begun_count : (b : LinkBegun) → length (begun_words b) ≤ 4
+begun_count : (b : LinkBegun) → length (begun_words b) ≤ 5
 begun_count (begun.Whole it) = link_count it
 begun_count begun.Nothing = omega arith
 begun_count begun.Tunnel = omega arith
@@ -398,9 +472,17 @@ begun_count begun.Listen = omega arith
 begun_count begun.Connect = omega arith
 begun_count begun.Tap = omega arith
 begun_count begun.Interface = omega arith
+begun_count begun.Multicast = omega arith
+begun_count (begun.Group group) = omega arith
+begun_count (begun.Via group) = omega arith
+begun_count begun.Vde = omega arith
+begun_count begun.Web = omega arith
+begun_count begun.Peers = omega arith
+begun_count (begun.PeersAt local) = omega arith
+begun_count begun.Rfc1234 = omega arith
 begun_count (begun.End end) = omega arith
 
-network_count : (it : NetworkBegun) → length (network_words it) ≤ 12
+network_count : (it : NetworkBegun) → length (network_words it) ≤ 13
 network_count (network.Head head) = omega (arith, head_count head)
 network_count (network.Link head it) = omega (arith, length-append (head_words head) (begun_words it), head_count head, begun_count it)
 network_count (network.Whole head it node) =
@@ -411,7 +493,7 @@ network_count (network.Cost number cost) = omega arith
 network_count (network.Routes head routes) = omega arith
 network_count (network.Node head it) = omega arith
 
-line_count : (l : Line) → length (line_words l) ≤ 12
+line_count : (l : Line) → length (line_words l) ≤ 13
 line_count line.Nothing = omega arith
 line_count (line.Network it) = network_count it
 line_count (line.Link it) = omega (arith, begun_count it)
@@ -440,6 +522,9 @@ line_count (line.Adopt true) = omega arith
 line_count (line.Rule permits it) = omega (arith, rule_count (permit_word permits) it)
 line_count (line.Route it) = omega (arith, route_count it)
 line_count (line.Service it) = omega (arith, service_count it)
+line_count (line.Origins has_some) = omega arith
+line_count (line.Peer None) = omega arith
+line_count (line.Peer (Some place)) = omega arith
 
 -- ---- texts
 

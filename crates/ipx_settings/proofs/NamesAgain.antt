@@ -9,9 +9,9 @@ use Rattle.std.specs.Prelude.{codes, decimal}
 use Rattle.ipx_settings.specs.Addresses.{opening, host_of, four_and_port, address_of, named_of, place_of, port_at, remote_of}
 use Rattle.ipx_settings.specs.Cutting.{◌>>=◌, cut_at, parts, dot, colon}
 use Rattle.ipx_settings.specs.Hosts.{octet_of, four_of}
-use Rattle.ipx_settings.specs.Names.{padded, name_room, is_name_byte, is_name, name_of, host_room, is_label_byte, is_label, are_labels, is_host_name}
+use Rattle.ipx_settings.specs.Names.{padded, name_room, is_name_byte, is_name, name_of, is_path_byte, is_path, path_of, is_file, file_of, host_room, is_label_byte, is_label, are_labels, is_host_name}
 use Rattle.ipx_settings.specs.Numbers.{is_digit_to}
-use Rattle.ipx_settings.specs.Right.{IsRemote, IsName}
+use Rattle.ipx_settings.specs.Right.{IsRemote, IsName, IsPath, IsFile}
 use Rattle.ipx_settings.specs.WritingLinks.{name_in, place_words}
 use Rattle.ipx_settings.specs.declared.addresses.Place.{Place}
 use Rattle.ipx_settings.specs.declared.addresses.Place.TheVariants.{At, Named}
@@ -183,6 +183,18 @@ is_name_size name right = grind (arith, nat_tests)
 is_name_bytes : (name : List ℕ) → is_name name ≡ true → list_all is_name_byte name ≡ true
 is_name_bytes name right = grind arith
 
+is_path_size : (path : List ℕ) → is_path path ≡ true → length path < 254
+is_path_size path right = grind (arith, nat_tests)
+
+is_path_bytes : (path : List ℕ) → is_path path ≡ true → list_all is_path_byte path ≡ true
+is_path_bytes path right = grind arith
+
+is_file_size : (file : List ℕ) → is_file file ≡ true → length file < 254
+is_file_size file right = grind (arith, nat_tests)
+
+is_file_bytes : (file : List ℕ) → is_file file ≡ true → list_all is_path_byte file ≡ true
+is_file_bytes file right = grind arith
+
 name_by : (name bytes : List ℕ) (right : Bool) → is_name name ≡ right → name_of name ≡ Some bytes → name_in bytes ≡ name
 name_by name bytes false wrong read = (let none : None ≡ Some bytes = sym (rw wrong refl) ∙ read in cc)
 name_by name bytes true right read =
@@ -195,3 +207,33 @@ name_words bytes is = name_by is.0 bytes (is_name is.0) refl is.2
 
 pub name_again : (bytes : List ℕ) → IsName bytes → name_of (name_in bytes) ≡ Some bytes
 name_again bytes is = ap name_of (name_words bytes is) ∙ is.2
+
+-- ---- paths
+
+-- bytes of paths in their room
+path_is : (path bytes : List ℕ) → padded host_room path ≡ bytes → length path < 254 → list_all is_path_byte path ≡ true → name_in bytes ≡ path
+path_is path bytes same low all =
+    let none : Without 0 path = each_weaker (λ c. is_path_byte c ≡ true) (λ c. c ≢ 0) (λ c passes. isnt is_path_byte 0 c refl passes) path (each_of is_path_byte path all) in
+    ap name_in (sym same) ∙ name_is path host_room low none
+
+path_by : (path bytes : List ℕ) (right : Bool) → is_path path ≡ right → path_of path ≡ Some bytes → name_in bytes ≡ path
+path_by path bytes false wrong read = (let none : None ≡ Some bytes = sym (rw wrong refl) ∙ read in cc)
+path_by path bytes true right read =
+    path_is path bytes (one_value (padded host_room path) bytes (sym (rw right refl) ∙ read)) (is_path_size path right) (is_path_bytes path right)
+
+file_by : (file bytes : List ℕ) (right : Bool) → is_file file ≡ right → file_of file ≡ Some bytes → name_in bytes ≡ file
+file_by file bytes false wrong read = (let none : None ≡ Some bytes = sym (rw wrong refl) ∙ read in cc)
+file_by file bytes true right read =
+    path_is file bytes (one_value (padded host_room file) bytes (sym (rw right refl) ∙ read)) (is_file_size file right) (is_file_bytes file right)
+
+pub path_words : (bytes : List ℕ) (is : IsPath bytes) → name_in bytes ≡ is.0
+path_words bytes is = path_by is.0 bytes (is_path is.0) refl is.2
+
+pub path_again : (bytes : List ℕ) → IsPath bytes → path_of (name_in bytes) ≡ Some bytes
+path_again bytes is = ap path_of (path_words bytes is) ∙ is.2
+
+pub file_words : (bytes : List ℕ) (is : IsFile bytes) → name_in bytes ≡ is.0
+file_words bytes is = file_by is.0 bytes (is_file is.0) refl is.2
+
+pub file_again : (bytes : List ℕ) → IsFile bytes → file_of (name_in bytes) ≡ Some bytes
+file_again bytes is = ap file_of (file_words bytes is) ∙ is.2

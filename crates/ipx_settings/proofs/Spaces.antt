@@ -1,8 +1,10 @@
 use Rattle.std.proofs.Common.{◌≡◌, ℕ, ◌+◌, ◌<◌, List, [], ◌∷◌, ◌++◌, length, refl, sym, ap, ◌∙◌, arith, Option, ◌≤◌, map, flat_map, le-leb, append_assoc, append-nil}
 use Rattle.std.proofs.lemmas.List.{length-append, length-map}
 use Rattle.std.specs.Prelude.{codes}
-use Rattle.ipx_settings.specs.WritingLinks.{spaced, frames_word, end_words, link_words}
+use Rattle.ipx_settings.specs.WritingAddresses.{address_words}
+use Rattle.ipx_settings.specs.WritingLinks.{spaced, frames_word, card_words, end_words, link_words}
 use Rattle.ipx_settings.specs.Writing.{written_size, written_into}
+use Rattle.ipx_settings.specs.declared.addresses.Address.{Address}
 use Rattle.ipx_settings.specs.declared.addresses.HostRange.{HostRange}
 use Rattle.ipx_settings.specs.WritingLines.{socket_word, range_word, sockets_words, list_size, list_into, bytes_digits, head_words, maybe_link_words, network_words}
 use Rattle.ipx_settings.specs.declared.link.End.{End}
@@ -30,9 +32,22 @@ has_words (ends.Listen local) = omega arith
 has_words (ends.Connect remote) = omega arith
 has_words (ends.Tap name) = omega arith
 has_words (ends.Interface name) = omega arith
+has_words (ends.Group group card) = omega arith
+has_words (ends.Switch path) = omega arith
+has_words (ends.Web address) = omega arith
+has_words (ends.Peers local file) = omega arith
 
 pub frames_behind : (end : End) (frames : Frames) → spaced (link_words (link.Framed end frames)) ≡ spaced (end_words end) ++ 32 ∷ frames_word frames
 frames_behind end frames = last_word (end_words end) (frames_word frames) (has_words end)
+
+-- a list of words behind one
+words_behind : (word : List ℕ) (words : List (List ℕ)) → spaced (word ∷ words) ≡ word ++ flat_map (λ next. 32 ∷ next) words
+words_behind word [] = sym (append-nil word)
+words_behind word (next ∷ words) = ap (λ l. word ++ 32 ∷ l) (words_behind next words)
+
+pub card_behind : (group : Address) (card : List ℕ)
+    → spaced (end_words (ends.Group group card)) ≡ codes "qemu-mcast " ++ (address_words group ++ flat_map (λ next. 32 ∷ next) (card_words card))
+card_behind group card = ap (λ l. codes "qemu-mcast " ++ l) (words_behind (address_words group) (card_words card))
 
 -- words behind words
 both_spaced : (front more : List (List ℕ)) → 0 < length front → 0 < length more → spaced (front ++ more) ≡ spaced front ++ 32 ∷ spaced more
@@ -42,6 +57,8 @@ both_spaced (word ∷ front) (next ∷ more) some also = spaced-append word fron
 
 link_some : (it : Link) → 0 < length (link_words it)
 link_some (link.Tunnel address) = omega arith
+link_some (link.Web address) = omega arith
+link_some (link.Rfc1234 address) = omega arith
 link_some (link.Framed end frames) = omega (arith, length-append (end_words end) (frames_word frames ∷ []))
 
 head_some : (head : Head) → 0 < length (head_words head)

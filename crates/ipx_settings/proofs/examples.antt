@@ -1,4 +1,7 @@
 -- Worked examples: each is checked by computing it.
+pub mod Links
+pub mod Origins
+pub mod Peers
 pub mod Nodes
 pub mod Internal
 pub mod Adopt

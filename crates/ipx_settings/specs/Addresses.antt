@@ -1,13 +1,15 @@
 -- Words that are addresses with a port, and what may stand in their place.
-use Rattle.std.specs.Prelude.{ℕ, ◌-◌, ◌^◌, ◌%◌, Bool, ◌==◌, if◌then◌else◌, List, [], ◌∷◌, length, drop, Option, Some, None, slice_index}
+use Rattle.std.specs.Prelude.{ℕ, ◌-◌, ◌^◌, ◌%◌, Bool, false, not, ◌==◌, ◌&&◌, nat_le, if◌then◌else◌, List, [], ◌∷◌, length, drop, replicate, Option, Some, None, slice_index}
 use Rattle.std.specs.Int.{from_be_bytes}
 use mir.Syntax.{w32}
 use Rattle.std.specs.Option.{option_map}
+use Rattle.std.specs.Str.{bytes_eq}
 use Rattle.ipx_settings.specs.Cutting.{◌>>=◌, cut_at, colon, slash}
 use Rattle.ipx_settings.specs.Hosts.{four_of, six_of}
 use Rattle.ipx_settings.specs.Names.{is_host_name, padded, host_room}
 use Rattle.ipx_settings.specs.Numbers.{number_of}
 use Rattle.ipx_settings.specs.declared.addresses.Address.{Address}
+use Rattle.ipx_settings.specs.declared.addresses.Host.{Host}
 use Rattle.ipx_settings.specs.declared.addresses.Host.TheVariants.{Four, Six}
 use Rattle.ipx_settings.specs.declared.addresses.Place.{Place}
 use Rattle.ipx_settings.specs.declared.addresses.Place.TheVariants.{At, Named}
@@ -77,6 +79,41 @@ port_at (Named name port) = port
 -- one that somebody can be reached at
 abbrev pub remote_of : List ℕ → Option Place
 remote_of word = place_of word >>= λ place. if port_at place == 0 then None else Some place
+
+-- ---- groups, and cards of this machine
+
+-- addresses of IPv4 from 224.0.0.0 to 239.255.255.255
+abbrev pub is_multicast : List ℕ → Bool
+is_multicast four = nat_le 224 (slice_index four 0) && nat_le (slice_index four 0) 239
+
+abbrev pub is_group_host : Host → Bool
+is_group_host (Four four) = is_multicast four
+is_group_host (Six six) = false
+
+-- such a one, with a port
+abbrev pub is_group : Address → Bool
+is_group address = is_group_host address.host && not (address.port == 0)
+
+abbrev pub group_of : List ℕ → Option Address
+group_of word = address_of word >>= λ address. if is_group address then Some address else None
+
+-- that of one card: not of none, of a group, or of all
+abbrev pub is_card : List ℕ → Bool
+is_card four = not (bytes_eq four (replicate 4 0)) && not (is_multicast four) && not (bytes_eq four (replicate 4 255))
+
+abbrev pub card_of : List ℕ → Option (List ℕ)
+card_of word = four_of word >>= λ four. if is_card four then Some four else None
+
+abbrev pub is_card_host : Host → Bool
+is_card_host (Four four) = is_card four
+is_card_host (Six six) = false
+
+-- such a one, with a port that others know
+abbrev pub is_at_card : Address → Bool
+is_at_card address = is_card_host address.host && not (address.port == 0)
+
+abbrev pub card_address_of : List ℕ → Option Address
+card_address_of word = address_of word >>= λ address. if is_at_card address then Some address else None
 
 -- ---- ranges of addresses of IPv4
 

@@ -1,11 +1,12 @@
 -- What words begin, and what makes a line of them.
-use Rattle.std.specs.Prelude.{◌≡◌, ℕ, Bool, true, List, [], ◌∷◌, ◌++◌, Option, Some, None, Result, Ok, Err}
+use Rattle.std.specs.Prelude.{◌≡◌, ℕ, true, List, [], ◌∷◌, ◌++◌, Option, Some, None, Result, Ok, Err}
 use Rattle.ipx_settings.specs.Lines.{line_step, line_ends}
 use Rattle.ipx_settings.specs.Links.{link_step}
 use Rattle.ipx_settings.specs.declared.expected.Expected.{Expected}
 use Rattle.ipx_settings.specs.declared.line.Context.{Context}
 use Rattle.ipx_settings.specs.declared.line.Line.{Line}
 use Rattle.ipx_settings.specs.declared.line.Line.TheVariants as line
+use Rattle.ipx_settings.specs.declared.link.Cards.{Cards}
 use Rattle.ipx_settings.specs.declared.link.LinkBegun.{LinkBegun}
 
 abbrev pub if_right : Result Line Expected → (Line → Option Line) → Option Line
@@ -30,6 +31,6 @@ if_goes_on (Ok next) on = on next
 if_goes_on (Err e) on = None
 
 -- what is said of a link, where these words come behind that and all of them are right
-abbrev pub link_said : Bool → LinkBegun → List (List ℕ) → Option LinkBegun
-link_said has_cards begun [] = Some begun
-link_said has_cards begun (word ∷ more) = if_goes_on (link_step has_cards begun word) (λ next. link_said has_cards next more)
+abbrev pub link_said : Cards → LinkBegun → List (List ℕ) → Option LinkBegun
+link_said cards begun [] = Some begun
+link_said cards begun (word ∷ more) = if_goes_on (link_step cards begun word) (λ next. link_said cards next more)

@@ -1,9 +1,10 @@
 -- The words of a line.
 use Rattle.std.specs.Prelude.{ℕ, Bool, true, false, not, if◌then◌else◌, List, [], length, Option, Some, None, Result, Ok, Err, codes, ◌==◌, ◌+◌, ◌∷◌, nat_lt}
 use Rattle.std.specs.Option.{is_some}
-use Rattle.ipx_settings.specs.Addresses.{range_of, is_first}
+use Rattle.ipx_settings.specs.Addresses.{remote_of, range_of, is_first}
 use Rattle.ipx_settings.specs.Internals.{internal_step, internal_ends}
 use Rattle.ipx_settings.specs.Links.{said, is_the, link_step, link_ends}
+use Rattle.ipx_settings.specs.Names.{origin_of}
 use Rattle.ipx_settings.specs.Networks.{network_step, network_ends}
 use Rattle.ipx_settings.specs.Numbers.{number_of, hexadecimal_of}
 use Rattle.ipx_settings.specs.Rules.{rule_step, rule_ends}
@@ -11,6 +12,7 @@ use Rattle.ipx_settings.specs.Statics.{route_step, route_ends, service_step, ser
 use Rattle.ipx_settings.specs.Words.{words, before_mark, most_words}
 use Rattle.ipx_settings.specs.declared.reading.Reading.{Reading}
 use Rattle.ipx_settings.specs.declared.addresses.HostRange.{HostRange}
+use Rattle.ipx_settings.specs.declared.addresses.Place.{Place}
 use Rattle.ipx_settings.specs.declared.expected.Expected.{Expected}
 use Rattle.ipx_settings.specs.declared.expected.Expected.TheVariants as expected
 use Rattle.ipx_settings.specs.declared.internal.InternalBegun.{InternalBegun}
@@ -66,6 +68,8 @@ line_first word =
     else if is_the word (codes "deny") then Ok (line.Rule false rule_begun.Nothing)
     else if is_the word (codes "route") then Ok (line.Route route.Nothing)
     else if is_the word (codes "service") then Ok (line.Service service.Nothing)
+    else if is_the word (codes "origins") then Ok (line.Origins false)
+    else if is_the word (codes "peer") then Ok (line.Peer None)
     else Err expected.Line
 
 -- the most clients, and the most of one address, which are no more
@@ -115,6 +119,15 @@ adopt_step is_off word =
 abbrev pub socket_step : List ℕ → Result Line Expected
 socket_step word = said expected.Socket (λ socket. line.Extend true) (socket_of word)
 
+abbrev pub origin_step : List ℕ → Result Line Expected
+origin_step word = said expected.Origin (λ origin. line.Origins true) (origin_of word)
+
+-- one place where somebody can be reached
+abbrev pub peer_step : Option Place → List ℕ → Result Line Expected
+peer_step begun word =
+    if is_some begun then Err expected.Nothing
+    else said expected.Remote (λ place. line.Peer (Some place)) (remote_of word)
+
 -- a range whose address is 0 behind the bits that count
 abbrev pub range_by : Line → Option HostRange → Result Line Expected
 range_by next None = Err expected.Range
@@ -150,8 +163,8 @@ with_service (Err e) = Err e
 -- a word more
 abbrev pub line_step : Context → Line → List ℕ → Result Line Expected
 line_step c line.Nothing word = line_first word
-line_step c (line.Network begun) word = with_network (network_step c.has_cards begun word)
-line_step c (line.Link begun) word = with_link (link_step c.has_cards begun word)
+line_step c (line.Network begun) word = with_network (network_step c.cards begun word)
+line_step c (line.Link begun) word = with_link (link_step c.cards begun word)
 line_step c (line.Extend has_some) word = socket_step word
 line_step c (line.Clients begun) word = clients_step begun c.most_clients word
 line_step c (line.Allow has_some) word = range_step (line.Allow true) word
@@ -165,6 +178,8 @@ line_step c (line.Adopt is_off) word = adopt_step is_off word
 line_step c (line.Rule permits begun) word = with_rule permits (rule_step begun word)
 line_step c (line.Route begun) word = with_route (route_step begun word)
 line_step c (line.Service begun) word = with_service (service_step begun word)
+line_step c (line.Origins has_some) word = origin_step word
+line_step c (line.Peer begun) word = peer_step begun word
 
 abbrev pub clients_end : ClientsBegun → Bool
 clients_end clients.Nothing = false
@@ -195,6 +210,8 @@ line_ends (line.Adopt is_off) = is_off
 line_ends (line.Rule permits begun) = rule_ends begun
 line_ends (line.Route begun) = route_ends begun
 line_ends (line.Service begun) = service_ends begun
+line_ends (line.Origins has_some) = has_some
+line_ends (line.Peer begun) = is_some begun
 
 abbrev pub fault_of : {A : Type 0} → Result A Expected → Option Expected
 fault_of (Ok a) = None

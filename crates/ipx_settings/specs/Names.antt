@@ -1,5 +1,5 @@
 -- Words that are names.
-use Rattle.std.specs.Prelude.{ℕ, ◌-◌, Bool, false, ◌==◌, ◌&&◌, ◌||◌, nat_lt, if◌then◌else◌, List, [], ◌∷◌, ◌++◌, length, replicate, Option, Some, None, not, slice_index, codes}
+use Rattle.std.specs.Prelude.{ℕ, ◌-◌, Bool, false, ◌==◌, ◌&&◌, ◌||◌, nat_lt, nat_le, if◌then◌else◌, List, [], ◌∷◌, ◌++◌, length, take, drop, replicate, Option, Some, None, not, slice_index, codes}
 use Rattle.std.specs.Char.{is_ascii_digit, is_ascii_alphabetic}
 use Rattle.std.specs.List.{list_all, list_any}
 use Rattle.std.specs.Str.{bytes_eq}
@@ -27,11 +27,61 @@ is_name word =
 abbrev pub name_of : List ℕ → Option (List ℕ)
 name_of word = if is_name word then Some (padded name_room word) else None
 
--- ---- of a host
+-- ---- of a socket in a file system
 
--- bytes of one, with a 0 behind
+-- bytes of one, and those of a host's name with a 0 behind
 abbrev pub host_room : ℕ
 host_room = 254
+
+abbrev pub longest_path : ℕ
+longest_path = 90
+
+abbrev pub is_path_byte : ℕ → Bool
+is_path_byte byte = not (byte == 0)
+
+abbrev pub is_path : List ℕ → Bool
+is_path word = not (length word == 0) && nat_le (length word) longest_path && list_all is_path_byte word
+
+-- (it has the room of a host's name)
+abbrev pub path_of : List ℕ → Option (List ℕ)
+path_of word = if is_path word then Some (padded host_room word) else None
+
+-- ---- of a file: a 0 stands behind it in that room
+
+abbrev pub is_file : List ℕ → Bool
+is_file word = not (length word == 0) && nat_lt (length word) host_room && list_all is_path_byte word
+
+abbrev pub file_of : List ℕ → Option (List ℕ)
+file_of word = if is_file word then Some (padded host_room word) else None
+
+-- ---- of where pages come from
+
+-- bytes of one, with a 0 behind
+abbrev pub origin_room : ℕ
+origin_room = 89
+
+-- printable, and no slash
+abbrev pub is_origin_byte : ℕ → Bool
+is_origin_byte byte = nat_le 33 byte && nat_le byte 126 && not (byte == slash)
+
+-- a host, with a port or without
+abbrev pub is_authority : List ℕ → Bool
+is_authority word = not (length word == 0) && nat_le (length word) 80 && list_all is_origin_byte word
+
+-- what stands behind a word's first bytes, where they are these
+abbrev pub behind : List ℕ → List ℕ → List ℕ
+behind word front = if bytes_eq (take (length front) word) front then drop (length front) word else []
+
+-- (which has room always)
+abbrev pub is_origin : List ℕ → Bool
+is_origin word =
+    nat_lt (length word) origin_room
+    && (bytes_eq word (codes "*") || is_authority (behind word (codes "http://")) || is_authority (behind word (codes "https://")))
+
+abbrev pub origin_of : List ℕ → Option (List ℕ)
+origin_of word = if is_origin word then Some (padded origin_room word) else None
+
+-- ---- of a host
 
 abbrev pub hyphen : ℕ
 hyphen = 45

@@ -5,11 +5,12 @@ use Rattle.ipx_settings.specs.Addresses.{host_bits, is_first}
 use Rattle.ipx_settings.specs.Lines.{most_rate, most_kilobits}
 use Rattle.ipx_settings.specs.Networks.{last_network, least_longest, most_longest, may_have_node}
 use Rattle.ipx_settings.specs.Nodes.{is_single}
-use Rattle.ipx_settings.specs.Right.{AreNumbers, IsLink, IsWord}
+use Rattle.ipx_settings.specs.Right.{AreNumbers, IsRemote, IsLink, IsWord}
 use Rattle.ipx_settings.specs.Rules.{last_route, service_name_of}
 use Rattle.ipx_settings.specs.Statics.{most_hops, last_type, plain_name_of, is_host_node}
 use Rattle.ipx_settings.specs.Words.{most_words}
 use Rattle.ipx_settings.specs.declared.addresses.HostRange.{HostRange}
+use Rattle.ipx_settings.specs.declared.addresses.Place.{Place}
 use Rattle.ipx_settings.specs.declared.internal.InternalBegun.{InternalBegun}
 use Rattle.ipx_settings.specs.declared.internal.InternalBegun.TheVariants as internal
 use Rattle.ipx_settings.specs.declared.line.ClientsBegun.{ClientsBegun}
@@ -19,6 +20,7 @@ use Rattle.ipx_settings.specs.declared.line.Line.{Line}
 use Rattle.ipx_settings.specs.declared.line.Line.TheVariants as line
 use Rattle.ipx_settings.specs.declared.line.RateBegun.{RateBegun}
 use Rattle.ipx_settings.specs.declared.line.RateBegun.TheVariants as rate
+use Rattle.ipx_settings.specs.declared.link.Cards.{Cards}
 use Rattle.ipx_settings.specs.declared.link.Link.{Link}
 use Rattle.ipx_settings.specs.declared.link.LinkBegun.{LinkBegun}
 use Rattle.ipx_settings.specs.declared.link.LinkBegun.TheVariants as begun
@@ -57,19 +59,19 @@ IsHead head =
 abbrev pub IsNode : List ℕ → Type 0
 IsNode node = AreNumbers 6 8 node × (is_single node ≡ true)
 
-abbrev pub MayHaveNode : Bool → Option Link → Type 0
-MayHaveNode has_cards None = Unit {0}
-MayHaveNode has_cards (Some it) = IsLink has_cards it × (may_have_node it ≡ true)
+abbrev pub MayHaveNode : Cards → Option Link → Type 0
+MayHaveNode cards None = Unit {0}
+MayHaveNode cards (Some it) = IsLink cards it × (may_have_node it ≡ true)
 
-abbrev pub IsWhole : Bool → LinkBegun → Type 0
-IsWhole has_cards (begun.Whole it) = IsLink has_cards it
-IsWhole has_cards other = ⊥
+abbrev pub IsWhole : Cards → LinkBegun → Type 0
+IsWhole cards (begun.Whole it) = IsLink cards it
+IsWhole cards other = ⊥
 
-abbrev pub IsNetwork : Bool → NetworkBegun → Type 0
-IsNetwork has_cards (network.Head head) = IsHead head
-IsNetwork has_cards (network.Link head it) = IsHead head × IsWhole has_cards it
-IsNetwork has_cards (network.Whole head it node) = IsHead head × MayHaveNode has_cards it × IsNode node
-IsNetwork has_cards other = ⊥
+abbrev pub IsNetwork : Cards → NetworkBegun → Type 0
+IsNetwork cards (network.Head head) = IsHead head
+IsNetwork cards (network.Link head it) = IsHead head × IsWhole cards it
+IsNetwork cards (network.Whole head it node) = IsHead head × MayHaveNode cards it × IsNode node
+IsNetwork cards other = ⊥
 
 -- ---- other lines
 
@@ -135,11 +137,16 @@ IsService (service.Whole it) =
     Within 1 last_type it.kind × IsPlainName it.name × IsServiceAddress it.address × Within 1 most_hops it.hops × IsNode it.via
 IsService other = ⊥
 
+-- where another place of a network is
+abbrev pub IsPeer : Option Place → Type 0
+IsPeer None = ⊥
+IsPeer (Some place) = IsRemote place
+
 -- what a line without a list can say, read in that context
 abbrev pub IsRight : Context → Line → Type 0
 IsRight c line.Nothing = Unit {0}
-IsRight c (line.Network it) = IsNetwork c.has_cards it
-IsRight c (line.Link it) = IsWhole c.has_cards it
+IsRight c (line.Network it) = IsNetwork c.cards it
+IsRight c (line.Link it) = IsWhole c.cards it
 IsRight c (line.Extend has_some) = ⊥
 IsRight c (line.Clients it) = (c.most_clients < 2 ^ 16) × IsClients c.most_clients it
 IsRight c (line.Allow has_some) = ⊥
@@ -153,6 +160,8 @@ IsRight c (line.Adopt is_off) = is_off ≡ true
 IsRight c (line.Rule permits it) = IsRule it
 IsRight c (line.Route it) = IsRoute it
 IsRight c (line.Service it) = IsService it
+IsRight c (line.Origins has_some) = ⊥
+IsRight c (line.Peer it) = IsPeer it
 
 -- a range whose address is its first
 abbrev pub IsRange : HostRange → Type 0
@@ -165,8 +174,8 @@ AreListed Is them = (0 < length them) × (length them < most_words) × AllByRecu
 -- what a right line says; of a list, only that there is one
 abbrev pub IsSaid : Context → Line → Type 0
 IsSaid c line.Nothing = Unit {0}
-IsSaid c (line.Network it) = IsNetwork c.has_cards it
-IsSaid c (line.Link it) = IsWhole c.has_cards it
+IsSaid c (line.Network it) = IsNetwork c.cards it
+IsSaid c (line.Link it) = IsWhole c.cards it
 IsSaid c (line.Extend has_some) = has_some ≡ true
 IsSaid c (line.Clients it) = IsClients c.most_clients it
 IsSaid c (line.Allow has_some) = has_some ≡ true
@@ -180,3 +189,5 @@ IsSaid c (line.Adopt is_off) = is_off ≡ true
 IsSaid c (line.Rule permits it) = IsRule it
 IsSaid c (line.Route it) = IsRoute it
 IsSaid c (line.Service it) = IsService it
+IsSaid c (line.Origins has_some) = has_some ≡ true
+IsSaid c (line.Peer it) = IsPeer it

@@ -5,8 +5,9 @@ use Rattle.std.specs.Int.{to_be_bytes, w16, w32}
 use Rattle.std.specs.Net.Text.{ipv4_text}
 use Rattle.ipx_settings.specs.Words.{most_words}
 use Rattle.ipx_settings.specs.Writing.{written_size, written_into}
-use Rattle.ipx_settings.specs.WritingLinks.{spaced, name_in, link_words}
+use Rattle.ipx_settings.specs.WritingLinks.{spaced, name_in, place_words, link_words}
 use Rattle.ipx_settings.specs.declared.addresses.HostRange.{HostRange}
+use Rattle.ipx_settings.specs.declared.addresses.Place.{Place}
 use Rattle.ipx_settings.specs.declared.internal.InternalBegun.{InternalBegun}
 use Rattle.ipx_settings.specs.declared.internal.InternalBegun.TheVariants as internal
 use Rattle.ipx_settings.specs.declared.line.ClientsBegun.{ClientsBegun}
@@ -109,6 +110,10 @@ abbrev pub adopt_words : Bool → List (List ℕ)
 adopt_words false = []
 adopt_words true = codes "no" ∷ []
 
+abbrev pub peer_words : Option Place → List (List ℕ)
+peer_words None = []
+peer_words (Some place) = place_words place ∷ []
+
 -- a socket by four digits, or a type of services
 abbrev pub socket_word : ℕ → List ℕ
 socket_word socket = bytes_digits (to_be_bytes w16 socket)
@@ -176,6 +181,8 @@ line_words (line.Adopt is_off) = codes "adopt" ∷ adopt_words is_off
 line_words (line.Rule permits it) = rule_words (permit_word permits) it
 line_words (line.Route it) = codes "route" ∷ route_words it
 line_words (line.Service it) = codes "service" ∷ service_words it
+line_words (line.Origins has_some) = codes "origins" ∷ []
+line_words (line.Peer it) = codes "peer" ∷ peer_words it
 
 abbrev pub range_word : HostRange → List ℕ
 range_word range = ipv4_text range.first ++ codes "/" ++ decimal range.bits

@@ -1,11 +1,20 @@
 //! Words that are addresses with a port, and what may stand in their place.
 ghost use Rattle.std.specs.Prelude.{◌≡◌, ◌<◌, ◌≤◌, length, IsTrue, Some, []};
-ghost use Rattle.ipx_settings.specs.Addresses.{port_of, host_of, port_behind, six_and_port, four_and_port, address_of, named_of, place_of, port_at, remote_of, range_of, is_first};
+ghost use Rattle.ipx_settings.specs.Addresses.{port_of, host_of, port_behind, six_and_port, four_and_port, address_of, named_of, place_of, port_at, remote_of, is_multicast, is_group, group_of, is_card, card_of, is_at_card, card_address_of, range_of, is_first};
 
 use crate::cutting::cut_at;
 use crate::hosts::{four, six};
 use crate::names::{host_name, is_host_name};
 use crate::numbers::short;
+use crate::words::is_word;
+
+/// The host of an address without one: this machine.
+pub(crate) const OWN_HOST: [u8; 4] = [127, 0, 0, 1];
+
+/// The first number of the first groups, and of the last ones.
+const FIRST_GROUPS: u8 = 224;
+
+const LAST_GROUPS: u8 = 239;
 
 /// The host of an address.
 ///
@@ -61,7 +70,7 @@ fn read_host(word: &[u8]) -> Option<[u8; 4]>
     ensures { result ≡ host_of word.now }
 {
     if word.is_empty() {
-        Some([127, 0, 0, 1])
+        Some(OWN_HOST)
     } else {
         four(word)
     }
@@ -158,6 +167,71 @@ pub(crate) fn read_remote(word: &[u8]) -> Option<Place>
 {
     let place = read_place(word)?;
     if place.port() == 0 { None } else { Some(place) }
+}
+
+fn is_multicast(four: [u8; 4]) -> bool
+    ensures { result ≡ is_multicast four }
+{
+    FIRST_GROUPS <= four[0] && four[0] <= LAST_GROUPS
+}
+
+/// Whether an address is that of a group of IPv4, with a port.
+fn is_group(address: Address) -> bool
+    ensures { result ≡ is_group address }
+{
+    match address.host {
+        Host::Four(four) => is_multicast(four) && address.port != 0,
+        Host::Six(_) => false,
+    }
+}
+
+/// The address of a group.
+pub(crate) fn read_group(word: &[u8]) -> Option<Address>
+    ensures { result ≡ group_of word.now }
+{
+    let address = read_address(word)?;
+    if is_group(address) {
+        Some(address)
+    } else {
+        None
+    }
+}
+
+/// Whether it may be that of one card: not of none, of a group, or of all.
+fn is_card(four: [u8; 4]) -> bool
+    ensures { result ≡ is_card four }
+{
+    !is_word(&four, &[0; 4]) && !is_multicast(four) && !is_word(&four, &[255; 4])
+}
+
+/// The address of a card of this machine.
+pub(crate) fn read_card(word: &[u8]) -> Option<[u8; 4]>
+    ensures { result ≡ card_of word.now }
+{
+    let four = four(word)?;
+    if is_card(four) { Some(four) } else { None }
+}
+
+/// Whether an address is that of one card, with a port that others know.
+fn is_at_card(address: Address) -> bool
+    ensures { result ≡ is_at_card address }
+{
+    match address.host {
+        Host::Four(four) => is_card(four) && address.port != 0,
+        Host::Six(_) => false,
+    }
+}
+
+/// The address of a card of this machine, with a port.
+pub(crate) fn read_card_address(word: &[u8]) -> Option<Address>
+    ensures { result ≡ card_address_of word.now }
+{
+    let address = read_address(word)?;
+    if is_at_card(address) {
+        Some(address)
+    } else {
+        None
+    }
 }
 
 /// The range that a word is: HOST/BITS, or a HOST alone for all its bits.

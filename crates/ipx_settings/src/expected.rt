@@ -97,4 +97,20 @@ pub enum Expected {
     ServiceName,
     /// Where a service is offered: its network, node and socket.
     ServiceAddress,
+    /// The address of a group, with a port.
+    Group,
+    /// `via`, or a kind of frames.
+    ViaOrFrames,
+    /// The address of a card.
+    Card,
+    /// The path of a switch.
+    Switch,
+    /// A kind of frames, or nothing more.
+    FramesOrNothing,
+    /// Where a page comes from.
+    Origin,
+    /// The path of a file with a key.
+    KeyFile,
+    /// The address of a card, with a port.
+    CardAndPort,
 }

@@ -1,5 +1,5 @@
 //! What follows from the definitions alone, for every line.
-ghost use Rattle.std.specs.Prelude.{◌≡◌, ℕ, Bool, true, map, ◌+◌, ◌<◌, ◌≤◌, List, length, take, None, Some};
+ghost use Rattle.std.specs.Prelude.{◌≡◌, ℕ, true, map, ◌+◌, ◌<◌, ◌≤◌, List, length, take, None, Some};
 ghost use Rattle.std.specs.List.{AllByRecursion};
 ghost use Rattle.ipx_settings.specs.Addresses.{address_of, range_of};
 ghost use Rattle.ipx_settings.specs.Beginnings.{IsLine, BeginLine, link_said};
@@ -15,6 +15,7 @@ ghost use Rattle.ipx_settings.specs.declared.expected.Expected.{Expected};
 ghost use Rattle.ipx_settings.specs.declared.line.Context.{Context};
 ghost use Rattle.ipx_settings.specs.declared.line.Line.{Line};
 ghost use Rattle.ipx_settings.specs.declared.line.Line.TheVariants.{Nothing, Extend, Allow, Trust};
+ghost use Rattle.ipx_settings.specs.declared.link.Cards.{Cards};
 ghost use Rattle.ipx_settings.specs.declared.link.Link.{Link};
 ghost use Rattle.ipx_settings.specs.declared.link.LinkBegun.TheVariants as begun;
 
@@ -42,9 +43,9 @@ pub fn addresses_are_read_again()
 
 /// So is a link.
 pub fn links_are_read_again()
-    ensures right { (has_cards : Bool) (words : List (List ℕ)) (link : Link) → AllByRecursion IsWord words → link_said has_cards begun.Nothing words ≡ Some (begun.Whole link) → IsLink has_cards link }
-    ensures again { (has_cards : Bool) (link : Link) → IsLink has_cards link → link_said has_cards begun.Nothing (link_words link) ≡ Some (begun.Whole link) }
-    ensures once { (has_cards : Bool) (a b : Link) → IsLink has_cards a → IsLink has_cards b → spaced (link_words a) ≡ spaced (link_words b) → a ≡ b }
+    ensures right { (cards : Cards) (words : List (List ℕ)) (link : Link) → AllByRecursion IsWord words → link_said cards begun.Nothing words ≡ Some (begun.Whole link) → IsLink cards link }
+    ensures again { (cards : Cards) (link : Link) → IsLink cards link → link_said cards begun.Nothing (link_words link) ≡ Some (begun.Whole link) }
+    ensures once { (cards : Cards) (a b : Link) → IsLink cards a → IsLink cards b → spaced (link_words a) ≡ spaced (link_words b) → a ≡ b }
 {}
 
 /// And so is a line.

@@ -1,11 +1,12 @@
 //! A line, word by word.
 ghost use Rattle.std.specs.Prelude.{◌≡◌};
-ghost use Rattle.ipx_settings.specs.Lines.{rate_or_none, socket_of, share_behind, line_first, clients_step, rate_step, strangers_step, kilobits_step, nodes_step, adopt_step, socket_step, range_step, with_route, with_service, line_step, line_ends, ended};
+ghost use Rattle.ipx_settings.specs.Lines.{rate_or_none, socket_of, share_behind, line_first, clients_step, rate_step, strangers_step, kilobits_step, nodes_step, adopt_step, socket_step, origin_step, peer_step, range_step, with_route, with_service, line_step, line_ends, ended};
 
-use crate::addresses::{HostRange, read_range};
+use crate::addresses::{HostRange, Place, read_range, read_remote};
 use crate::expected::Expected;
 use crate::internal::InternalBegun;
-use crate::link::LinkBegun;
+use crate::link::{Cards, LinkBegun};
+use crate::names::origin;
 use crate::network::NetworkBegun;
 use crate::numbers::{hexadecimal, number, short};
 use crate::rule::RuleBegun;
@@ -22,8 +23,8 @@ const MOST_KILOBITS: u32 = 10_000_000;
 /// See the example of [`Reading`](crate::Reading).
 #[derive(Clone, Copy, Debug, PartialEq, Eq)]
 pub struct Context {
-    /// Whether this system has TAPs and interfaces.
-    pub has_cards: bool,
+    /// Which cards this system has.
+    pub cards: Cards,
     /// Whether the line stands below a tunnel, whose clients have addresses.
     pub is_below_tunnel: bool,
     /// The most clients of a network.
@@ -89,6 +90,10 @@ pub enum Line {
     Route(RouteBegun),
     /// A service, alike.
     Service(ServiceBegun),
+    /// Where pages may come from whose programs are clients, one or more.
+    Origins(bool),
+    /// Another place of the network.
+    Peer(Option<Place>),
 }
 
 /// A number a second, or 0 for `none`.
@@ -145,6 +150,10 @@ fn first(word: &[u8]) -> Result<Line, Expected>
         Ok(Line::Route(RouteBegun::Nothing))
     } else if is_word(word, b"service") {
         Ok(Line::Service(ServiceBegun::Nothing))
+    } else if is_word(word, b"origins") {
+        Ok(Line::Origins(false))
+    } else if is_word(word, b"peer") {
+        Ok(Line::Peer(None))
     } else {
         Err(Expected::Line)
     }
@@ -262,6 +271,28 @@ fn socket_step(word: &[u8]) -> Result<Line, Expected>
     }
 }
 
+fn origin_step(word: &[u8]) -> Result<Line, Expected>
+    ensures { result ≡ origin_step word.now }
+{
+    match origin(word) {
+        Some(_) => Ok(Line::Origins(true)),
+        None => Err(Expected::Origin),
+    }
+}
+
+/// One place where somebody can be reached.
+fn peer_step(begun: Option<Place>, word: &[u8]) -> Result<Line, Expected>
+    ensures { result ≡ peer_step begun word.now }
+{
+    if begun.is_some() {
+        return Err(Expected::Nothing);
+    }
+    match read_remote(word) {
+        Some(place) => Ok(Line::Peer(Some(place))),
+        None => Err(Expected::Remote),
+    }
+}
+
 /// A range whose address is 0 behind the bits that count.
 fn range_step(line: Line, word: &[u8]) -> Result<Line, Expected>
     ensures { result ≡ range_step line word.now }
@@ -305,11 +336,11 @@ impl Line {
     {
         match self {
             Line::Nothing => first(word),
-            Line::Network(begun) => match begun.step(context.has_cards, word) {
+            Line::Network(begun) => match begun.step(context.cards, word) {
                 Ok(next) => Ok(Line::Network(next)),
                 Err(expected) => Err(expected),
             },
-            Line::Link(begun) => match begun.step(context.has_cards, word) {
+            Line::Link(begun) => match begun.step(context.cards, word) {
                 Ok(next) => Ok(Line::Link(next)),
                 Err(expected) => Err(expected),
             },
@@ -332,6 +363,8 @@ impl Line {
             },
             Line::Route(begun) => with_route(begun.step(word)),
             Line::Service(begun) => with_service(begun.step(word)),
+            Line::Origins(_) => origin_step(word),
+            Line::Peer(begun) => peer_step(begun, word),
         }
     }
 
@@ -356,6 +389,8 @@ impl Line {
             Line::Rule(_, begun) => begun.ends(),
             Line::Route(begun) => begun.ends(),
             Line::Service(begun) => begun.ends(),
+            Line::Origins(has_some) => has_some,
+            Line::Peer(begun) => begun.is_some(),
         }
     }
 

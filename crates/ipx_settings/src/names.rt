@@ -2,14 +2,21 @@
 ghost use Rattle.std.specs.Prelude.{◌≡◌, ◌<◌, ◌≤◌, ◌&&◌, length};
 ghost use Rattle.std.specs.Char.{is_ascii_alphabetic};
 ghost use Rattle.std.specs.List.{list_all, list_any};
-ghost use Rattle.ipx_settings.specs.Names.{is_name_byte, is_name, name_of, name_room, host_room, is_label_byte, is_label, are_labels, is_host_name, padded};
+ghost use Rattle.ipx_settings.specs.Names.{is_name_byte, is_name, name_of, name_room, is_path_byte, is_path, path_of, is_file, file_of, origin_room, is_origin_byte, is_authority, behind, is_origin, origin_of, host_room, is_label_byte, is_label, are_labels, is_host_name, padded};
 ghost use Rattle.ipx_settings.specs.Cutting.{dot, parts};
 
 use crate::cutting::cut_at;
 use crate::words::is_word;
 
-/// Bytes of the name of an interface or a TAP, with a 0 behind; and of a host's.
+/// Bytes of the name of an interface or a TAP, with a 0 behind; of a socket's path; and of a host's name or a file's path, with a 0 behind.
 pub(crate) const NAME_ROOM: usize = 16;
+
+const LONGEST_PATH: usize = 90;
+
+/// Bytes of an origin, with a 0 behind; and of the host in it, with its port.
+const ORIGIN_ROOM: usize = 89;
+
+const LONGEST_AUTHORITY: usize = 80;
 
 pub(crate) const HOST_ROOM: usize = 254;
 
@@ -47,6 +54,115 @@ pub(crate) fn name(word: &[u8]) -> Option<[u8; 16]>
     let (front, _) = name.split_at_mut(word.len());
     front.copy_from_slice(word);
     Some(name)
+}
+
+fn is_path_byte(byte: u8) -> bool
+    ensures { result ≡ is_path_byte byte }
+{
+    byte != 0
+}
+
+fn are_path_bytes(word: &[u8]) -> bool
+    ensures { result ≡ list_all is_path_byte word.now }
+{
+    word.iter().all(|byte| is_path_byte(*byte))
+}
+
+/// Whether it is a path that a socket may have.
+fn is_path(word: &[u8]) -> bool
+    ensures { result ≡ is_path word.now }
+{
+    !word.is_empty() && word.len() <= LONGEST_PATH && are_path_bytes(word)
+}
+
+/// A path, with zeros behind it.
+pub(crate) fn path(word: &[u8]) -> Option<[u8; 254]>
+    ensures { result ≡ path_of word.now }
+{
+    if is_path(word) {
+        Some(host_name(word))
+    } else {
+        None
+    }
+}
+
+/// Whether it is the path of a file.
+fn is_file(word: &[u8]) -> bool
+    ensures { result ≡ is_file word.now }
+{
+    !word.is_empty() && word.len() < HOST_ROOM && are_path_bytes(word)
+}
+
+/// The path of a file, with zeros behind it.
+pub(crate) fn file(word: &[u8]) -> Option<[u8; 254]>
+    ensures { result ≡ file_of word.now }
+{
+    if is_file(word) {
+        Some(host_name(word))
+    } else {
+        None
+    }
+}
+
+fn is_origin_byte(byte: u8) -> bool
+    ensures { result ≡ is_origin_byte byte }
+{
+    b'!' <= byte && byte <= b'~' && byte != b'/'
+}
+
+fn are_origin_bytes(word: &[u8]) -> bool
+    ensures { result ≡ list_all is_origin_byte word.now }
+{
+    word.iter().all(|byte| is_origin_byte(*byte))
+}
+
+/// Whether it is the host of an origin, with its port or without.
+fn is_authority(word: &[u8]) -> bool
+    ensures { result ≡ is_authority word.now }
+{
+    !word.is_empty() && word.len() <= LONGEST_AUTHORITY && are_origin_bytes(word)
+}
+
+/// What stands behind the first bytes of a word, where these are a scheme's.
+fn behind<'a>(word: &'a [u8], scheme: &[u8]) -> &'a [u8]
+    ensures { result.now ≡ behind word.now scheme.now }
+{
+    if word.len() < scheme.len() {
+        return b"";
+    }
+    let (front, rest) = word.split_at(scheme.len());
+    if is_word(front, scheme) { rest } else { b"" }
+}
+
+/// Whether pages may come from there: `*`, or a scheme and a host.
+fn is_origin(word: &[u8]) -> bool
+    ensures { result ≡ is_origin word.now }
+{
+    word.len() < ORIGIN_ROOM
+        && (is_word(word, b"*")
+            || is_authority(behind(word, b"http://"))
+            || is_authority(behind(word, b"https://")))
+}
+
+fn padded_origin(word: &[u8]) -> [u8; 89]
+    requires { length word.now < origin_room }
+    ensures { result ≡ padded origin_room word.now }
+{
+    let mut origin = [0; 89];
+    let (front, _) = origin.split_at_mut(word.len());
+    front.copy_from_slice(word);
+    origin
+}
+
+/// The origin of pages, with zeros behind it.
+pub fn origin(word: &[u8]) -> Option<[u8; 89]>
+    ensures { result ≡ origin_of word.now }
+{
+    if is_origin(word) {
+        Some(padded_origin(word))
+    } else {
+        None
+    }
 }
 
 fn is_label_byte(byte: u8) -> bool
@@ -107,7 +223,7 @@ pub(crate) fn is_host_name(name: &[u8]) -> bool
     name.len() < HOST_ROOM && are_labels(name)
 }
 
-/// The name of a host, with zeros behind it.
+/// The name of a host, or a path, with zeros behind it.
 pub(crate) fn host_name(name: &[u8]) -> [u8; 254]
     requires { length name.now < host_room }
     ensures { result ≡ padded host_room name.now }

@@ -1,9 +1,9 @@
 //! What a line says of a network.
 ghost use Rattle.std.specs.Prelude.{◌≡◌};
-ghost use Rattle.ipx_settings.specs.Networks.{is_share, behind_head, may_have_node, behind_link, routes_behind, services_behind, node_behind, network_step, network_ends, number_in, head_in, link_in, node_in};
+ghost use Rattle.ipx_settings.specs.Networks.{is_share, with_link, behind_head, may_have_node, behind_link, routes_behind, services_behind, node_behind, network_step, network_ends, number_in, head_in, link_in, node_in};
 
 use crate::expected::Expected;
-use crate::link::{End, Link, LinkBegun};
+use crate::link::{Cards, End, Link, LinkBegun, behind_whole};
 use crate::nodes::node;
 use crate::numbers::{hexadecimal, short};
 use crate::words::is_word;
@@ -92,9 +92,19 @@ fn services_behind(head: Head, routes: u16, word: &[u8]) -> Result<NetworkBegun,
     }
 }
 
+/// The line of a network that goes on with a link.
+fn linked(head: Head, step: Result<LinkBegun, Expected>) -> Result<NetworkBegun, Expected>
+    ensures { result ≡ with_link head step }
+{
+    match step {
+        Ok(link) => Ok(NetworkBegun::Link(head, link)),
+        Err(expected) => Err(expected),
+    }
+}
+
 /// A word behind what stands before a link.
-fn behind_head(head: Head, has_cards: bool, word: &[u8]) -> Result<NetworkBegun, Expected>
-    ensures { result ≡ behind_head head has_cards word.now }
+fn behind_head(head: Head, cards: Cards, word: &[u8]) -> Result<NetworkBegun, Expected>
+    ensures { result ≡ behind_head head cards word.now }
 {
     if head.shares.is_none() && is_share(word) {
         return routes_behind(head, word);
@@ -102,18 +112,17 @@ fn behind_head(head: Head, has_cards: bool, word: &[u8]) -> Result<NetworkBegun,
     if is_word(word, b"node") {
         return Ok(NetworkBegun::Node(head, None));
     }
-    match LinkBegun::Nothing.step(has_cards, word) {
-        Ok(link) => Ok(NetworkBegun::Link(head, link)),
-        Err(expected) => Err(expected),
-    }
+    linked(head, LinkBegun::Nothing.step(cards, word))
 }
 
-/// Whether the gateway may be given a node on a link: in a tunnel and on an interface it has one.
+/// Whether the gateway may be given a node on a link: in a tunnel and on an interface it has one, and its address is one.
 fn may_have_node(link: Link) -> bool
     ensures { result ≡ may_have_node link }
 {
     match link {
         Link::Tunnel(_) => false,
+        Link::Web(_) => false,
+        Link::Rfc1234(_) => false,
         Link::Framed(End::Interface(_), _) => false,
         _ => true,
     }
@@ -123,12 +132,15 @@ fn may_have_node(link: Link) -> bool
 fn behind_link(
     head: Head,
     begun: LinkBegun,
-    has_cards: bool,
+    cards: Cards,
     word: &[u8],
 ) -> Result<NetworkBegun, Expected>
-    ensures { result ≡ behind_link head begun has_cards word.now }
+    ensures { result ≡ behind_link head begun cards word.now }
 {
     if let LinkBegun::Whole(link) = begun {
+        if let Link::Web(_) = link {
+            return linked(head, behind_whole(link, word));
+        }
         if !may_have_node(link) {
             return Err(Expected::Nothing);
         }
@@ -137,10 +149,7 @@ fn behind_link(
         }
         return Ok(NetworkBegun::Node(head, Some(link)));
     }
-    match begun.step(has_cards, word) {
-        Ok(link) => Ok(NetworkBegun::Link(head, link)),
-        Err(expected) => Err(expected),
-    }
+    linked(head, begun.step(cards, word))
 }
 
 /// The gateway's node.
@@ -155,8 +164,8 @@ fn node_behind(head: Head, link: Option<Link>, word: &[u8]) -> Result<NetworkBeg
 
 impl NetworkBegun {
     /// A word more.
-    pub(crate) fn step(self, has_cards: bool, word: &[u8]) -> Result<NetworkBegun, Expected>
-        ensures { result ≡ network_step has_cards self word.now }
+    pub(crate) fn step(self, cards: Cards, word: &[u8]) -> Result<NetworkBegun, Expected>
+        ensures { result ≡ network_step cards self word.now }
     {
         match self {
             NetworkBegun::Nothing => match hexadecimal(word, 8, 1, LAST_NETWORK) {
@@ -176,9 +185,9 @@ impl NetworkBegun {
                 })),
                 None => Err(Expected::Longest),
             },
-            NetworkBegun::Head(head) => behind_head(head, has_cards, word),
+            NetworkBegun::Head(head) => behind_head(head, cards, word),
             NetworkBegun::Routes(head, routes) => services_behind(head, routes, word),
-            NetworkBegun::Link(head, link) => behind_link(head, link, has_cards, word),
+            NetworkBegun::Link(head, link) => behind_link(head, link, cards, word),
             NetworkBegun::Node(head, link) => node_behind(head, link, word),
             NetworkBegun::Whole(_, _, _) => Err(Expected::Nothing),
         }

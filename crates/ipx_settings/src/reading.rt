@@ -16,7 +16,7 @@ const MOST_WORDS: usize = 32;
 ///
 /// ```
 /// let context = Context {
-///     has_cards: true,
+///     cards: Cards::All,
 ///     is_below_tunnel: false,
 ///     most_clients: 4096,
 /// };

@@ -2,14 +2,15 @@
 ghost use Rattle.std.specs.Prelude.{◌≡◌, ◌+◌, ◌*◌, ◌<◌, ◌≤◌, ◌∷◌, [], ◌++◌, length, take, codes, decimal, Some};
 ghost use Rattle.ipx_settings.specs.Writing.{written_size, written_into};
 ghost use Rattle.ipx_settings.specs.WritingLinks.{spaced, link_words};
-ghost use Rattle.ipx_settings.specs.WritingLines.{bytes_digits, head_words, maybe_link_words, begun_words, network_words, rate_word, clients_words, rates_words, strangers_words, kilobits_words, nodes_words, internal_words, adopt_words, line_words};
+ghost use Rattle.ipx_settings.specs.WritingLines.{bytes_digits, head_words, maybe_link_words, begun_words, network_words, rate_word, clients_words, rates_words, strangers_words, kilobits_words, nodes_words, internal_words, adopt_words, peer_words, line_words};
 
+use crate::addresses::Place;
 use crate::internal::InternalBegun;
 use crate::line::{ClientsBegun, Line, RateBegun};
 use crate::link::{Link, LinkBegun};
 use crate::network::{Head, NetworkBegun};
 use crate::putting::{LONGEST_NUMBER, give, put_bytes, put_number, put_text};
-use crate::writing_links::{LONGEST_LINK, put_link};
+use crate::writing_links::{LONGEST_LINK, LONGEST_PLACE, put_link, put_place};
 use crate::writing_rules::put_rule;
 use crate::writing_statics::{put_route, put_service};
 
@@ -263,6 +264,21 @@ fn put_adopt(room: &mut [u8], at: usize, is_off: bool) -> usize
     }
 }
 
+fn put_peer(room: &mut [u8], at: usize, place: &Option<Place>) -> usize
+    requires { at + 5 + LONGEST_PLACE ≤ length room.old }
+    ensures room { take result room.new ≡ take at room.old ++ spaced (codes "peer" ∷ peer_words place.now) }
+    ensures most { result ≤ at + 5 + LONGEST_PLACE }
+    ensures size { length room.new ≡ length room.old }
+{
+    match place {
+        None => put_text(room, at, b"peer"),
+        Some(place) => {
+            let at = put_text(room, at, b"peer ");
+            put_place(room, at, place)
+        }
+    }
+}
+
 /// Puts a line but for its list.
 fn put_line(room: &mut [u8], at: usize, line: &Line) -> usize
     requires { at + LONGEST_LINE ≤ length room.old }
@@ -287,6 +303,8 @@ fn put_line(room: &mut [u8], at: usize, line: &Line) -> usize
         Line::Rule(permits, rule) => put_rule(room, at, *permits, rule),
         Line::Route(route) => put_route(room, at, *route),
         Line::Service(service) => put_service(room, at, service),
+        Line::Origins(_) => put_text(room, at, b"origins"),
+        Line::Peer(place) => put_peer(room, at, place),
     }
 }
 

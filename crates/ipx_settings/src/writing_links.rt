@@ -1,16 +1,18 @@
 //! Links in words.
-ghost use Rattle.std.specs.Prelude.{◌≡◌, ◌+◌, ◌<◌, ◌≤◌, ◌==◌, ◌++◌, length, take};
+ghost use Rattle.std.specs.Prelude.{◌≡◌, ◌+◌, ◌<◌, ◌≤◌, ◌==◌, ◌∷◌, ◌++◌, length, take, flat_map};
 ghost use Rattle.std.specs.List.{position, position_or_len};
 ghost use Rattle.ipx_settings.specs.Writing.{written_size, written_into};
-ghost use Rattle.ipx_settings.specs.WritingLinks.{spaced, name_in, place_words, frames_word, end_words, link_words};
+ghost use Rattle.ipx_settings.specs.WritingLinks.{spaced, name_in, place_words, frames_word, card_words, end_words, link_words};
 
-use crate::addresses::Place;
+use crate::addresses::{OWN_HOST, Place};
 use crate::link::{End, Frames, Link};
 use crate::names::{HOST_ROOM, NAME_ROOM};
 use crate::putting::{LONGEST_NUMBER, give, put_number, put_text};
+use crate::words::is_word;
 use crate::writing_addresses::{LONGEST_ADDRESS, put_address};
+use crate::writing_hosts::{LONGEST_FOUR, put_four};
 
-const LONGEST_PLACE: usize = HOST_ROOM + 1 + LONGEST_NUMBER;
+pub(crate) const LONGEST_PLACE: usize = HOST_ROOM + 1 + LONGEST_NUMBER;
 
 const LONGEST_END: usize = 10 + LONGEST_ADDRESS + LONGEST_PLACE;
 
@@ -47,7 +49,7 @@ pub(crate) fn put_name(room: &mut [u8], at: usize, bytes: &[u8]) -> usize
 }
 
 /// Puts where somebody else is.
-fn put_place(room: &mut [u8], at: usize, place: &Place) -> usize
+pub(crate) fn put_place(room: &mut [u8], at: usize, place: &Place) -> usize
     requires { at + LONGEST_PLACE ≤ length room.old }
     ensures room { take result room.new ≡ take at room.old ++ place_words place.now }
     ensures most { result ≤ at + LONGEST_PLACE }
@@ -77,6 +79,20 @@ fn put_frames(room: &mut [u8], at: usize, frames: Frames) -> usize
         Frames::Snap => put_text(room, at, b"snap"),
         Frames::Any => put_text(room, at, b"auto"),
     }
+}
+
+/// Puts the card of a group behind it, where it isn't this machine's own.
+fn put_card(room: &mut [u8], at: usize, card: [u8; 4]) -> usize
+    requires { at + 5 + LONGEST_FOUR ≤ length room.old }
+    ensures room { take result room.new ≡ take at room.old ++ flat_map (λ word. 32 ∷ word) (card_words card) }
+    ensures most { result ≤ at + 5 + LONGEST_FOUR }
+    ensures size { length room.new ≡ length room.old }
+{
+    if is_word(&card, &OWN_HOST) {
+        return at;
+    }
+    let at = put_text(room, at, b" via ");
+    put_four(room, at, card)
 }
 
 /// Puts a link but for its kind of frames.
@@ -109,11 +125,29 @@ fn put_end(room: &mut [u8], at: usize, end: &End) -> usize
             let at = put_text(room, at, b"interface ");
             put_name(room, at, name)
         }
+        End::Group(group, card) => {
+            let at = put_text(room, at, b"qemu-mcast ");
+            let at = put_address(room, at, group);
+            put_card(room, at, *card)
+        }
+        End::Switch(path) => {
+            let at = put_text(room, at, b"vde ");
+            put_name(room, at, path)
+        }
+        End::Web(address) => {
+            let at = put_text(room, at, b"web ");
+            put_address(room, at, address)
+        }
+        End::Peers(local, file) => {
+            let at = put_text(room, at, b"peers ");
+            let at = put_address(room, at, local);
+            let at = put_text(room, at, b" ");
+            put_name(room, at, file)
+        }
     }
 }
 
 /// Puts a link.
-#[tactic(auto, using(crate::proofs::Spaces::frames_behind))]
 pub(crate) fn put_link(room: &mut [u8], at: usize, link: &Link) -> usize
     requires { at + LONGEST_LINK ≤ length room.old }
     ensures room { take result room.new ≡ take at room.old ++ spaced (link_words link.now) }
@@ -123,6 +157,14 @@ pub(crate) fn put_link(room: &mut [u8], at: usize, link: &Link) -> usize
     match link {
         Link::Tunnel(address) => {
             let at = put_text(room, at, b"dosbox ");
+            put_address(room, at, address)
+        }
+        Link::Web(address) => {
+            let at = put_text(room, at, b"web ");
+            put_address(room, at, address)
+        }
+        Link::Rfc1234(address) => {
+            let at = put_text(room, at, b"rfc1234 ");
             put_address(room, at, address)
         }
         Link::Framed(end, frames) => {

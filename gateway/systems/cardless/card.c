@@ -1,11 +1,13 @@
-/* Neither Windows nor POSIX has TAPs or packet sockets: no configuration gets this far with one. */
+/* POSIX has neither TAPs nor packet sockets: no configuration gets this far with one. */
 #include "systems/card.h"
 
 #include <errno.h>
 
-bool has_cards(void)
+#include "ipxr_settings.h"
+
+uint8_t has_cards(void)
 {
-    return false;
+    return IPXR_CARDS_NONE;
 }
 
 static int refused(void)
@@ -80,4 +82,16 @@ card_state interface_state(const char *name, unsigned *index, uint8_t card[6])
     (void)card;
     *index = 0;
     return CARD_ABSENT;
+}
+
+size_t cards_list(card_listed *list, size_t room)
+{
+    (void)list;
+    (void)room;
+    return 0;
+}
+
+const char *cards_lack(void)
+{
+    return "the gateway has no interfaces on this system";
 }

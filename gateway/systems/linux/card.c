@@ -27,9 +27,9 @@ enum { KEPT = 8 << 20 };
 /* (a name of a configuration has room for any name of an interface, and no more) */
 typedef char has_room_for_names[NAME_ROOM == IF_NAMESIZE ? 1 : -1];
 
-bool has_cards(void)
+uint8_t has_cards(void)
 {
-    return true;
+    return IPXR_CARDS_ALL;
 }
 
 /* Asks the system about an interface, or tells it: by one socket that is kept for that, so that it can also be asked where no more files

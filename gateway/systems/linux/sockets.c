@@ -17,10 +17,14 @@
 #include <unistd.h>
 
 /* Bytes that the system keeps: of what has come, while the gateway sends to many; and of what it sends, as to machines that are gone. */
-enum { KEPT = 8 << 20, KEPT_SENT = 8 << 20, MOST_WAITING = 128 };
+enum { KEPT = 8 << 20, KEPT_SENT = 8 << 20, KEPT_LITTLE = 32 << 10, MOST_WAITING = 128 };
 
-/* What goes to strangers may hold one part in so many of what the system keeps of what is sent. */
-enum { STRANGERS_PART = 4 };
+/* Bytes that may be under way on a connection, or wait: to somebody far much has to be under way. */
+enum { UNDER_WAY = 256 << 10 };
+
+/* What goes to strangers may hold one part in so many of what the system keeps of what is sent, and what goes to clients who may be gone, with
+ * that. */
+enum { STRANGERS_PART = 4, LISTENERS_PART = 2 };
 
 /* How often something is sent where the call tells only what somebody complained of: the next complaint may be there already. */
 enum { MOST_TRIES = 16 };
@@ -54,7 +58,7 @@ static address of_system(const struct sockaddr_in *at)
     return it;
 }
 
-/* An address of either kind as the system takes it. Clients are of IPv4, which is the faster. */
+/* An address of either kind as the system takes it. Clients are of IPv4; places are of either. */
 typedef union any_address {
     struct sockaddr one;
     struct sockaddr_in four;
@@ -223,12 +227,27 @@ int listener_open(address *local)
     return kept_if(is_well && listen(fd, MOST_WAITING) == 0, fd);
 }
 
-/* Frames go out at once; and whether the other end is there is known after a minute. */
+/* (each connection has what its listener has; of what goes each keeps little anyway) */
+void listener_keep_little(int listener)
+{
+    (void)set(listener, SOL_SOCKET, SO_RCVBUF, KEPT_LITTLE);
+}
+
+/* Of what goes the system keeps so many bytes that it hasn't sent yet, since what the other end is too slow for is to be dropped, not late. What
+ * is under way is more: else somebody far would get no more than that in the time of a word there and back, however wide the way is. */
+static void keep_unsent(int fd, int bytes)
+{
+    (void)set(fd, SOL_SOCKET, SO_SNDBUF, UNDER_WAY);
+    (void)set(fd, IPPROTO_TCP, TCP_NOTSENT_LOWAT, bytes);
+}
+
+/* Frames go out at once; little waits; and whether the other end is there is known after a minute. */
 static int plain_connection(int fd)
 {
     if (fd < 0)
         return fd;
     (void)set(fd, IPPROTO_TCP, TCP_NODELAY, 1);
+    keep_unsent(fd, KEPT_LITTLE);
     (void)set(fd, SOL_SOCKET, SO_KEEPALIVE, 1);
     (void)set(fd, IPPROTO_TCP, TCP_KEEPIDLE, SILENT);
     (void)set(fd, IPPROTO_TCP, TCP_KEEPINTVL, AGAIN);
@@ -264,6 +283,11 @@ int connection_state(int fd)
     return fault == 0 ? 1 : -1;
 }
 
+void connection_finish(int fd)
+{
+    (void)shutdown(fd, SHUT_WR);
+}
+
 void connection_drop(int *fd)
 {
     struct linger none = {.l_onoff = 1, .l_linger = 0};
@@ -279,6 +303,12 @@ bool connection_is_own(int fd)
         return false;
     address own = of_any(&at), other = of_any(&with);
     return same_address(&own, &other);
+}
+
+void connection_keep_little(int fd, int bytes)
+{
+    (void)set(fd, SOL_SOCKET, SO_RCVBUF, bytes);
+    keep_unsent(fd, bytes);
 }
 
 /* (while something is under way nobody is asked whether he is there, and Linux tries for a quarter of an hour. Who acknowledges, but takes
@@ -365,7 +395,7 @@ bool datagrams_receive(int fd, arrivals *in)
     int count = recvmmsg(fd, all->list, MOST_TOGETHER, MSG_TRUNC, NULL);
     for (int k = 0; k < count; k++) {
         in->list[k].length = all->list[k].msg_len;
-        in->list[k].from = of_system(&all->places[k].four); /* (it is asked for in the tunnel, which is of IPv4) */
+        in->list[k].from = of_any(&all->places[k]);
         in->list[k].is_sent = is_sent_here(&all->places[k]);
         all->list[k].msg_hdr.msg_namelen = sizeof all->places[k];
     }
@@ -385,38 +415,52 @@ bool datagram_send(int fd, const uint8_t *bytes, size_t length)
     return sent == (ssize_t)length;
 }
 
-/* Whether there is room for what goes to somebody who may not be there. Linux asks for a card that it doesn't know and keeps what is to go
- * to it meanwhile, in the socket's room: so made-up neighbours could fill it, until nothing goes to anybody. */
-static bool has_room_for_stranger(int fd)
+/* Whether there is room for what goes to somebody who may not be there: it is kept in one part of so many. Linux asks for a card that it doesn't
+ * know and keeps what is to go to it meanwhile, in the socket's room: so made-up neighbours could fill it, until nothing goes to anybody. */
+static bool has_room_in(int fd, int part)
 {
     int kept, room;
     socklen_t size = sizeof room;
-    return ioctl(fd, SIOCOUTQ, &kept) != 0 || getsockopt(fd, SOL_SOCKET, SO_SNDBUF, &room, &size) != 0 || kept < room / STRANGERS_PART;
+    return ioctl(fd, SIOCOUTQ, &kept) != 0 || getsockopt(fd, SOL_SOCKET, SO_SNDBUF, &room, &size) != 0 || kept < room / part;
 }
 
 static bool is_sent(int fd, const departure *what, int how)
 {
-    struct sockaddr_in at = to_system(&what->to);
-    return sendto(fd, what->bytes, what->length, how, (const struct sockaddr *)&at, sizeof at) == (ssize_t)what->length;
+    any_address at;
+    socklen_t size = to_any(&what->to, &at);
+    return sendto(fd, what->bytes, what->length, how, &at.one, size) == (ssize_t)what->length;
 }
 
 bool datagram_send_to(int fd, const departure *what)
 {
-    if (has_room_for_stranger(fd))
+    if (has_room_in(fd, STRANGERS_PART))
         return is_sent(fd, what, 0);
     errno = EAGAIN;
     return false;
 }
 
-/* (of one who is known to be there Linux doesn't ask. Else it would, a while after he was switched off, and keep what goes to him) */
-size_t datagrams_send(int fd, const departure *list, size_t count)
+/* How many of the first may go now: all, or, where much waits already, those before the first who may be gone. */
+static size_t may_go(int fd, const departure *list, size_t count)
+{
+    size_t surely_there = 0;
+    while (surely_there < count && !list[surely_there].may_be_gone)
+        surely_there++;
+    return surely_there == count || has_room_in(fd, LISTENERS_PART) ? count : surely_there;
+}
+
+/* (of one who is known to be there Linux doesn't ask. Else it would, a while after he was switched off, and keep what goes to him. Where the card
+ * to him has lost its carrier it does ask) */
+size_t datagrams_send(int fd, const departure *list, size_t most)
 {
     batch all;
-    if (count == 1) /* (a call for one is the faster) */
-        return is_sent(fd, list, MSG_CONFIRM);
+    size_t count = may_go(fd, list, most);
+    if (count == 0)
+        errno = EAGAIN;
+    if (count <= 1) /* (a call for one is the faster) */
+        return count == 1 && is_sent(fd, list, MSG_CONFIRM);
     for (size_t k = 0; k < count; k++) {
-        all.places[k].four = to_system(&list[k].to);
-        set_piece(&all, k, (uint8_t *)list[k].bytes, list[k].length, sizeof all.places[k].four);
+        socklen_t size = to_any(&list[k].to, &all.places[k]);
+        set_piece(&all, k, (uint8_t *)list[k].bytes, list[k].length, size);
     }
     int sent = sendmmsg(fd, all.list, (unsigned)count, MSG_CONFIRM);
     return sent > 0 ? (size_t)sent : 0;

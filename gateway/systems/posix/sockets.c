@@ -14,7 +14,10 @@
 
 /* Bytes that the system keeps of what has come, while the gateway sends to many, and of what it sends: as much as it allows, from this much
  * on down. */
-enum { KEPT = 8 << 20, LEAST_KEPT = 64 << 10, MOST_WAITING = 128 };
+enum { KEPT = 8 << 20, LEAST_KEPT = 64 << 10, KEPT_LITTLE = 32 << 10, MOST_WAITING = 128 };
+
+/* Bytes that may be under way on a connection, or wait: to somebody far much has to be under way. */
+enum { UNDER_WAY = 256 << 10 };
 
 /* How often something is sent where the call tells only what somebody complained of: the next complaint may be there already. */
 enum { MOST_TRIES = 16 };
@@ -230,6 +233,12 @@ int listener_open(address *local)
     return kept_if(set(fd, SOL_SOCKET, SO_REUSEADDR, 1) && is_bound(fd, local) && listen(fd, MOST_WAITING) == 0, fd);
 }
 
+/* (each connection has what its listener has; of what goes each keeps little anyway) */
+void listener_keep_little(int listener)
+{
+    (void)set(listener, SOL_SOCKET, SO_RCVBUF, KEPT_LITTLE);
+}
+
 /* How a connection is asked whether its other end is there, as each system names it: after how many seconds of silence, .. */
 static const struct {
     int option, value;
@@ -251,6 +260,18 @@ static const struct {
 #endif
 };
 
+/* The system keeps so many bytes of what it hasn't sent yet; where it can't tell that from what is under way, as many as may be under way. */
+static void keep_unsent(int fd, int bytes)
+{
+    (void)set(fd, SOL_SOCKET, SO_SNDBUF, UNDER_WAY);
+#ifdef TCP_NOTSENT_LOWAT
+    (void)set(fd, IPPROTO_TCP, TCP_NOTSENT_LOWAT, bytes);
+#else
+    (void)bytes;
+#endif
+}
+
+/* (the system keeps little of what goes: what the other end is too slow for is to be dropped, not late) */
 static int plain_connection(int fd)
 {
     if (fd < 0)
@@ -258,6 +279,7 @@ static int plain_connection(int fd)
 #ifdef SO_NOSIGPIPE
     (void)set(fd, SOL_SOCKET, SO_NOSIGPIPE, 1);
 #endif
+    keep_unsent(fd, KEPT_LITTLE);
     (void)set(fd, SOL_SOCKET, SO_KEEPALIVE, 1);
     for (size_t k = 0; k < sizeof ASKS / sizeof *ASKS; k++)
         (void)set(fd, IPPROTO_TCP, ASKS[k].option, ASKS[k].value);
@@ -292,6 +314,11 @@ int connection_state(int fd)
     return fault == 0 ? 1 : -1;
 }
 
+void connection_finish(int fd)
+{
+    (void)shutdown(fd, SHUT_WR);
+}
+
 void connection_drop(int *fd)
 {
     struct linger none = {.l_onoff = 1, .l_linger = 0};
@@ -307,6 +334,12 @@ bool connection_is_own(int fd)
         return false;
     address own = of_any(&at), other = of_any(&with);
     return same_address(&own, &other);
+}
+
+void connection_keep_little(int fd, int bytes)
+{
+    (void)set(fd, SOL_SOCKET, SO_RCVBUF, bytes);
+    keep_unsent(fd, bytes);
 }
 
 /* (POSIX has no way to ask. The system ends such a connection by itself: macOS after a minute, by its option, the BSDs after some more) */
@@ -402,8 +435,9 @@ bool datagram_send(int fd, const uint8_t *bytes, size_t length)
  * sockets' room) */
 bool datagram_send_to(int fd, const departure *what)
 {
-    struct sockaddr_in at = to_system(&what->to);
-    return sendto(fd, what->bytes, what->length, 0, (const struct sockaddr *)&at, sizeof at) == (ssize_t)what->length;
+    any_address at;
+    socklen_t size = to_any(&what->to, &at);
+    return sendto(fd, what->bytes, what->length, 0, &at.one, size) == (ssize_t)what->length;
 }
 
 size_t datagrams_send(int fd, const departure *list, size_t count)

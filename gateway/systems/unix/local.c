@@ -11,6 +11,7 @@
 #include <unistd.h>
 
 #include "systems/sockets.h"
+#include "systems/unix/passed.h"
 
 /* (macOS has no such type: there nobody waits who connects) */
 #ifndef SOCK_NONBLOCK
@@ -20,12 +21,19 @@
 /* What the owner and the group may not: nothing; all others: anything. Nobody executes it. */
 enum { WITHHELD = 0117, MOST_WAITING = 16 };
 
-/* The file that was made, by which it is known again. */
+/* The file that was made, by which it is known again; and its path, by which they are known who ask there. */
 static struct stat made;
+static const char *asked_at = "";
 
 bool has_local(void)
 {
     return true;
+}
+
+/* (the service listens there) */
+const char *local_usual(void)
+{
+    return "/run/ipxr-gateway/status";
 }
 
 /* The address of a path; false where it is too long. */
@@ -105,22 +113,52 @@ int local_open(const char *path)
     if (!named(path, &at))
         return -1;
     remove_left(path);
+    asked_at = path;
     int fd = socket(AF_UNIX, SOCK_STREAM, 0);
     if (fd < 0 || (unwaiting(fd) && is_bound(fd, &at) && lstat(path, &made) == 0 && listen(fd, MOST_WAITING) == 0))
         return fd;
     return closed(fd);
 }
 
+/* (whoever waits to come in may have passed something already) */
 void local_close(int *fd, const char *path)
 {
     struct stat found;
     if (*fd >= 0 && lstat(path, &found) == 0 && found.st_dev == made.st_dev && found.st_ino == made.st_ino)
         unlink(path);
+    if (*fd >= 0)
+        (void)shutdown(*fd, SHUT_RDWR);
+    for (int next = *fd < 0 ? -1 : accept(*fd, NULL, NULL); next >= 0; next = accept(*fd, NULL, NULL)) {
+        (void)unwaiting(next);
+        local_end(&next);
+    }
     close_any(fd);
 }
 
 int local_take(int listener)
 {
-    int fd = accept(listener, NULL, NULL);
-    return fd < 0 || unwaiting(fd) ? fd : closed(fd);
+    errno = EBUSY;
+    int fd = passed_is_closing(asked_at, 1) ? -1 : accept(listener, NULL, NULL);
+    if (fd < 0 || unwaiting(fd))
+        return fd;
+    return closed(fd);
+}
+
+ssize_t local_receive(int fd, uint8_t *bytes, size_t room)
+{
+    struct iovec piece = {bytes, room};
+    struct msghdr what = {.msg_iov = &piece, .msg_iovlen = 1};
+    passed them;
+    ssize_t length = passed_receive(fd, &what, &them);
+    if (them.count > 0)
+        passed_close(&them, asked_at);
+    if (!them.is_any)
+        return length;
+    errno = EPROTO;
+    return -1;
+}
+
+void local_end(int *fd)
+{
+    passed_end(fd, asked_at);
 }

@@ -3,6 +3,7 @@
 #include <errno.h>
 #include <fcntl.h>
 #include <string.h>
+#include <sys/resource.h>
 #include <sys/stat.h>
 #include <unistd.h>
 
@@ -22,6 +23,16 @@ FILE *file_open_at_once(const char *name)
     return file;
 }
 
+/* (whose file it isn't can't make it his own: he may read it by its group, as a service does) */
+bool file_is_secret(FILE *file)
+{
+    struct stat about;
+    if (fstat(fileno(file), &about) != 0)
+        return false;
+    mode_t others = about.st_uid == geteuid() ? S_IRWXG | S_IRWXO : S_IRWXO;
+    return (about.st_mode & others) == 0;
+}
+
 bool file_is_fifo(const char *name)
 {
     struct stat about;
@@ -31,6 +42,13 @@ bool file_is_fifo(const char *name)
 FILE *text_open(char **text, size_t *length)
 {
     return open_memstream(text, length);
+}
+
+void text_close(FILE *file, char **text, size_t *length)
+{
+    (void)text;
+    (void)length;
+    fclose(file);
 }
 
 const char *fault_words(void)
@@ -49,9 +67,20 @@ static void open_first_files(void)
         close(opened);
 }
 
+/* As many files may be open as the system lets a program have: what others pass by mistake or spite takes some for a while. */
+static void raise_files(void)
+{
+    struct rlimit most;
+    if (getrlimit(RLIMIT_NOFILE, &most) != 0)
+        return;
+    most.rlim_cur = most.rlim_max;
+    (void)setrlimit(RLIMIT_NOFILE, &most);
+}
+
 int main(int count, char **words)
 {
     open_first_files();
+    raise_files();
     setvbuf(stdout, NULL, _IOLBF, BUFSIZ);
     return gateway_main(count, words);
 }

@@ -12,13 +12,20 @@ static bool hears_itself(SOCKET fd)
            connect(fd, (const struct sockaddr *)&own, size) == 0 && ioctlsocket(fd, FIONBIO, &yes) == 0;
 }
 
-void bell_hang(void)
+SOCKET socket_to_itself(void)
 {
     SOCKET made = socket(AF_INET, SOCK_DGRAM, 0);
-    if (made != INVALID_SOCKET && hears_itself(made))
-        bell = made;
-    else if (made != INVALID_SOCKET)
-        closesocket(made);
+    if (made == INVALID_SOCKET || hears_itself(made))
+        return made;
+    int why = WSAGetLastError();
+    closesocket(made);
+    WSASetLastError(why);
+    return INVALID_SOCKET;
+}
+
+void bell_hang(void)
+{
+    bell = socket_to_itself();
 }
 
 void bell_ring(void)

@@ -7,6 +7,9 @@
 
 #include "systems/windows/net.h"
 
+/* A socket that hears itself alone, and doesn't wait; or INVALID_SOCKET. */
+SOCKET socket_to_itself(void);
+
 void bell_hang(void);
 void bell_ring(void);
 

@@ -22,10 +22,17 @@ FILE *file_open(const char *name, const char *how)
     return file;
 }
 
-/* (nobody asks for it: there is no order to read a configuration anew) */
+/* (to open a file of this system never waits) */
 FILE *file_open_at_once(const char *name)
 {
     return file_open(name, "rb");
+}
+
+/* (who may read it lists say, which folders hand down) */
+bool file_is_secret(FILE *file)
+{
+    (void)file;
+    return true;
 }
 
 /* (to open a pipe of this system never waits) */
@@ -35,10 +42,26 @@ bool file_is_fifo(const char *name)
     return false;
 }
 
-/* (nobody asks for one: there is no order to read a configuration anew) */
+/* A file of its own in the folder for such files, which is gone once it is closed. */
 FILE *text_open(char **text, size_t *length)
 {
+    wchar_t folder[MAX_PATH + 1], name[MAX_PATH + 1];
     *text = NULL;
     *length = 0;
-    return NULL;
+    DWORD size = GetTempPathW(MAX_PATH, folder);
+    if (size == 0 || size > MAX_PATH || GetTempFileNameW(folder, L"ipx", 0, name) == 0)
+        return NULL;
+    return _wfopen(name, L"w+bTD");
+}
+
+void text_close(FILE *file, char **text, size_t *length)
+{
+    long size = ftell(file);
+    *text = size >= 0 ? malloc((size_t)size + 1) : NULL;
+    if (*text != NULL) {
+        rewind(file);
+        *length = fread(*text, 1, (size_t)size, file);
+        (*text)[*length] = '\0';
+    }
+    fclose(file);
 }

@@ -4,12 +4,16 @@
 #include <errno.h>
 #include <string.h>
 
+#include "systems/windows/cards.h"
 #include "systems/windows/net.h"
 #include <mstcpip.h>
 #include <mswsock.h>
 
 /* Bytes that the system keeps for the gateway, while it sends to many. */
-enum { KEPT = 1 << 20, MOST_WAITING = 128 };
+enum { KEPT = 1 << 20, KEPT_LITTLE = 32 << 10, MOST_WAITING = 128 };
+
+/* Bytes that may be under way on a connection, or wait: to somebody far much has to be under way. */
+enum { UNDER_WAY = 256 << 10 };
 
 /* Milliseconds of silence, after which a connection is asked whether it is there; and each until it is asked again, which Windows does ten
  * times. Together a minute. */
@@ -27,8 +31,10 @@ void close_any(int *fd)
 {
     int closed = *fd;
     *fd = -1;
-    if (closed >= 0)
-        closesocket((SOCKET)closed);
+    if (closed < 0)
+        return;
+    card_closed(closed);
+    closesocket((SOCKET)closed);
 }
 
 /* ---- Addresses ---- */
@@ -170,7 +176,14 @@ int listener_open(address *local)
     return kept_if(is_bound(fd, local) && answered(listen((SOCKET)fd, MOST_WAITING)) == 0, fd);
 }
 
-/* Frames go out at once; whether the other end is there is known after a minute; and a byte that somebody sends out of band is no fault,
+/* (each connection has what its listener has; of what goes each keeps little anyway) */
+void listener_keep_little(int listener)
+{
+    (void)set(listener, SOL_SOCKET, SO_RCVBUF, KEPT_LITTLE);
+}
+
+/* Frames go out at once; the system keeps little of what goes, since what the other end is too slow for is to be dropped, not late; whether
+ * that is there is known after a minute; and a byte that somebody sends out of band is no fault,
  * which is what it would be told as again and again. */
 static int plain_connection(int fd)
 {
@@ -178,6 +191,7 @@ static int plain_connection(int fd)
     DWORD ignored;
     if (fd >= 0) {
         (void)set(fd, IPPROTO_TCP, TCP_NODELAY, 1);
+        (void)set(fd, SOL_SOCKET, SO_SNDBUF, UNDER_WAY);
         (void)set(fd, SOL_SOCKET, SO_OOBINLINE, 1);
         (void)WSAIoctl((SOCKET)fd, SIO_KEEPALIVE_VALS, &asks, sizeof asks, NULL, 0, &ignored, NULL, NULL);
     }
@@ -218,6 +232,11 @@ int connection_state(int fd)
     return -1;
 }
 
+void connection_finish(int fd)
+{
+    (void)shutdown((SOCKET)fd, SD_SEND);
+}
+
 void connection_drop(int *fd)
 {
     struct linger none = {.l_onoff = 1, .l_linger = 0};
@@ -233,6 +252,12 @@ bool connection_is_own(int fd)
         return false;
     address own = of_any(&at), other = of_any(&with);
     return same_address(&own, &other);
+}
+
+void connection_keep_little(int fd, int bytes)
+{
+    (void)set(fd, SOL_SOCKET, SO_RCVBUF, bytes);
+    (void)set(fd, SOL_SOCKET, SO_SNDBUF, UNDER_WAY);
 }
 
 /* (Windows ends a connection by itself on which nobody acknowledges what is under way, before a minute is over) */
@@ -280,15 +305,15 @@ bool datagrams_receive(int fd, arrivals *in)
 
 bool datagram_send(int fd, const uint8_t *bytes, size_t length)
 {
-    return connection_send(fd, bytes, length) == (ssize_t)length;
+    return is_card(fd) ? card_send(fd, bytes, length) : connection_send(fd, bytes, length) == (ssize_t)length;
 }
 
 /* (Windows keeps one datagram for a machine that doesn't answer, and no others wait for it) */
 bool datagram_send_to(int fd, const departure *what)
 {
-    struct sockaddr_in at = to_system(&what->to);
-    int length = (int)what->length;
-    return answered(sendto((SOCKET)fd, (const char *)what->bytes, length, 0, (const struct sockaddr *)&at, sizeof at)) == length;
+    any_address at;
+    int length = (int)what->length, size = to_any(&what->to, &at);
+    return answered(sendto((SOCKET)fd, (const char *)what->bytes, length, 0, &at.one, size)) == length;
 }
 
 size_t datagrams_send(int fd, const departure *list, size_t count)

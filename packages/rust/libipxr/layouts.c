@@ -12,12 +12,13 @@
 #include "ipxr_configuration.h"
 #include "ipxr_fates.h"
 #include "ipxr_edge.h"
+#include "ipxr_peers.h"
 
 #define FIELD(name, field) offsetof(name, field), sizeof(((name *)0)->field)
 
-extern const size_t ipxr_rust_layouts[733];
+extern const size_t ipxr_rust_layouts[790];
 
-const size_t ipxr_rust_layouts[733] = {
+const size_t ipxr_rust_layouts[790] = {
     sizeof(ipxr), FIELD(ipxr, made), FIELD(ipxr, at),
     sizeof(ipxr_port), FIELD(ipxr_port, network), FIELD(ipxr_port, node), FIELD(ipxr_port, cost), FIELD(ipxr_port,
         longest), FIELD(ipxr_port, routes), FIELD(ipxr_port, services),
@@ -125,6 +126,11 @@ const size_t ipxr_rust_layouts[733] = {
         FIELD(ipxr_carrier, remote), FIELD(ipxr_carrier, host), FIELD(ipxr_carrier, name),
     sizeof(ipxr_sockets), FIELD(ipxr_sockets, list), FIELD(ipxr_sockets, count),
     sizeof(ipxr_setting_ranges), FIELD(ipxr_setting_ranges, list), FIELD(ipxr_setting_ranges, count),
+    sizeof(ipxr_origin), FIELD(ipxr_origin, text),
+    sizeof(ipxr_origins), FIELD(ipxr_origins, list), FIELD(ipxr_origins, count),
+    sizeof(ipxr_setting_peer), FIELD(ipxr_setting_peer, line), FIELD(ipxr_setting_peer, at), FIELD(ipxr_setting_peer,
+        host),
+    sizeof(ipxr_setting_peers), FIELD(ipxr_setting_peers, list), FIELD(ipxr_setting_peers, count),
     sizeof(ipxr_rules), FIELD(ipxr_rules, list), FIELD(ipxr_rules, count),
     sizeof(ipxr_static_routes), FIELD(ipxr_static_routes, list), FIELD(ipxr_static_routes, count),
     sizeof(ipxr_static_services), FIELD(ipxr_static_services, list), FIELD(ipxr_static_services, count),
@@ -139,11 +145,11 @@ const size_t ipxr_rust_layouts[733] = {
         routes), FIELD(ipxr_network_setting, services), FIELD(ipxr_network_setting, is_of_several),
         FIELD(ipxr_network_setting, has_node), FIELD(ipxr_network_setting, node), FIELD(ipxr_network_setting, sockets),
         FIELD(ipxr_network_setting, adopt_line), FIELD(ipxr_network_setting, rules), FIELD(ipxr_network_setting,
-        static_routes), FIELD(ipxr_network_setting, static_services),
+        static_routes), FIELD(ipxr_network_setting, static_services), FIELD(ipxr_network_setting, peers),
     sizeof(ipxr_link_setting), FIELD(ipxr_link_setting, line), FIELD(ipxr_link_setting, network),
         FIELD(ipxr_link_setting, carrier), FIELD(ipxr_link_setting, clients), FIELD(ipxr_link_setting, rate),
         FIELD(ipxr_link_setting, strangers), FIELD(ipxr_link_setting, kilobits), FIELD(ipxr_link_setting, allowed),
-        FIELD(ipxr_link_setting, trusted), FIELD(ipxr_link_setting, nodes_line),
+        FIELD(ipxr_link_setting, trusted), FIELD(ipxr_link_setting, nodes_line), FIELD(ipxr_link_setting, origins),
     sizeof(ipxr_network_list), FIELD(ipxr_network_list, list), FIELD(ipxr_network_list, count),
     sizeof(ipxr_link_list), FIELD(ipxr_link_list, list), FIELD(ipxr_link_list, count),
     sizeof(ipxr_internal), FIELD(ipxr_internal, line), FIELD(ipxr_internal, number), FIELD(ipxr_internal, node),
@@ -158,11 +164,18 @@ const size_t ipxr_rust_layouts[733] = {
         FIELD(ipxr_configured, clients), FIELD(ipxr_configured, of_address), FIELD(ipxr_configured, rate),
         FIELD(ipxr_configured, share), FIELD(ipxr_configured, household), FIELD(ipxr_configured, strangers),
         FIELD(ipxr_configured, kilobits), FIELD(ipxr_configured, sockets), FIELD(ipxr_configured, allowed),
-        FIELD(ipxr_configured, trusted), FIELD(ipxr_configured, nodes_by_address), FIELD(ipxr_configured, adopts),
-        FIELD(ipxr_configured, rules), FIELD(ipxr_configured, static_routes), FIELD(ipxr_configured, static_services),
+        FIELD(ipxr_configured, trusted), FIELD(ipxr_configured, origins), FIELD(ipxr_configured, nodes_by_address),
+        FIELD(ipxr_configured, adopts), FIELD(ipxr_configured, rules), FIELD(ipxr_configured, static_routes),
+        FIELD(ipxr_configured, static_services), FIELD(ipxr_configured, peers),
     sizeof(ipxr_course), FIELD(ipxr_course, next), FIELD(ipxr_course, fate), FIELD(ipxr_course, number),
     sizeof(ipxr_counts), FIELD(ipxr_counts, in), FIELD(ipxr_counts, lost), FIELD(ipxr_counts, dropped),
     sizeof(ipxr_rule), FIELD(ipxr_rule, permits), FIELD(ipxr_rule, what), FIELD(ipxr_rule, way), FIELD(ipxr_rule,
         names), FIELD(ipxr_rule, type), FIELD(ipxr_rule, socket), FIELD(ipxr_rule, from), FIELD(ipxr_rule, to),
         FIELD(ipxr_rule, name),
+    sizeof(ipxr_opened), FIELD(ipxr_opened, session), FIELD(ipxr_opened, echo), FIELD(ipxr_opened, address),
+        FIELD(ipxr_opened, number),
+    sizeof(ipxr_peer), FIELD(ipxr_peer, session), FIELD(ipxr_peer, address), FIELD(ipxr_peer, left), FIELD(ipxr_peer,
+        newest), FIELD(ipxr_peer, slots),
+    sizeof(ipxr_peers), FIELD(ipxr_peers, session), FIELD(ipxr_peers, sent), FIELD(ipxr_peers, used), FIELD(ipxr_peers,
+        places),
 };

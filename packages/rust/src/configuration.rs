@@ -99,8 +99,9 @@ impl Configuration {
         Configuration { all }
     }
 
-    /// Reads the next line; `line` is its number, from 1. `has_cards` is whether this system has TAPs and interfaces.
-    pub fn line(&mut self, text: &str, line: usize, has_cards: bool) -> LineRead {
+    /// Reads the next line; `line` is its number, from 1. `has_cards` is whether this system has all cards, or one of
+    /// `sys::IPXR_CARDS_..`.
+    pub fn line(&mut self, text: &str, line: usize, has_cards: impl Into<u8>) -> LineRead {
         let (mut said, mut wrong) = (sys::ipxr_setting::ZERO, sys::ipxr_line_wrong::ZERO);
         let (bytes, length, has_cards) = (text.as_ptr(), text.len(), has_cards.into());
         // SAFETY: here and below pointers and lengths are those of slices and values that lie apart.
@@ -109,7 +110,8 @@ impl Configuration {
     }
 
     /// Reads all lines of a text up to the first that is wrong, and says its number.
-    pub fn lines(&mut self, text: &str, has_cards: bool) -> Result<(), (usize, LineWrong)> {
+    pub fn lines(&mut self, text: &str, has_cards: impl Into<u8>) -> Result<(), (usize, LineWrong)> {
+        let has_cards = has_cards.into();
         for (number, line) in (1..).zip(text.lines()) {
             self.line(line, number, has_cards).result().map_err(|it| (number, it))?;
         }

@@ -29,7 +29,7 @@ pub fn host(four: [u8; 4], port: u16) -> Host {
 
 /// Reads a line by itself. Returns what its words say up to the first that is wrong, and 0 or what was expected there, one of
 /// `sys::IPXR_EXPECTED_..`
-pub fn line(text: &str, has_cards: bool, is_below_tunnel: bool, most_clients: u16) -> (Setting, u8) {
+pub fn line(text: &str, has_cards: impl Into<u8>, is_below_tunnel: bool, most_clients: u16) -> (Setting, u8) {
     let mut said = Setting::ZERO;
     let (has_cards, is_below_tunnel) = (has_cards.into(), is_below_tunnel.into());
     // SAFETY: here and below pointers and lengths are those of slices and values that lie apart.

@@ -16,6 +16,7 @@ mod cable;
 mod configuration;
 mod fates;
 mod edge;
+mod peers;
 
 pub use router::*;
 pub use tunnel::*;
@@ -29,3 +30,4 @@ pub use cable::*;
 pub use configuration::*;
 pub use fates::*;
 pub use edge::*;
+pub use peers::*;

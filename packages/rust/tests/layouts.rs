@@ -1,7 +1,7 @@
 //! Whether Rust lays out each struct as C does. Made of the headers by tools/lib/rust_sys.py: change the headers, and make it again.
 use ipxr::sys;
 
-const COUNT: usize = 733;
+const COUNT: usize = 790;
 
 extern "C" {
     static ipxr_rust_layouts: [usize; COUNT];
@@ -85,6 +85,10 @@ fn structs_lie_as_in_c() {
         ipxr_carrier: number frames local remote host name;
         ipxr_sockets: list count;
         ipxr_setting_ranges: list count;
+        ipxr_origin: text;
+        ipxr_origins: list count;
+        ipxr_setting_peer: line at host;
+        ipxr_setting_peers: list count;
         ipxr_rules: list count;
         ipxr_static_routes: list count;
         ipxr_static_services: list count;
@@ -92,19 +96,22 @@ fn structs_lie_as_in_c() {
         ipxr_rate_said: line rate share household;
         ipxr_number_said: line number;
         ipxr_network_setting: line first has_link number cost longest has_shares routes services is_of_several has_node
-            node sockets adopt_line rules static_routes static_services;
-        ipxr_link_setting: line network carrier clients rate strangers kilobits allowed trusted nodes_line;
+            node sockets adopt_line rules static_routes static_services peers;
+        ipxr_link_setting: line network carrier clients rate strangers kilobits allowed trusted nodes_line origins;
         ipxr_network_list: list count;
         ipxr_link_list: list count;
         ipxr_internal: line number node;
         ipxr_configuration: networks links internal above;
         ipxr_line_wrong: unlinked word line numbers is_below_tunnel;
         ipxr_configured: line network_line port number cost longest routes services is_of_several has_node node carrier
-            clients of_address rate share household strangers kilobits sockets allowed trusted nodes_by_address adopts
-            rules static_routes static_services;
+            clients of_address rate share household strangers kilobits sockets allowed trusted origins nodes_by_address
+            adopts rules static_routes static_services peers;
         ipxr_course: next fate number;
         ipxr_counts: r#in lost dropped;
         ipxr_rule: permits what way names r#type socket from to name;
+        ipxr_opened: session echo address number;
+        ipxr_peer: session address left newest slots;
+        ipxr_peers: session sent used places;
     };
     // SAFETY: what C's compiler put there is constant, and has so many numbers.
     let of_c = unsafe { ipxr_rust_layouts };

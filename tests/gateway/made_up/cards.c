@@ -6,6 +6,7 @@
 
 #include "chance.h"
 #include "descriptors.h"
+#include "ipxr_settings.h"
 #include "outside.h"
 #include "play.h"
 #include "weather.h"
@@ -74,9 +75,9 @@ bool outside_has_card(const char *name, unsigned index)
     return it != NULL && it->state != CARD_ABSENT && it->index == index;
 }
 
-bool has_cards(void)
+uint8_t has_cards(void)
 {
-    return true;
+    return IPXR_CARDS_ALL;
 }
 
 /* ---- TAPs ---- */
@@ -207,4 +208,17 @@ card_state interface_state(const char *name, unsigned *index, uint8_t card[6])
         return CARD_OTHER;
     memcpy(card, it->address, sizeof it->address);
     return it->state;
+}
+
+/* (the gateway that is played lists none) */
+size_t cards_list(card_listed *list, size_t room)
+{
+    (void)list;
+    (void)room;
+    return 0;
+}
+
+const char *cards_lack(void)
+{
+    return NULL;
 }

@@ -36,10 +36,10 @@ static void check_cable(const gateway *it, const cable *at)
 
 static void check_descriptors(const gateway *it)
 {
-    size_t count = status_descriptors();
+    size_t count = status_descriptors() + status_page_descriptors() + web_descriptors();
     for (size_t k = 0; k < it->cable_count; k++) {
         check_cable(it, &it->cables[k]);
-        count += (it->cables[k].fd >= 0) + (it->cables[k].listener >= 0);
+        count += (it->cables[k].fd >= 0) + (it->cables[k].listener >= 0) + (it->cables[k].says >= 0) + (it->cables[k].plug.call >= 0);
         for (size_t j = 0; j < k; j++)
             if (it->cables[k].fd >= 0 && it->cables[j].fd == it->cables[k].fd)
                 wrong("two cables have descriptor %d", it->cables[k].fd);
@@ -68,7 +68,7 @@ static void check_rooms(const network *on)
 static void check_node(const gateway *it, const network *on, const member *client)
 {
     uint8_t node[NODE];
-    node_make(it->nodes, client->place, node);
+    node_make(it->nodes, client->place, on->set->type == LINK_WEB, node);
     if (!same_node(client->node, node) && !same_node(client->node, client->place))
         wrong("client 10.0.0.%u:%u of network %X has a node that isn't its", client->place[3], get16(client->place + 4),
               (unsigned)on->set->network);
@@ -107,7 +107,7 @@ static void check_tunnel(const gateway *it, network *on)
 {
     check_paced(on);
     check_rooms(on);
-    bool is_tunnel = on->set->type == LINK_DOSBOX;
+    bool is_tunnel = has_tunnel(on->set);
     if (is_tunnel || on->roster.count > 0)
         check_clients(it, on);
     if (!is_tunnel && (on->tunnel.made || on->roster.list != NULL || on->strangers.hosts[0] != NULL))
@@ -131,19 +131,20 @@ static void check_queues(const gateway *it, const network *on)
         wrong("network %X has the queues of another link", (unsigned)on->set->network);
 }
 
-/* Links with frames have queues of their own, where there are as many. */
+/* Links with frames have queues of their own. */
 static void check_numbers(const gateway *it)
 {
-    size_t count = 0, users[OF_ADDRESSES] = {0};
+    bool is_taken[OF_ADDRESSES] = {false};
     for (size_t k = 0; k < it->count; k++) {
         size_t queue = it->networks[k].speaks.queue;
-        if (it->networks[k].set->type == LINK_DOSBOX)
+        if (has_tunnel(it->networks[k].set))
             continue;
-        count++;
         if (queue < OF_NETWORKS || queue >= OF_ADDRESSES)
             wrong("what comes on network %X has queue %zu", (unsigned)it->networks[k].set->network, queue);
-        else if (users[queue]++ > 0 && count <= OF_ADDRESSES - OF_NETWORKS)
+        else if (is_taken[queue])
             wrong("what comes on network %X has the queue of another link, %zu", (unsigned)it->networks[k].set->network, queue);
+        else
+            is_taken[queue] = true;
     }
 }
 
@@ -170,7 +171,7 @@ static size_t tunnels_of(const gateway *it, const port *at)
 {
     size_t count = 0;
     for (size_t k = at->first; k < at->first + at->count; k++)
-        count += it->networks[k].set->type == LINK_DOSBOX;
+        count += has_tunnel(it->networks[k].set);
     return count;
 }
 
@@ -180,7 +181,7 @@ static void check_link(gateway *it, network *on)
     ipxr_link link;
     ipxr_station station;
     size_t sure = 0;
-    bool is_tunnel = on->set->type == LINK_DOSBOX;
+    bool is_tunnel = has_tunnel(on->set);
     uint8_t kind = !on->is_up ? IPXR_LINK_DOWN : is_tunnel ? IPXR_LINK_SURE : IPXR_LINK_CABLE;
     if (ipxr_segment_link(on->segment, on->link, &link) != 0 || link.kind != kind)
         wrong("link %u of network %X is another one in its segment", on->link, (unsigned)on->set->network);
@@ -253,6 +254,8 @@ void gateway_is_well(gateway *it)
     links_are_well();
     line_is_well(it);
     status_is_well();
+    status_page_is_well();
+    pages_are_well();
     if (it->room_count > 0 || ipxr_sent(&it->router) > 0)
         wrong("%zu packets wait to be sent, and %zu of the router", it->room_count, ipxr_sent(&it->router));
     if (files_open() > 1)

@@ -119,6 +119,28 @@ static void make_tcp(made_link *it)
     snprintf(it->words, MOST_LINE, "qemu-tcp %s %s", is_large ? LISTENS[0] : one_in(3) ? PICK(CONNECTS) : PICK(LISTENS), PICK(KINDS));
 }
 
+static void make_group(made_link *it)
+{
+    static const char *const GROUPS[] = {"230.0.0.1:1234", "230.0.0.1:1234 via 10.0.0.99", "239.1.2.3:5600", "230.0.0.1:1235 via 127.0.0.2"};
+    snprintf(it->words, MOST_LINE, "qemu-mcast %s %s", PICK(GROUPS), PICK(KINDS));
+}
+
+static void make_switch(made_link *it)
+{
+    static const char *const PATHS[] = {"/run/vde.ctl", "/run/other.ctl", "vde"};
+    snprintf(it->words, MOST_LINE, "vde %s %s", PICK(PATHS), PICK(KINDS));
+}
+
+/* A link by peers: a hub, or a place that calls others. */
+static void make_peers(made_link *it)
+{
+    static const char *const PLACES[] = {"0.0.0.0:2200", "0.0.0.0:2201", "127.0.0.1:2202", "10.0.0.99:2203", "[::1]:2204"};
+    static const char *const CALLED[] = {"peer 10.0.2.1:2300", "peer 10.0.2.2:2300", "peer 10.0.2.9:2309", "peer e.example.net:2300"};
+    snprintf(it->words, MOST_LINE, "peers %s made-up.key %s", PICK(PLACES), PICK(KINDS));
+    for (unsigned k = one_in(2) ? between(1, 3) : 0; k > 0; k--)
+        below_line(it, PICK(CALLED), 0, 0);
+}
+
 static void make_card(made_link *it)
 {
     static const char *const NAMES[] = {"interface eth0", "interface eth1", "interface eth2", "interface eth0", "interface eth9",
@@ -126,10 +148,39 @@ static void make_card(made_link *it)
     snprintf(it->words, MOST_LINE, "%s %s", PICK(NAMES), PICK(KINDS));
 }
 
+/* A link by WebSocket, whose pages are clients or stations. */
+static void make_web(made_link *it)
+{
+    static const char *const PLACES[] = {"8080", "8080", "8080", "127.0.0.1:8081", "0.0.0.0:8082", "0", "10.0.0.99:8083"};
+    bool has_frames = one_in(2);
+    snprintf(it->words, MOST_LINE, "web %s%s%s", is_large ? "0" : PICK(PLACES), has_frames ? " " : "", has_frames ? PICK(KINDS) : "");
+    if (!has_frames)
+        lines_of_tunnel(it);
+    if (one_in(5))
+        below_line(it, one_in(2) ? "origins *" : "origins http://gate https://other.example", 0, 0);
+}
+
+/* A link whose datagrams are packets, with those whom it names. */
+static void make_bare(made_link *it)
+{
+    static const char *const PLACES[] = {"127.0.0.1:2213", "127.0.0.1:2214", "10.0.0.99:2213"};
+    memset(it, 0, sizeof *it);
+    snprintf(it->words, MOST_LINE, "rfc1234 %s", PICK(PLACES));
+    lines_of_any(it);
+    for (unsigned k = below(4); k > 0; k--)
+        below_line(it, one_in(6) ? "peer b.example.net:40000" : "peer 10.0.0.%u:%u", below(6), 40000 + below(2));
+}
+
+/* Whether a link's programs are clients, so that lines for them may stand below it. */
+static bool has_clients(const made_link *it)
+{
+    return strncmp(it->words, "dosbox", 6) == 0 || (strncmp(it->words, "web", 3) == 0 && strchr(it->words + 4, ' ') == NULL);
+}
+
 static void make_link(made_link *it)
 {
     static void (*const MAKE[])(made_link *) = {make_dosbox, make_dosbox, make_dosbox, make_udp, make_udp, make_tcp, make_tcp, make_card,
-                                                make_card};
+                                                make_card,   make_group,  make_switch, make_web, make_web, make_peers, make_peers};
     memset(it, 0, sizeof *it);
     if (is_large && !one_in(50))
         MAKE[one_in(3) ? between(2, 5) : 3](it); /* (which don't stand in each other's way) */
@@ -159,6 +210,8 @@ static void make_network(made_network *it)
     it->count = it->is_of_several ? between(1, is_large ? MOST_OF_ONE : USUAL_OF_ONE) : 1;
     for (size_t k = 0; k < it->count; k++)
         make_link(&it->links[k]);
+    if (!it->is_of_several && (it->number % 8 == 5 || it->number % 8 == 2))
+        make_bare(&it->links[0]);
 }
 
 /* ---- Text ---- */
@@ -182,7 +235,8 @@ static void add_link(size_t *at, const made_link *it)
 
 static bool has_node(const made_network *it)
 {
-    return it->is_of_several || (strncmp(it->links[0].words, "dosbox", 6) != 0 && strncmp(it->links[0].words, "interface", 9) != 0);
+    const char *words = it->links[0].words;
+    return it->is_of_several || (!has_clients(&it->links[0]) && strncmp(words, "interface", 9) != 0 && strncmp(words, "rfc1234", 7) != 0);
 }
 
 /* Lines that take most of a share of ten. */
@@ -337,7 +391,7 @@ static void other_lines(made_network *it)
 {
     made_link *at = &it->links[below((uint32_t)it->count)];
     at->count = 0;
-    if (strncmp(at->words, "dosbox", 6) == 0)
+    if (has_clients(at))
         lines_of_tunnel(at);
     lines_of_any(at);
 }

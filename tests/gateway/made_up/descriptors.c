@@ -10,7 +10,8 @@
 static descriptor list[MOST_DESCRIPTORS];
 static size_t open_now;
 
-static const char *const NAMES[] = {"closed", "datagrams", "listener", "connection", "tap", "card", "status socket", "viewer"};
+static const char *const NAMES[] = {"closed", "datagrams", "listener", "connection", "tap", "card", "status socket", "viewer",
+                                    "group", "speaker", "call of a switch", "port of a switch"};
 
 descriptor *descriptor_if_open(int fd)
 {
@@ -113,6 +114,17 @@ message *next_message(descriptor *it)
     return next;
 }
 
+void take_next(descriptor *it, arrival *into)
+{
+    message *next = next_message(it);
+    memset(into->bytes, 0xDB, sizeof into->bytes);
+    memcpy(into->bytes, next->bytes, next->length < sizeof into->bytes ? next->length : sizeof into->bytes);
+    into->length = next->length;
+    into->from = next->from;
+    into->is_sent = next->is_sent;
+    give_back(next);
+}
+
 void bytes_come(descriptor *it, const uint8_t *bytes, size_t length)
 {
     if (it->bytes == NULL)
@@ -141,6 +153,8 @@ bool has_something(const descriptor *it)
     case CONNECTION:
     case VIEWER:
         return it->stage == CUT || it->end > it->from;
+    case CALL:
+        return it->stage == CUT || it->is_complained;
     default:
         return it->count > 0 || it->is_complained;
     }

@@ -8,6 +8,7 @@
 #include <stdint.h>
 
 #include "systems/address.h"
+#include "systems/datagram.h"
 
 enum {
     FIRST_DESCRIPTOR = 3,
@@ -19,7 +20,7 @@ enum {
     NAME_OF_CARD = 16,
 };
 
-typedef enum { CLOSED, DATAGRAMS, LISTENER, CONNECTION, TAP, CARD, STATUS, VIEWER } what;
+typedef enum { CLOSED, DATAGRAMS, LISTENER, CONNECTION, TAP, CARD, STATUS, VIEWER, GROUP, SPEAKER, CALL, PORT } what;
 
 /* A datagram or a frame that has come. */
 typedef struct message {
@@ -39,7 +40,7 @@ typedef struct descriptor {
     /* of datagrams and frames */
     message *first, *last;
     size_t count;
-    bool is_complained; /* somebody said that nobody hears there */
+    bool is_complained; /* somebody said that nobody hears there; or a switch says something */
     /* of cards and TAPs */
     char name[NAME_OF_CARD];
     unsigned index;
@@ -85,5 +86,8 @@ bool has_something(const descriptor *it);
 
 /* Takes the next message away; it is the caller's to give back. NULL where there is none. */
 message *next_message(descriptor *it);
+
+/* Takes the next message, as far as there is room. */
+void take_next(descriptor *it, arrival *into);
 
 #endif

@@ -7,6 +7,7 @@
 #include "ipx.h"
 #include "links/edge.h"
 #include "links/ether.h"
+#include "links/segment.h"
 #include "monitoring/status.h"
 #include "peace.h"
 #include "play.h"
@@ -106,6 +107,15 @@ int32_t __wrap_ipxr_segment_receiver(ipxr_segment *segment, size_t index, uint8_
     return found;
 }
 
+size_t __real_segment_repeat(gateway *it, network *on, const origin *by, const uint8_t *packet, size_t length);
+size_t __wrap_segment_repeat(gateway *it, network *on, const origin *by, const uint8_t *packet, size_t length);
+size_t __wrap_segment_repeat(gateway *it, network *on, const origin *by, const uint8_t *packet, size_t length)
+{
+    size_t links = __real_segment_repeat(it, on, by, packet, length);
+    now.links += (unsigned)links;
+    return links;
+}
+
 /* What came on a network goes there to the client whose node it is for, or to all. (or by a client that is a router to another network) */
 static void judge_copy(network *on, const uint8_t place[6], const uint8_t *packet)
 {
@@ -194,7 +204,7 @@ static const reason WHOLLY[] = {TOO_LONG,    FALSE_SOURCE, STRANGER,  NO_ROOM,  
 static const reason BY_ROUTER[] = {TOO_MANY_QUESTIONS, TOO_MANY_ADVERTISEMENTS, TOO_MUCH_FOR_ROUTER, FROM_AFAR, DENIED};
 
 /* (a reason more or fewer has to be put among these, or left to what else is looked at: of copies, of what is sent, and of no client) */
-typedef char has_all_reasons[REASONS == 28 ? 1 : -1];
+typedef char has_all_reasons[REASONS == 31 ? 1 : -1];
 
 static uint64_t lost_since(const counts *it, const counts *before, const reason *list, size_t count)
 {
@@ -233,7 +243,7 @@ static void judge(const network *on, const counts *before)
     uint64_t unanswered = it->packets.lost[TOO_MANY_ANSWERS] - before->packets.lost[TOO_MANY_ANSWERS];
     uint64_t nowhere = it->packets.lost[NO_CLIENT] - before->packets.lost[NO_CLIENT];
     uint64_t heard = now.heard + now.by_status + by_router, handed = now.receivers + now.links + now.by_loop;
-    bool is_answer = on->set->type == LINK_DOSBOX && now.said == IPXR_ANSWERS;
+    bool is_answer = has_tunnel(on->set) && now.said == IPXR_ANSWERS;
     seen++;
     if (wholly > 1 || heard > 1)
         wrong("a packet is lost %d times, and heard %d times", (int)wholly, (int)heard);

@@ -9,6 +9,8 @@
 
 #include "chance.h"
 #include "outside.h"
+#include "peace.h"
+#include "places.h"
 #include "play.h"
 #include "systems/keeping.h"
 #include "systems/machine.h"
@@ -83,6 +85,8 @@ FILE *file_open(const char *name, const char *how)
     if (how[0] == 'w')
         return fopen("/dev/null", how); /* (the writer keeps it) */
     const char *text = outside_configuration();
+    if (strcmp(name, PLACES_KEY) == 0)
+        return noted(fmemopen((char *)PLACES_KEY_TEXT, strlen(PLACES_KEY_TEXT), how));
     errno = ENOENT;
     if (strcmp(name, "made-up.conf") != 0)
         return NULL;
@@ -92,6 +96,12 @@ FILE *file_open(const char *name, const char *how)
 FILE *file_open_at_once(const char *name)
 {
     return file_open(name, "rb");
+}
+
+/* (who it belongs to may change) */
+bool file_is_secret(FILE *file)
+{
+    return file != NULL && (is_peace() || !one_in(30));
 }
 
 /* (each time the same of a seed: a thread has it until the program ends) */
@@ -104,6 +114,13 @@ bool file_is_fifo(const char *name)
 FILE *text_open(char **text, size_t *length)
 {
     return fails(OF_OPENING) ? NULL : noted(open_memstream(text, length));
+}
+
+void text_close(FILE *file, char **text, size_t *length)
+{
+    (void)text;
+    (void)length;
+    fclose(file);
 }
 
 bool system_random(uint8_t *bytes, size_t count)

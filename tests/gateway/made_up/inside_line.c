@@ -62,7 +62,8 @@ void line_is_well(gateway *it)
         count(it, k, &addresses, users, &speaking);
     for (size_t k = 0; k < it->count; k++)
         count_other(&it->networks[k].speaks.line, users, &speaking);
-    count_other(&router, users, &speaking);
+    count_other(&router_to_all, users, &speaking);
+    count_other(&router_to_one, users, &speaking);
     if (addresses != line.addresses || speaking != line.speakers)
         wrong("the line has %zu addresses, and %zu who speak, and counts %u and %u", addresses, speaking, (unsigned)line.addresses,
               (unsigned)line.speakers);

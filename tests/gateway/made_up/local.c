@@ -18,6 +18,11 @@ bool has_local(void)
     return true;
 }
 
+const char *local_usual(void)
+{
+    return "status";
+}
+
 int local_open(const char *path)
 {
     return path == NULL || fails(OF_LISTENING) ? -1 : descriptor_open(STATUS);
@@ -46,6 +51,16 @@ int local_take(int listener)
     made->stage = CONNECTED;
     made->takes = one_in(3) ? 100000 : below(2) * 5000;
     return fd;
+}
+
+ssize_t local_receive(int fd, uint8_t *bytes, size_t room)
+{
+    return connection_receive(fd, bytes, room);
+}
+
+void local_end(int *fd)
+{
+    close_any(fd);
 }
 
 /* (the gateway that is played asks no other one) */

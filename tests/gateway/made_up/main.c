@@ -12,6 +12,7 @@
 #include <string.h>
 #include <unistd.h>
 
+#include "browsers.h"
 #include "chance.h"
 #include "checks.h"
 #include "clocks.h"
@@ -20,6 +21,7 @@
 #include "files.h"
 #include "outside.h"
 #include "peace.h"
+#include "places.h"
 #include "play.h"
 #include "systems/system.h"
 #include "weather.h"
@@ -102,6 +104,7 @@ bool outside_goes_on(void)
     if (has_turned) {
         fates_are_well(the_gate);
         gateway_is_well(the_gate);
+        places_are_well(the_gate);
     }
     has_turned = true;
     the_play.turn++;
@@ -118,14 +121,18 @@ bool outside_goes_on(void)
 static int life_of_gateway(void)
 {
     static char name[] = "ipxr-gateway", file[] = "made-up.conf", status[] = "--status", path[] = "made-up.sock", pcap[] = "--pcap",
-                capture[] = "made-up.pcap", log[] = "--log";
-    char *words[8] = {name, file, status, path};
+                capture[] = "made-up.pcap", log[] = "--log", web[] = "--status-web", place[] = "127.0.0.1:8099";
+    char *words[10] = {name, file, status, path};
     int count = 4;
     the_play.starts++;
     life = between(SHORTEST_LIFE, LONGEST_LIFE);
     orders_begin();
     configuration_begin();
     told("start with\n%s", configuration_text());
+    if (has_page()) {
+        words[count++] = web;
+        words[count++] = place;
+    }
     if (one_in(3)) {
         words[count++] = pcap;
         words[count++] = capture;

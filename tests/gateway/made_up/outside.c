@@ -8,7 +8,9 @@
 #include "clocks.h"
 #include "configurations.h"
 #include "ipx.h"
+#include "pages.h"
 #include "peace.h"
+#include "places.h"
 #include "play.h"
 #include "tunnel/nodes.h"
 #include "world.h"
@@ -94,7 +96,7 @@ static void judge(network *on, const uint8_t place[6], const uint8_t *bytes, siz
     uint8_t own[NODE];
     const member *client = roster_find(&on->roster, place);
     const uint8_t *to = bytes + AT_TO_NODE;
-    node_make(the_gate->nodes, place, own);
+    node_make(the_gate->nodes, place, on->set->type == LINK_WEB, own);
     bool has_node = same_node(to, own) || (client != NULL && same_node(to, client->node));
     if (is_ping(bytes, length) && is_unanswered(on, place))
         wrong("10.0.0.%u:%u on network %X is pinged while it waits for its node", place[3], get16(place + 4), (unsigned)on->set->network);
@@ -107,7 +109,7 @@ static void judge(network *on, const uint8_t place[6], const uint8_t *bytes, siz
 }
 
 /* What a player learns of a ping, or of an answer. */
-static void learn(const network *on, const uint8_t place[6], const uint8_t *bytes, size_t length)
+void outside_learns(const network *on, const uint8_t place[6], const uint8_t *bytes, size_t length)
 {
     player *it = player_at(place);
     if (it != NULL && is_ping(bytes, length))
@@ -116,33 +118,59 @@ static void learn(const network *on, const uint8_t place[6], const uint8_t *byte
         memcpy(it->node, bytes + AT_TO_NODE, NODE);
 }
 
+bool outside_answers(const network *on, const uint8_t place[6], made_packet *made, const uint8_t *bytes, size_t length)
+{
+    if (!is_ping(bytes, length) || !will_answer(place))
+        return !is_peace() && make_reply(made, bytes, length) && !one_in(4);
+    const uint8_t *node = on != NULL && on->set->nodes_by_address && !is_peace() && one_in(2) ? NULL : node_of(place);
+    make_answer(made, node != NULL ? node : place, bytes + AT_FROM_NODE);
+    return true;
+}
+
+/* A datagram of a link whose datagrams are packets is one, and goes to somebody whom the configuration names. */
+static void judge_bare(const network *on, const departure *what)
+{
+    const network_setting *set = on->set;
+    size_t k = 0;
+    while (k < set->peer_count && set->peers[k].host[0] == '\0' && !same_address(&set->peers[k].at, &what->to))
+        k++;
+    if (k == set->peer_count)
+        wrong("10.0.0.%u:%u is no peer of network %X, and hears something", what->to.host[3], what->to.port, (unsigned)set->network);
+    if (!has_length(what->bytes, what->length) || get16(what->bytes + AT_LENGTH) != what->length)
+        wrong("a datagram on network %X is no packet", (unsigned)set->network);
+}
+
 void outside_hears_datagram(int fd, descriptor *on, const departure *what)
 {
     uint8_t place[NODE];
     made_packet made = {.length = 0};
     network *tunnel = network_at(fd);
+    if (tunnel != NULL && tunnel->set->type == LINK_PEERS) {
+        places_hear(fd, tunnel, what);
+        return;
+    }
     memcpy(place, what->to.host, sizeof what->to.host);
     put16(place + 4, what->to.port);
     if (tunnel != NULL && tunnel->set->type == LINK_DOSBOX) {
         judge(tunnel, place, what->bytes, what->length);
-        learn(tunnel, place, what->bytes, what->length);
+        outside_learns(tunnel, place, what->bytes, what->length);
         peace_hears_datagram(place, what->bytes, what->length);
     }
-    if (is_ping(what->bytes, what->length) && will_answer(place)) {
-        const uint8_t *node = tunnel != NULL && tunnel->set->nodes_by_address && !is_peace() && one_in(2) ? NULL : node_of(place);
-        make_answer(&made, node != NULL ? node : place, what->bytes + AT_FROM_NODE);
-        comes(on, &what->to, made.bytes, made.length);
-    } else if (!is_peace() && make_reply(&made, what->bytes, what->length) && !one_in(4)) {
-        comes(on, &what->to, made.bytes, made.length);
+    if (tunnel != NULL && tunnel->set->type == LINK_RFC1234) {
+        judge_bare(tunnel, what);
+        peace_hears(fd, what->bytes, what->length);
     }
+    if (outside_answers(tunnel, place, &made, what->bytes, what->length))
+        comes(on, &what->to, made.bytes, made.length);
 }
 
 /* ---- Frames ---- */
 
 void cables_are_joined_or_not(void)
 {
-    joined[0] = joined[0] < 0 ? descriptor_any(one_in(2) ? CARD : TAP) : -1;
-    joined[1] = joined[0] < 0 ? -1 : descriptor_any(one_in(2) ? CARD : DATAGRAMS);
+    static const what ONE[] = {CARD, TAP, GROUP}, OTHER[] = {CARD, DATAGRAMS, PORT};
+    joined[0] = joined[0] < 0 ? descriptor_any(ONE[below(3)]) : -1;
+    joined[1] = joined[0] < 0 ? -1 : descriptor_any(OTHER[below(3)]);
     told("cables %d and %d are one", joined[0], joined[1]);
 }
 
@@ -267,6 +295,8 @@ void outside_hears_frame(int fd, descriptor *on, const uint8_t *bytes, size_t le
 
 void outside_hears_stream(int fd, descriptor *on, const uint8_t *bytes, size_t length)
 {
+    if (page_hears(fd, on, bytes, length))
+        return;
     peace_hears(fd, bytes, length);
     for (size_t k = length > 2 ? length - 2 : 0; k < length; k++) {
         on->last_bytes[0] = on->last_bytes[1];

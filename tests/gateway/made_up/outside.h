@@ -7,6 +7,7 @@
 #include <stdint.h>
 
 #include "descriptors.h"
+#include "packets.h"
 #include "systems/datagram.h"
 
 /* Whether the machine has an address now; else errno says that it hasn't. */
@@ -19,6 +20,10 @@ bool outside_has_card(const char *name, unsigned index);
 void outside_hears_datagram(int fd, descriptor *on, const departure *what);
 void outside_hears_frame(int fd, descriptor *on, const uint8_t *bytes, size_t length);
 void outside_hears_stream(int fd, descriptor *on, const uint8_t *bytes, size_t length);
+
+/* What a player at a place learns of what it is sent; and what it answers, if it does. */
+void outside_learns(const network *on, const uint8_t place[6], const uint8_t *bytes, size_t length);
+bool outside_answers(const network *on, const uint8_t place[6], made_packet *made, const uint8_t *bytes, size_t length);
 
 /* The gateway waits, at most so many milliseconds: time may pass. */
 void outside_waits(int milliseconds);

@@ -6,8 +6,10 @@
 #include "descriptors.h"
 #include "ipx.h"
 #include "outside.h"
+#include "places.h"
 #include "play.h"
 #include "tunnel/place.h"
+#include "tunnel/tunnel.h"
 #include "weather.h"
 #include "world.h"
 
@@ -90,15 +92,20 @@ void peace_is_over(void)
 
 /* ---- What is said ---- */
 
-static bool has_tunnel(const network *on)
+/* Where the players come from. (a spoiled `allow 10.0.0.0/8` may be a right line that doesn't let them in) */
+static const address HOUSE = {.host = {10, 0, 0, 0}};
+
+static bool is_open_tunnel(const network *on)
 {
-    return on->set->type == LINK_DOSBOX && on->tunnel.made && on->cable->fd >= 0 && on->is_up;
+    return on->set->type == LINK_DOSBOX && on->tunnel.made && on->cable->fd >= 0 && on->is_up && tunnel_lets_in(on->set, &HOUSE);
 }
 
-/* The player who comes in by a network, and the one who only listens there: of a household that all networks let in. */
+/* The player who comes in by a network, and the one who only listens there. */
 static address player_on(const gateway *it, const network *on)
 {
-    return (address){.host = {10, 0, 0, 0}, .port = (uint16_t)(FIRST_PORT + (on - it->networks) % LISTENERS)};
+    address at = HOUSE;
+    at.port = (uint16_t)(FIRST_PORT + (on - it->networks) % LISTENERS);
+    return at;
 }
 
 static address listener_on(const gateway *it, const network *on)
@@ -154,7 +161,7 @@ static void speaks(gateway *it, network *on)
 static void each_tunnel(gateway *it, void (*does)(gateway *, network *))
 {
     for (size_t k = 0; k < it->count; k++)
-        if (has_tunnel(&it->networks[k]))
+        if (is_open_tunnel(&it->networks[k]))
             does(it, &it->networks[k]);
 }
 
@@ -196,7 +203,7 @@ static bool has_room_for_two(const network *on)
 static bool is_one_of_several_by_line(const gateway *it, const network *on)
 {
     const network *other = it->networks;
-    while (other < on && !(has_tunnel(other) && other->set->kilobits > 0))
+    while (other < on && !(is_open_tunnel(other) && other->set->kilobits > 0))
         other++;
     return on->set->kilobits > 0 && other < on;
 }
@@ -220,10 +227,20 @@ static void has_heard(gateway *it, network *on)
         wrong("who only listens on network %X hears nothing in peace", (unsigned)on->set->network);
 }
 
+/* Whether somebody may be there: of those that the configuration names, one whose address is known. */
+static bool has_somebody(const network *on)
+{
+    const rfc1234 *bare = on->cable->bare;
+    size_t k = 0;
+    while (bare != NULL && k < bare->count && !bare->peers[k].remote.is_known)
+        k++;
+    return bare == NULL || k < bare->count;
+}
+
 /* Whether a link carries frames, is up, and somebody is there. */
 static bool carries_frames(const network *on)
 {
-    return on->set->type != LINK_DOSBOX && on->is_up && on->cable->fd >= 0;
+    return !has_tunnel(on->set) && on->is_up && on->cable->fd >= 0 && has_somebody(on);
 }
 
 /* Whether a player is on another link of a network, and its segment is there. */
@@ -232,7 +249,7 @@ static bool has_player_beside(gateway *it, const network *on)
     const port *at = port_of(it, on);
     bool has = false;
     for (size_t k = at->first; k < at->first + at->count; k++)
-        has = has || (has_tunnel(&it->networks[k]) && on->segment != NULL && !is_one_of_several_by_line(it, &it->networks[k]));
+        has = has || (is_open_tunnel(&it->networks[k]) && on->segment != NULL && !is_one_of_several_by_line(it, &it->networks[k]));
     return has;
 }
 
@@ -309,6 +326,7 @@ bool peace_passes(gateway *it)
     if (left == 0)
         return false;
     left--;
+    places_stay(it);
     if (++now >= CALM)
         check_lines(it);
     switch (now) {

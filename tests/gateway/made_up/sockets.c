@@ -6,6 +6,7 @@
 
 #include "chance.h"
 #include "descriptors.h"
+#include "groups.h"
 #include "outside.h"
 #include "peace.h"
 #include "play.h"
@@ -101,6 +102,11 @@ int listener_open(address *local)
     return opened(LISTENER, local);
 }
 
+void listener_keep_little(int listener)
+{
+    descriptor_at(listener, LISTENER);
+}
+
 static int connection(stage at, const address *remote)
 {
     int fd = descriptor_open(CONNECTION);
@@ -155,6 +161,30 @@ bool connection_is_own(int fd)
     return it != NULL && it->is_own;
 }
 
+/* A connection of a PC, or of somebody who asks. */
+static descriptor *stream_at(int fd)
+{
+    descriptor *it = descriptor_if_open(fd);
+    if (it == NULL || it->is != VIEWER)
+        it = descriptor_at(fd, CONNECTION);
+    return it;
+}
+
+/* (mostly the other end closes it then, too) */
+void connection_finish(int fd)
+{
+    descriptor *it = stream_at(fd);
+    it->takes = 0;
+    if (!one_in(3))
+        it->stage = CUT;
+}
+
+void connection_keep_little(int fd, int bytes)
+{
+    if (descriptor_at(fd, CONNECTION) != NULL && bytes <= 0)
+        wrong("connection %d is to keep %d bytes", fd, bytes);
+}
+
 bool connection_is_dead(int fd)
 {
     return descriptor_at(fd, CONNECTION)->is_dead;
@@ -179,25 +209,13 @@ static bool is_none(int fd)
     return fd < 0;
 }
 
-/* A socket of datagrams or of an interface. */
+/* A socket of datagrams, of an interface, of a group or of a switch. */
 static descriptor *carrier_at(int fd)
 {
     descriptor *it = descriptor_if_open(fd);
-    if (it == NULL || it->is != CARD)
+    if (it == NULL || (it->is != CARD && it->is != GROUP && it->is != SPEAKER && it->is != PORT))
         it = descriptor_at(fd, DATAGRAMS);
     return it;
-}
-
-/* The next that came, as far as there is room. */
-static void take_next(descriptor *it, arrival *into)
-{
-    message *next = next_message(it);
-    memset(into->bytes, 0xDB, sizeof into->bytes);
-    memcpy(into->bytes, next->bytes, next->length < sizeof into->bytes ? next->length : sizeof into->bytes);
-    into->length = next->length;
-    into->from = next->from;
-    into->is_sent = next->is_sent;
-    give_back(next);
 }
 
 bool datagrams_receive(int fd, arrivals *in)
@@ -231,7 +249,14 @@ bool datagram_send(int fd, const uint8_t *bytes, size_t length)
         errno = ENXIO;
         return false;
     }
-    outside_hears_frame(fd, it, bytes, length);
+    if (it->is == GROUP)
+        wrong("descriptor %d hears a group, and something is sent by it", fd);
+    if (it->is == SPEAKER) {
+        comes_to_group(it, bytes, length);
+        fd = group_of(it);
+    }
+    if (fd >= 0)
+        outside_hears_frame(fd, descriptor_if_open(fd), bytes, length);
     return true;
 }
 
@@ -254,15 +279,6 @@ size_t datagrams_send(int fd, const departure *list, size_t count)
 }
 
 /* ---- Connections ---- */
-
-/* A connection of a PC, or of somebody who asks. */
-static descriptor *stream_at(int fd)
-{
-    descriptor *it = descriptor_if_open(fd);
-    if (it == NULL || it->is != VIEWER)
-        it = descriptor_at(fd, CONNECTION);
-    return it;
-}
 
 /* A connection is lost by a fault. */
 static void cut(descriptor *it, int fault)

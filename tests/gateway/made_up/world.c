@@ -5,17 +5,22 @@
 #include <stdio.h>
 #include <string.h>
 
+#include "browsers.h"
 #include "cards.h"
 #include "chance.h"
 #include "clocks.h"
 #include "configurations.h"
 #include "descriptors.h"
 #include "files.h"
+#include "groups.h"
 #include "ipx.h"
 #include "names.h"
+#include "pages.h"
 #include "peace.h"
+#include "places.h"
 #include "play.h"
 #include "steady.h"
+#include "switches.h"
 #include "viewers.h"
 #include "weather.h"
 #include "writers.h"
@@ -24,20 +29,37 @@ enum { MOST_ACTS = 6, SHORTEST_MOOD = 20, LONGEST_MOOD = 400, MILLISECOND_NS = 1
 
 /* ---- Datagrams of the tunnel ---- */
 
+/* Whether it is a socket of something else than the tunnel: its other end is one machine, or places. */
+static bool is_no_tunnel(int fd)
+{
+    const network *on = network_at(fd);
+    return descriptor_at(fd, DATAGRAMS)->has_remote || (on != NULL && on->set->type == LINK_PEERS);
+}
+
 static int any_tunnel(void)
 {
     int fd = descriptor_any(DATAGRAMS);
-    for (int k = 0; k < 8 && fd >= 0 && descriptor_at(fd, DATAGRAMS)->has_remote; k++)
+    for (int k = 0; k < 8 && fd >= 0 && is_no_tunnel(fd); k++)
         fd = descriptor_any(DATAGRAMS);
-    return fd >= 0 && !descriptor_at(fd, DATAGRAMS)->has_remote ? fd : -1;
+    return fd >= 0 && !is_no_tunnel(fd) ? fd : -1;
 }
 
-/* A place, mostly of somebody who is a client there. */
+/* The place of a peer that the configuration names. */
+static void any_peer(const network_setting *set, uint8_t place[6])
+{
+    const address *at = &set->peers[below((uint32_t)set->peer_count)].at;
+    memcpy(place, at->host, sizeof at->host);
+    put16(place + sizeof at->host, at->port);
+}
+
+/* A place, mostly of somebody who is a client there, or a peer. */
 static void any_player(network *on, uint8_t place[6])
 {
     ipxr_keyed_member client;
     size_t count = ipxr_keyed_clients(&on->tunnel);
     any_place(place);
+    if (on->set->type == LINK_RFC1234 && on->set->peer_count > 0 && !one_in(4))
+        any_peer(on->set, place);
     if (count > 0 && !one_in(4) && ipxr_keyed_client(&on->tunnel, below((uint32_t)count), &client) == 0)
         memcpy(place, client.place, NODE);
 }
@@ -48,6 +70,11 @@ static void any_source(network *on, const uint8_t place[6], uint8_t node[6])
     ipxr_keyed_member other;
     const uint8_t *own = node_of(place);
     size_t count = ipxr_keyed_clients(&on->tunnel);
+    if (on->set->type == LINK_RFC1234 && !one_in(6)) {
+        memset(node, 0, NODE - 4);
+        memcpy(node + NODE - 4, place, 4);
+        return;
+    }
     memcpy(node, own != NULL && !one_in(on->set->nodes_by_address ? 3 : 20) ? own : place, NODE);
     if (one_in(20) && count > 0 && ipxr_keyed_client(&on->tunnel, below((uint32_t)count), &other) == 0)
         memcpy(node, other.node, NODE);
@@ -56,7 +83,7 @@ static void any_source(network *on, const uint8_t place[6], uint8_t node[6])
 }
 
 /* What a player says: he comes in, answers a ping with its cookie or with another, or says something. */
-static void make_word(made_packet *it, network *on, const uint8_t place[6])
+void make_word(made_packet *it, network *on, const uint8_t place[6])
 {
     uint8_t guessed[NODE];
     station from = {.network = one_in(4) ? 0 : on->set->network};
@@ -114,8 +141,8 @@ static void players_play(void)
 /* A descriptor that carries frames, or -1. */
 static int any_cable(void)
 {
-    static const what KINDS[] = {CARD, TAP, CONNECTION, DATAGRAMS, CARD};
-    int fd = descriptor_any(KINDS[below(5)]);
+    static const what KINDS[] = {CARD, TAP, CONNECTION, DATAGRAMS, CARD, GROUP, PORT};
+    int fd = descriptor_any(KINDS[below(7)]);
     bool is_tunnel = fd >= 0 && descriptor_if_open(fd)->is == DATAGRAMS && !descriptor_at(fd, DATAGRAMS)->has_remote;
     return is_tunnel ? -1 : fd;
 }
@@ -134,7 +161,7 @@ static void any_destination(const network *on, uint8_t node[6])
 }
 
 /* Makes a frame up. Returns its length. */
-static size_t make_frame(network *on, uint8_t frame[MOST_RECEIVED])
+size_t make_frame(network *on, uint8_t frame[MOST_RECEIVED])
 {
     made_packet made = {.length = 0};
     uint8_t to[NODE];
@@ -309,7 +336,8 @@ static const struct {
     {stations_play, 8},  {one_complains, 1},      {one_calls, 4},            {half_a_frame, 2},      {connection_changes, 3},
     {card_comes_or_goes, 2}, {clock_jumps, 2},    {clock_changes, 1},        {name_is_answered, 3},  {weather_changes, 2},
     {other_configuration, 2}, {somebody_wants_a_report, 1}, {readers_come_or_go, 1}, {viewers_act, 14}, {address_comes_or_goes, 1},
-    {cables_are_joined_or_not, 2}, {a_card_is_beneath_or_not, 2},
+    {cables_are_joined_or_not, 2}, {a_card_is_beneath_or_not, 2}, {group_card_changes, 1}, {switch_acts, 6}, {pages_act, 20},
+    {places_act, 20},
 };
 
 /* One mood in so many ends in peace, and in one in so many some players play all the while. */
@@ -375,5 +403,6 @@ void world_acts(void)
     if (!is_all())
         for (unsigned k = between(0, mood.acts); k > 0; k--)
             ACTS[chance_weighted(mood.weights, KINDS_OF_ACTS)].act();
+    browsers_act();
     writers_write();
 }

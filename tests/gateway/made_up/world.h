@@ -21,6 +21,10 @@ const uint8_t *node_of(const uint8_t place[6]);
 /* The first network whose cable has a descriptor; NULL where none has. */
 network *network_at(int fd);
 
+/* What a player says on a network, at his place; and a frame of a station's there, whose length it returns. */
+void make_word(made_packet *it, network *on, const uint8_t place[6]);
+size_t make_frame(network *on, uint8_t frame[MOST_RECEIVED]);
+
 /* A frame comes on a descriptor that carries frames. */
 void frame_comes(int fd, const uint8_t *frame, size_t length);
 

@@ -3,6 +3,7 @@ use Rattle.std.proofs.Common.{◌≡◌, ℕ, List, Option, Some, None, true, fa
 use Rattle.std.specs.Prelude.{codes}
 use Rattle.ipx_wire.specs.Name.{name_of}
 use Rattle.ipx_settings.specs.Lines.{reading_of}
+use Rattle.ipx_settings.specs.declared.link.Cards.TheVariants as has
 use Rattle.ipx_edge.specs.declared.rule.Names.TheVariants.{All, Is, Begins}
 use Rattle.ipx_edge.specs.declared.rule.Rule.{Rule}
 use Rattle.ipx_edge.specs.declared.rule.Way.TheVariants.{In, Out}
@@ -20,7 +21,7 @@ values r =
 
 -- the rule that a filter has of a line's words
 abbrev filters : List ℕ → Option Rule
-filters text = rule_of (values (rule_of_line (reading_of (context_of true false 4096) text).line))
+filters text = rule_of (values (rule_of_line (reading_of (context_of has.All false 4096) text).line))
 
 abbrev denied : What → Option Rule
 denied what = Some (record { permits = false; what = what })

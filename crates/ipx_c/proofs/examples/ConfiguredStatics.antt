@@ -1,7 +1,8 @@
 -- A line of a configuration says a route or a service that can be written in a neighbour's name.
-use Rattle.std.proofs.Common.{◌≡◌, ℕ, List, [], ◌∷◌, Option, Some, None, true, false, refl}
+use Rattle.std.proofs.Common.{◌≡◌, ℕ, List, [], ◌∷◌, Option, Some, None, false, refl}
 use Rattle.std.specs.Prelude.{codes, replicate}
 use Rattle.ipx_settings.specs.Lines.{reading_of}
+use Rattle.ipx_settings.specs.declared.link.Cards.TheVariants as has
 use Rattle.ipx_settings.specs.declared.line.Line.{Line}
 use Rattle.ipx_wire.specs.Name.{name_of}
 use Rattle.ipx_wire.specs.declared.rip.RipEntry.{RipEntry}
@@ -28,7 +29,7 @@ service_entry s = record {
 }
 
 abbrev said : List ℕ → Line
-said text = (reading_of (context_of true false 4096) text).line
+said text = (reading_of (context_of has.All false 4096) text).line
 
 -- the route that is written, and the services, if they have names
 abbrev route : List ℕ → RipEntry

@@ -1,5 +1,5 @@
 -- Bytes behind those of a capture.
-use Rattle.std.proofs.Common.{◌≡◌, ◌⊎◌, ℕ, zero, suc, ◌+◌, ◌<◌, ◌≤◌, true, false, List, [], ◌++◌, length, drop, refl, sym, ap, ◌∙◌, inl, inr, arith, Option, Some, None, Result, Ok, Err, append_assoc, append-nil, length-append, length-drop}
+use Rattle.std.proofs.Common.{◌≡◌, ◌⊎◌, ℕ, zero, suc, ◌+◌, ◌<◌, ◌≤◌, Bool, true, false, List, [], ◌∷◌, ◌++◌, length, drop, refl, sym, ap, ◌∙◌, inl, inr, arith, Option, Some, None, Result, Ok, Err, append_assoc, append-nil, length-append, length-drop}
 use Rattle.std.proofs.lemmas.Bool.{cases_lt, cases_eq, lt-ltb}
 use Rattle.std.proofs.lemmas.Grind.{flat_map-append}
 use Rattle.std.proofs.lemmas.List.{drop-append-le}
@@ -12,13 +12,15 @@ use Rattle.ipx_capture.specs.declared.capture_fault.CaptureFault.TheVariants.{Cu
 use Rattle.ipx_capture.specs.declared.order.Order.{Order}
 use Rattle.ipx_capture.proofs.Calling.{header_append}
 use Rattle.ipx_capture.proofs.First.{first_none, first_cut_header, first_long, first_cut, first_whole, first_size, long_append}
+use Rattle.ipx_recording.specs.Recorded.{is_recording}
 use Rattle.ipx_cmd.specs.Continues.{Continues}
 use Rattle.ipx_cmd.specs.Decoded.{IsFront}
 use Rattle.ipx_cmd.specs.RecordText.{record_text}
-use Rattle.ipx_cmd.specs.Shown.{judged, settled, contents_text, ending_text, ended_by, is_some_fault}
+use Rattle.ipx_cmd.specs.Shown.{shown, sofar, judged, settled, contents_text, ending_text, ended_by, is_some_fault}
 use Rattle.ipx_cmd.specs.declared.ended.Ended.TheVariants.{BadInput}
 use Rattle.ipx_cmd.proofs.captures.HowARunEnds.{shown_by, end_by, sofar_by, judged_by}
 use Rattle.ipx_cmd.proofs.captures.RecordsInFront.{Rows, rows_append, rows_end, rows_split, prepend}
+use Rattle.ipx_cmd.proofs.recordings.BytesBehindARecording.{recording_continues}
 
 -- records, and what stands behind them
 pub record Parsed (order : Order) (n : ℕ) (bytes : List ℕ) (c : Contents) : Type 0 where
@@ -68,60 +70,89 @@ settled_is : (fault : Option CaptureFault) → is_some_fault (settled fault) ≡
 settled_is fault e = grind arith
 
 -- the same records and the same end
-same_records : (bytes more : List ℕ) (c : Contents) → records bytes ≡ c → records (bytes ++ more) ≡ c → Continues bytes more
-same_records bytes more c e f = grind (arith, front_at, shown_by, sofar_by, settled_is, judged_by, end_by)
+same_records : (bytes more : List ℕ) (c : Contents) → is_recording bytes ≡ false → is_recording (bytes ++ more) ≡ false → records bytes ≡ c → records (bytes ++ more) ≡ c → Continues bytes more
+same_records bytes more c other other2 e f = grind (arith, front_at, shown_by, sofar_by, settled_is, judged_by, end_by)
 
 -- further records behind those of bytes that end well, or too soon
-longer : (bytes more : List ℕ) (c d : Contents) → records bytes ≡ c → settled c.fault ≡ None → records (bytes ++ more) ≡ prepend c.records d → Continues bytes more
-longer bytes more c d e none f =
+longer : (bytes more : List ℕ) (c d : Contents) → is_recording bytes ≡ false → is_recording (bytes ++ more) ≡ false → records bytes ≡ c → settled c.fault ≡ None → records (bytes ++ more) ≡ prepend c.records d → Continues bytes more
+longer bytes more c d other other2 e none f =
     let text : List ℕ = flat_map record_text c.records in
     let tail : List ℕ = flat_map record_text d.records ++ ending_text (length (c.records ++ d.records)) d.fault in
-    let opened : judged bytes ≡ false = judged_by bytes c e ∙ ap is_some_fault none in
+    let opened : judged bytes ≡ false = judged_by bytes c other e ∙ ap is_some_fault none in
     record {
       front = record {
         rest = tail;
-        is = shown_by (bytes ++ more) (prepend c.records d) f
+        is = shown_by (bytes ++ more) (prepend c.records d) other2 f
             ∙ ap (λ (x : List ℕ). x ++ ending_text (length (c.records ++ d.records)) d.fault) (flat_map-append record_text c.records d.records)
             ∙ append_assoc text (flat_map record_text d.records) (ending_text (length (c.records ++ d.records)) d.fault)
-            ∙ ap (λ (x : List ℕ). x ++ tail) (sym (sofar_by bytes c e ∙ ap (contents_text c) none ∙ append-nil text));
+            ∙ ap (λ (x : List ℕ). x ++ tail) (sym (sofar_by bytes c other e ∙ ap (contents_text c) none ∙ append-nil text));
       };
       whole = λ is. absurd (let wrong : false ≡ true = sym opened ∙ is in cc);
       bad = λ is. absurd (let wrong : false ≡ true = sym opened ∙ is in cc);
     }
 
 -- behind a header, by what stands behind the records
-behind_records : (bytes more : List ℕ) (order : Order) (c : Contents) (fault : Option CaptureFault) → records bytes ≡ c → c.fault ≡ fault → (p : Parsed order 1 (drop 24 bytes) c)
+behind_records : (bytes more : List ℕ) (order : Order) (c : Contents) (fault : Option CaptureFault) → is_recording bytes ≡ false → is_recording (bytes ++ more) ≡ false → records bytes ≡ c → c.fault ≡ fault → (p : Parsed order 1 (drop 24 bytes) c)
     → records (bytes ++ more) ≡ records_from (suc (length (bytes ++ more))) order 1 (drop 24 bytes ++ more) → Continues bytes more
-behind_records bytes more order c None e is p f =
+behind_records bytes more order c None other other2 e is p f =
     let rows = rows_append order c.records 1 (drop 24 bytes) p.rest more p.rows in
     let few : length (drop 24 bytes ++ more) < suc (length (bytes ++ more)) = omega (arith, length-append (drop 24 bytes) more, length-append bytes more, length-drop 24 bytes) in
     let split = rows_split order c.records (suc (length (bytes ++ more))) 1 (drop 24 bytes ++ more) (p.rest ++ more) rows few in
-    longer bytes more c (records_from (suc split.left) order (1 + length c.records) (p.rest ++ more)) e (ap settled is) (f ∙ split.are)
-behind_records bytes more order c (Some fault) e is p f =
+    longer bytes more c (records_from (suc split.left) order (1 + length c.records) (p.rest ++ more)) other other2 e (ap settled is) (f ∙ split.are)
+behind_records bytes more order c (Some fault) other other2 e is p f =
     let rows = rows_append order c.records 1 (drop 24 bytes) p.rest more p.rows in
     let few : length (drop 24 bytes ++ more) < suc (length (bytes ++ more)) = omega (arith, length-append (drop 24 bytes) more, length-append bytes more, length-drop 24 bytes) in
     let split = rows_split order c.records (suc (length (bytes ++ more))) 1 (drop 24 bytes ++ more) (p.rest ++ more) rows few in
     let told : first_record order (1 + length c.records) p.rest ≡ Err fault = p.end ∙ ap ending is in
     elim (two_faults order (1 + length c.records) p.rest fault told) [
-      | inl cut ↦ longer bytes more c (records_from (suc split.left) order (1 + length c.records) (p.rest ++ more)) e (ap settled (is ∙ ap Some cut)) (f ∙ split.are)
+      | inl cut ↦ longer bytes more c (records_from (suc split.left) order (1 + length c.records) (p.rest ++ more)) other other2 e (ap settled (is ∙ ap Some cut)) (f ∙ split.are)
       | inr long ↦
           let still = long_append order (1 + length c.records) p.rest more (told ∙ ap Err long) in
-          same_records bytes more c e (f
+          same_records bytes more c other other2 e (f
           ∙ rows_end order c.records (suc (length (bytes ++ more))) 1 (1 + length c.records) (drop 24 bytes ++ more) (p.rest ++ more) (Some RecordLong) rows few refl still
           ∙ ap (λ (x : Option CaptureFault). record { records = c.records; fault = x }) (sym (is ∙ ap Some long)))
     ]
 
-by_header : (bytes more : List ℕ) (h : Result Order CaptureFault) → header_of bytes ≡ h → header_of (bytes ++ more) ≡ header_of bytes → 24 ≤ length bytes → Continues bytes more
-by_header bytes more (Err fault) e same enough =
-    same_records bytes more (record { records = []; fault = Some fault }) (ap (λ x. behind_header x bytes) e) (ap (λ x. behind_header x (bytes ++ more)) (same ∙ e))
-by_header bytes more (Ok order) e same enough =
+by_header : (bytes more : List ℕ) (h : Result Order CaptureFault) → is_recording bytes ≡ false → is_recording (bytes ++ more) ≡ false → header_of bytes ≡ h → header_of (bytes ++ more) ≡ header_of bytes → 24 ≤ length bytes → Continues bytes more
+by_header bytes more (Err fault) other other2 e same enough =
+    same_records bytes more (record { records = []; fault = Some fault }) other other2 (ap (λ x. behind_header x bytes) e) (ap (λ x. behind_header x (bytes ++ more)) (same ∙ e))
+by_header bytes more (Ok order) other other2 e same enough =
     let few : length (drop 24 bytes) < suc (length bytes) = omega (arith, length-drop 24 bytes) in
     let c = records_from (suc (length bytes)) order 1 (drop 24 bytes) in
-    behind_records bytes more order c c.fault (ap (λ x. behind_header x bytes) e) refl (parsed (suc (length bytes)) order 1 (drop 24 bytes) few)
+    behind_records bytes more order c c.fault other other2 (ap (λ x. behind_header x bytes) e) refl (parsed (suc (length bytes)) order 1 (drop 24 bytes) few)
     (ap (λ x. behind_header x (bytes ++ more)) (same ∙ e) ∙ ap (records_from (suc (length (bytes ++ more))) order 1) (drop-append-le 24 bytes more enough))
 
-pub continues : (bytes more : List ℕ) → Continues bytes more
-continues bytes more = elim (header_stays bytes more) [
-  | inl cut ↦ longer bytes more (record { records = []; fault = Some CutHeader }) (records (bytes ++ more)) (ap (λ x. behind_header x bytes) cut) refl refl
-  | inr kept ↦ by_header bytes more (header_of bytes) refl kept.1 kept.0
+-- a header that is cut says nothing yet
+nothing_yet : (bytes more : List ℕ) → is_recording bytes ≡ false → header_of bytes ≡ Err CutHeader → Continues bytes more
+nothing_yet bytes more other cut =
+    let c : Contents = record { records = []; fault = Some CutHeader } in
+    let are : records bytes ≡ c = ap (λ x. behind_header x bytes) cut in
+    let none : sofar bytes ≡ [] = sofar_by bytes c other are in
+    let opened : judged bytes ≡ false = judged_by bytes c other are in
+    record {
+      front = record { rest = shown (bytes ++ more); is = ap (λ (x : List ℕ). x ++ shown (bytes ++ more)) (sym none) };
+      whole = λ is. absurd (let wrong : false ≡ true = sym opened ∙ is in cc);
+      bad = λ is. absurd (let wrong : false ≡ true = sym opened ∙ is in cc);
+    }
+
+-- more bytes make no recording of four
+still_none : (bytes more : List ℕ) → 4 ≤ length bytes → is_recording bytes ≡ false → is_recording (bytes ++ more) ≡ false
+unfolding is_recording
+still_none [] more enough other = absurd (omega arith)
+still_none (a ∷ []) more enough other = absurd (omega arith)
+still_none (a ∷ b ∷ []) more enough other = absurd (omega arith)
+still_none (a ∷ b ∷ c ∷ []) more enough other = absurd (omega arith)
+still_none (a ∷ b ∷ c ∷ d ∷ rest) more enough other = other
+
+of_capture : (bytes more : List ℕ) → is_recording bytes ≡ false → Continues bytes more
+of_capture bytes more other = elim (header_stays bytes more) [
+  | inl cut ↦ nothing_yet bytes more other cut
+  | inr kept ↦ by_header bytes more (header_of bytes) other (still_none bytes more (omega (arith, kept.0)) other) refl kept.1 kept.0
 ]
+
+by_mark : (bytes more : List ℕ) (b : Bool) → is_recording bytes ≡ b → Continues bytes more
+by_mark bytes more false other = of_capture bytes more other
+by_mark bytes more true is = recording_continues bytes more is
+
+pub continues : (bytes more : List ℕ) → Continues bytes more
+continues bytes more = by_mark bytes more (is_recording bytes) refl

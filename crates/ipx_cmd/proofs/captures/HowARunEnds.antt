@@ -1,16 +1,18 @@
 -- How a run of `decode` ends, from where it stood.
-use Rattle.std.proofs.Common.{◌≡◌, ◌⊎◌, ℕ, suc, ◌+◌, true, List, [], ◌++◌, length, take, drop, refl, sym, ap, subst, ◌∙◌, inl, inr, arith, Option, Some, None, Result, Ok, Err, IfOk, IfErr, OnErr, append_assoc, append-nil, length-append, drop_at, rules}
+use Rattle.std.proofs.Common.{◌≡◌, ◌⊎◌, ℕ, suc, ◌+◌, ◌<◌, ◌≤◌, false, true, List, [], ◌++◌, length, take, drop, refl, sym, ap, subst, ◌∙◌, inl, inr, arith, Option, Some, None, Result, Ok, Err, IfOk, IfErr, OnErr, append_assoc, append-nil, length-append, drop_at}
 use Rattle.std.proofs.KnownBytes.{Appends-nil, Appends-trans, Consumes-trans}
 use Rattle.std.proofs.lemmas.Grind.{flat_map-append}
 use Rattle.std.proofs.lemmas.List.{take-append-drop}
 use Rattle.std.specs.Io.KnownBytes.{Appends, Consumes, IsAtEnd}
 use Rattle.std.specs.List.{flat_map}
 use Rattle.ipx_wire.specs.Ends.{Input, Output}
-use Rattle.ipx_wire.specs.declared.failed.Failed.{Failed}
 use Rattle.ipx_capture.specs.Calls.{ending}
-use Rattle.ipx_capture.specs.Given.{UnopenedBy}
-use Rattle.ipx_capture.specs.Header.{header_of}
-use Rattle.ipx_capture.specs.Place.{Place, Opened, Unopened, Takes, Nexts, told}
+use Rattle.ipx_capture.specs.Header.{header_of, order_of, checked}
+use Rattle.ipx_capture.specs.Window.{least_room}
+use Rattle.ipx_capture.specs.declared.order.Order.{Order}
+use Rattle.ipx_wire.specs.Piece.{piece}
+use Rattle.std.proofs.lemmas.Bool.{lt-ltb, le-ltb, cases_lt}
+use Rattle.ipx_capture.specs.Place.{Place, Opened, Takes, Nexts, told}
 use Rattle.ipx_capture.specs.Records.{Record, Contents, records, records_from, behind_header, first_record}
 use Rattle.ipx_capture.specs.declared.capture.Captured.{Captured}
 use Rattle.ipx_capture.specs.declared.capture_fault.CaptureFault.{CaptureFault}
@@ -19,14 +21,16 @@ use Rattle.ipx_capture.specs.declared.standing.Standing.TheVariants.{Open}
 use Rattle.ipx_capture.proofs.Calling.{header_append}
 use Rattle.ipx_capture.proofs.First.{first_none}
 use Rattle.ipx_cmd.specs.Decoded.{CutOff, Decoded, IsFront}
+use Rattle.ipx_recording.specs.Recorded.{is_recording}
+use Rattle.ipx_recording.proofs.Beginning.{no_recording}
 use Rattle.ipx_cmd.specs.inside.Moved.{Refuses, Tells}
+use Rattle.ipx_cmd.specs.inside.Recording.{HasRead}
 use Rattle.ipx_cmd.specs.RecordText.{record_text}
-use Rattle.ipx_cmd.specs.WroteFront.{WroteAll, WroteFront}
+use Rattle.ipx_cmd.specs.WroteFront.{IsFaultOf, WroteAll, WroteFront}
 use Rattle.ipx_cmd.specs.Shown.{shown, shown_end, sofar, judged, settled, contents_text, ending_text, ended_by, is_some_fault, capture_fault_text}
 use Rattle.ipx_cmd.specs.declared.ended.Ended.{Ended}
 use Rattle.ipx_cmd.specs.declared.ended.Ended.TheVariants.{Done, BadInput}
 use Rattle.ipx_cmd.specs.declared.ended.RunFault.{RunFault}
-use Rattle.ipx_cmd.specs.declared.ended.RunFault.TheVariants.{Read as ReadFault, Memory as MemoryFault}
 use Rattle.ipx_cmd.proofs.captures.BetweenTwoRecords.{Midway}
 use Rattle.ipx_cmd.proofs.captures.RecordsInFront.{Rows, rows_append, rows_end, rows_split, prepend}
 
@@ -34,22 +38,22 @@ use Rattle.ipx_cmd.proofs.captures.RecordsInFront.{Rows, rows_append, rows_end, 
 pub takes_of : (p q : Place) (a b : Result (Option Captured) CaptureFault) → p.standing ≡ Open → Nexts p q (told a) → a ≡ b → Takes p q (told b)
 takes_of p q a b goes_on h e = grind arith
 
--- texts by the records of the bytes
-pub shown_by : (bytes : List ℕ) (c : Contents) → records bytes ≡ c → shown bytes ≡ contents_text c c.fault
+-- texts by the records of the bytes, which are no recording
+pub shown_by : (bytes : List ℕ) (c : Contents) → is_recording bytes ≡ false → records bytes ≡ c → shown bytes ≡ contents_text c c.fault
 unfolding shown
-shown_by bytes c e = ap (λ (x : Contents). contents_text x x.fault) e
+shown_by bytes c other e = rw other (ap (λ (x : Contents). contents_text x x.fault) e)
 
-pub end_by : (bytes : List ℕ) (c : Contents) → records bytes ≡ c → shown_end bytes ≡ ended_by c.fault
+pub end_by : (bytes : List ℕ) (c : Contents) → is_recording bytes ≡ false → records bytes ≡ c → shown_end bytes ≡ ended_by c.fault
 unfolding shown_end
-end_by bytes c e = ap (λ (x : Contents). ended_by x.fault) e
+end_by bytes c other e = rw other (ap (λ (x : Contents). ended_by x.fault) e)
 
-pub sofar_by : (bytes : List ℕ) (c : Contents) → records bytes ≡ c → sofar bytes ≡ contents_text c (settled c.fault)
+pub sofar_by : (bytes : List ℕ) (c : Contents) → is_recording bytes ≡ false → records bytes ≡ c → sofar bytes ≡ contents_text c (settled c.fault)
 unfolding sofar
-sofar_by bytes c e = ap (λ (x : Contents). contents_text x (settled x.fault)) e
+sofar_by bytes c other e = rw other (ap (λ (x : Contents). contents_text x (settled x.fault)) e)
 
-pub judged_by : (bytes : List ℕ) (c : Contents) → records bytes ≡ c → judged bytes ≡ is_some_fault (settled c.fault)
+pub judged_by : (bytes : List ℕ) (c : Contents) → is_recording bytes ≡ false → records bytes ≡ c → judged bytes ≡ is_some_fault (settled c.fault)
 unfolding judged
-judged_by bytes c e = ap (λ (x : Contents). is_some_fault (settled x.fault)) e
+judged_by bytes c other e = rw other (ap (λ (x : Contents). is_some_fault (settled x.fault)) e)
 
 -- the records of a file are those behind its header
 file_records : (before : Input) (p : Place) (opened : Opened before p) (more : List ℕ)
@@ -59,6 +63,12 @@ file_records before p opened more =
     let size = opened.begun.size in
     ap (λ x. behind_header x (h ++ more)) (header_append h more (omega (arith, size)) ∙ opened.begun.order_is)
     ∙ ap (records_from (suc (length (h ++ more))) p.order 1) (drop_at h more 24 size)
+
+-- and it is no recording
+no_mark : (before : Input) (p : Place) (opened : Opened before p) (more : List ℕ) → is_recording (opened.begun.header ++ more) ≡ false
+no_mark before p opened more =
+    let h = opened.begun.header in
+    no_recording (h ++ more) p.order (header_append h more (omega (arith, opened.begun.size)) ∙ opened.begun.order_is)
 
 -- its records so far, and then some others
 file_split : (before : Input) (p : Place) (opened : Opened before p) (more rest : List ℕ) (rs : List Record) → Rows p.order 1 more rs rest
@@ -75,13 +85,13 @@ file_end before p opened more rest rs m fault rows same told =
     ∙ rows_end p.order rs (suc (length (opened.begun.header ++ more))) 1 m more rest fault rows (omega (arith, length-append opened.begun.header more)) same told
 
 -- prefixes of texts
-front_of : (whole gone text : List ℕ) (k : ℕ) → whole ≡ gone ++ text → IsFront (gone ++ take k text) whole
+pub front_of : (whole gone text : List ℕ) (k : ℕ) → whole ≡ gone ++ text → IsFront (gone ++ take k text) whole
 front_of whole gone text k e = record {
   rest = drop k text;
   is = e ∙ ap (λ (x : List ℕ). gone ++ x) (sym (take-append-drop k text)) ∙ sym (append_assoc gone (take k text) (drop k text));
 }
 
-front_more : (text whole more longer : List ℕ) → IsFront text whole → longer ≡ whole ++ more → IsFront text longer
+pub front_more : (text whole more longer : List ℕ) → IsFront text whole → longer ≡ whole ++ more → IsFront text longer
 front_more text whole more longer front e = grind (arith, append_assoc)
 
 -- nothing was written
@@ -137,7 +147,7 @@ module _ {before : Input} {p q : Place} {from o : Output} {text : List ℕ} {n :
       let bytes : List ℕ = opened.begun.header ++ (m.more ++ more) in
       let tail : List ℕ = flat_map record_text c.records ++ ending_text (length (m.rs ++ c.records)) (settled c.fault) in
       let texts : sofar bytes ≡ flat_map record_text m.rs ++ tail =
-      sofar_by bytes (prepend m.rs c) split.1
+      sofar_by bytes (prepend m.rs c) (no_mark before p opened (m.more ++ more)) split.1
       ∙ ap (λ (x : List ℕ). x ++ ending_text (length (m.rs ++ c.records)) (settled c.fault)) (flat_map-append record_text m.rs c.records)
       ∙ append_assoc (flat_map record_text m.rs) (flat_map record_text c.records) (ending_text (length (m.rs ++ c.records)) (settled c.fault)) in
       record {
@@ -160,12 +170,12 @@ module _ {before : Input} {p q : Place} {from o : Output} {text : List ℕ} {n :
   done {s = s} {to = to} t w =
       let bytes : List ℕ = opened.begun.header ++ (m.more ++ t.more) in
       let are = met t.more None (ap (first_record q.order (q.taken + 1)) t.gives.0 ∙ first_none q.order (q.taken + 1) [] refl) in
-      let texts : shown bytes ≡ m.gone ++ text = shown_by bytes (record { records = m.rs; fault = None }) are ∙ append-nil (flat_map record_text m.rs) ∙ m.text_is in
+      let texts : shown bytes ≡ m.gone ++ text = shown_by bytes (record { records = m.rs; fault = None }) (no_mark before p opened (m.more ++ t.more)) are ∙ append-nil (flat_map record_text m.rs) ∙ m.text_is in
       record {
         bytes = bytes;
         read = read_on s.input t.more t.read;
         wrote = subst (Appends from.written to.written) (sym texts) (Appends-trans from.written o.written to.written m.gone text m.wrote w.written);
-        answer = sym (end_by bytes (record { records = m.rs; fault = None }) are);
+        answer = sym (end_by bytes (record { records = m.rs; fault = None }) (no_mark before p opened (m.more ++ t.more)) are);
         enough = inl t.gives.2;
       }
 
@@ -181,6 +191,7 @@ module _ {before : Input} {p q : Place} {from o : Output} {text : List ℕ} {n :
   found_ends s fault f =
       let bytes : List ℕ = opened.begun.header ++ (m.more ++ f.more) in
       let c : Contents = record { records = m.rs; fault = Some fault } in
+      let other = no_mark before p opened (m.more ++ f.more) in
       let are = met f.more (Some fault) f.is in
       let line : List ℕ = capture_fault_text (n + 1) fault in
       let whole : contents_text c (Some fault) ≡ m.gone ++ (text ++ line) =
@@ -190,10 +201,10 @@ module _ {before : Input} {p q : Place} {from o : Output} {text : List ℕ} {n :
         gone = m.gone;
         read = read_on s.input f.more f.read;
         wrote = m.wrote;
-        shown_is = shown_by bytes c are ∙ whole;
-        end_is = end_by bytes c are;
-        sofar_is = λ settles. sofar_by bytes c are ∙ ap (contents_text c) settles ∙ whole;
-        judged_is = λ settles. judged_by bytes c are ∙ ap is_some_fault settles;
+        shown_is = shown_by bytes c other are ∙ whole;
+        end_is = end_by bytes c other are;
+        sofar_is = λ settles. sofar_by bytes c other are ∙ ap (contents_text c) settles ∙ whole;
+        judged_is = λ settles. judged_by bytes c other are ∙ ap is_some_fault settles;
       }
 
   found_ok : (s : Place) (to : Output) (fault : CaptureFault) (r : Result Ended RunFault) → Found s fault → Tells (n + 1) fault o to text r
@@ -249,9 +260,9 @@ on_err_all P r h = grind arith
 header_records : (bytes : List ℕ) (fault : CaptureFault) → header_of bytes ≡ Err fault → records bytes ≡ record { records = []; fault = Some fault }
 header_records bytes fault e = ap (λ x. behind_header x bytes) e
 
-header_ends : (before new : Input) (from : Output) (bytes : List ℕ) (fault : CaptureFault) → Consumes before.left new.left bytes → header_of bytes ≡ Err fault
-    → ending_text 0 (Some fault) ≡ capture_fault_text 0 fault → Ends before new from from [] (capture_fault_text 0 fault) fault
-header_ends before new from bytes fault read e line =
+header_ends : (before new : Input) (from : Output) (bytes : List ℕ) (fault : CaptureFault) → Consumes before.left new.left bytes → is_recording bytes ≡ false
+    → header_of bytes ≡ Err fault → ending_text 0 (Some fault) ≡ capture_fault_text 0 fault → Ends before new from from [] (capture_fault_text 0 fault) fault
+header_ends before new from bytes fault read other e line =
     let are = header_records bytes fault e in
     let c : Contents = record { records = []; fault = Some fault } in
     record {
@@ -259,39 +270,140 @@ header_ends before new from bytes fault read e line =
       gone = [];
       read = read;
       wrote = Appends-nil from.written;
-      shown_is = shown_by bytes c are ∙ line;
-      end_is = end_by bytes c are;
-      sofar_is = λ settles. sofar_by bytes c are ∙ ap (contents_text c) settles ∙ line;
-      judged_is = λ settles. judged_by bytes c are ∙ ap is_some_fault settles;
+      shown_is = shown_by bytes c other are ∙ line;
+      end_is = end_by bytes c other are;
+      sofar_is = λ settles. sofar_by bytes c other are ∙ ap (contents_text c) settles ∙ line;
+      judged_is = λ settles. judged_by bytes c other are ∙ ap is_some_fault settles;
     }
 
-header_found : (before new : Input) (from to : Output) (bytes : List ℕ) (fault : CaptureFault) (r : Result Ended RunFault) → Consumes before.left new.left bytes → header_of bytes ≡ Err fault
-    → IsAtEnd new.left ⊎ (settled (Some fault) ≡ Some fault) → ending_text 0 (Some fault) ≡ capture_fault_text 0 fault → Tells 0 fault from to [] r
+header_found : (before new : Input) (from to : Output) (bytes : List ℕ) (fault : CaptureFault) (r : Result Ended RunFault) → Consumes before.left new.left bytes → is_recording bytes ≡ false
+    → header_of bytes ≡ Err fault → IsAtEnd new.left ⊎ (settled (Some fault) ≡ Some fault) → ending_text 0 (Some fault) ≡ capture_fault_text 0 fault → Tells 0 fault from to [] r
     → IfOk r (Decoded before new from to) × OnErr r (CutOff before new from to)
-header_found before new from to bytes fault (Ok ended) read e enough line w = search (rules, ends_ok, header_ends)
-header_found before new from to bytes fault (Err why) read e enough line w = search (rules, ends_err, header_ends)
+header_found before new from to bytes fault (Ok ended) read other e enough line w = (ends_ok 0 (header_ends before new from bytes fault read other e line) enough w.0 w.1, tt)
+header_found before new from to bytes fault (Err why) read other e enough line w = (tt, ends_err 0 (header_ends before new from bytes fault read other e line) enough w.0)
 
-header_lost : (before new : Input) (from to : Output) (bytes : List ℕ) (r : Result Ended RunFault) (why : RunFault) → Consumes before.left new.left bytes → r ≡ Err why → to ≡ from
-    → IfOk r (Decoded before new from to) × OnErr r (CutOff before new from to)
-header_lost before new from to bytes r why read e same = grind (arith, Appends-nil)
+-- a header that is cut
+pub header_short : (front : List ℕ) → length front < 24 → header_of front ≡ Err CutHeader
+unfolding header_of
+header_short front few = rw (lt-ltb (length front) 24 few) refl
+
+-- which faults the fields of a header have
+abbrev IsOfFields : CaptureFault → Type 0
+IsOfFields Magic = Unit {0}
+IsOfFields Version = Unit {0}
+IsOfFields Link = Unit {0}
+IsOfFields CutHeader = ⊥
+IsOfFields RecordLong = ⊥
+IsOfFields CutRecord = ⊥
+IsOfFields Read = ⊥
+IsOfFields Memory = ⊥
+
+checked_fault : (o : Option Order) (major minor link : List ℕ) (fault : CaptureFault) → checked o major minor link ≡ Err fault → IsOfFields fault
+checked_fault o major minor link fault e = grind arith
+
+header_fault : (front : List ℕ) (fault : CaptureFault) → header_of front ≡ Err fault → ((length front < 24) × (fault ≡ CutHeader)) ⊎ IsOfFields fault
+unfolding header_of
+header_fault front fault e =
+    elim (cases_lt (length front) 24) [
+      | inl few ↦ inl (few, (let same : Err fault ≡ Err CutHeader = sym e ∙ header_short front few in cc))
+      | inr enough ↦ inr (checked_fault (order_of (piece front 0 4)) (piece front 4 2) (piece front 6 2) (piece front 20 4) fault
+          (let whole : header_of front ≡ checked (order_of (piece front 0 4)) (piece front 4 2) (piece front 6 2) (piece front 20 4) = rw (le-ltb (length front) 24 enough) refl in sym whole ∙ e))
+    ]
 
 -- what a run ends with where the header is refused
-header_told : (before new : Input) (from to : Output) (fault : CaptureFault) (r : Result Ended RunFault) → Unopened before new fault → Refuses fault 0 from to [] r
+header_told : (before new : Input) (from to : Output) (front : List ℕ) (fault : CaptureFault) (r : Result Ended RunFault) → HasRead before new front → is_recording front ≡ false
+    → header_of front ≡ Err fault → ((length front < 24) × (fault ≡ CutHeader)) ⊎ IsOfFields fault → Refuses fault 0 from to [] r
     → IfOk r (Decoded before new from to) × OnErr r (CutOff before new from to)
-header_told before new from to CutHeader r u w = header_found before new from to u.bytes CutHeader r u.read u.told.0 (inl u.told.1) refl w
-header_told before new from to Magic r u w = header_found before new from to u.bytes Magic r u.read u.told.0 (inr refl) refl w
-header_told before new from to Version r u w = header_found before new from to u.bytes Version r u.read u.told.0 (inr refl) refl w
-header_told before new from to Link r u w = header_found before new from to u.bytes Link r u.read u.told.0 (inr refl) refl w
-header_told before new from to Read r u w = header_lost before new from to u.bytes r ReadFault u.read w.0 w.1
-header_told before new from to Memory r u w = header_lost before new from to u.bytes r MemoryFault u.read w.0 w.1
-header_told before new from to RecordLong r u w = absurd u.told
-header_told before new from to CutRecord r u w = absurd u.told
+header_told before new from to front CutHeader r h other e (inl few) w = header_found before new from to front CutHeader r h.read other e (inl (h.ended few.0)) refl w
+header_told before new from to front CutHeader r h other e (inr bad) w = absurd bad
+header_told before new from to front Magic r h other e kind w = header_found before new from to front Magic r h.read other e (inr refl) refl w
+header_told before new from to front Version r h other e kind w = header_found before new from to front Version r h.read other e (inr refl) refl w
+header_told before new from to front Link r h other e kind w = header_found before new from to front Link r h.read other e (inr refl) refl w
+header_told before new from to front Read r h other e (inl few) w = absurd (let wrong = few.1 in cc)
+header_told before new from to front Read r h other e (inr bad) w = absurd bad
+header_told before new from to front Memory r h other e (inl few) w = absurd (let wrong = few.1 in cc)
+header_told before new from to front Memory r h other e (inr bad) w = absurd bad
+header_told before new from to front RecordLong r h other e (inl few) w = absurd (let wrong = few.1 in cc)
+header_told before new from to front RecordLong r h other e (inr bad) w = absurd bad
+header_told before new from to front CutRecord r h other e (inl few) w = absurd (let wrong = few.1 in cc)
+header_told before new from to front CutRecord r h other e (inr bad) w = absurd bad
 
-pub header_exit : (before new : Input) (from to : Output) (text : List ℕ) (fault : CaptureFault) (r : Result Ended RunFault) → text ≡ [] → Unopened before new fault
-    → Refuses fault 0 from to text r → IfOk r (Decoded before new from to) × OnErr r (CutOff before new from to)
-header_exit before new from to text fault r none u w = header_told before new from to fault r u (subst (λ (x : List ℕ). Refuses fault 0 from to x r) none w)
+pub header_exit : (before new : Input) (from to : Output) (front text : List ℕ) (fault : CaptureFault) (r : Result Ended RunFault) → HasRead before new front → is_recording front ≡ false
+    → header_of front ≡ Err fault → text ≡ [] → Refuses fault 0 from to text r → IfOk r (Decoded before new from to) × OnErr r (CutOff before new from to)
+header_exit before new from to front text fault r h other e none w =
+    header_told before new from to front fault r h other e (header_fault front fault e) (subst (λ (x : List ℕ). Refuses fault 0 from to x r) none w)
 
--- the header that was refused
-pub unopened_at : {T : Type 0} (asked : ℕ → List ℕ → Result ℕ Failed → ℕ → Type 0) (before new : Input) (fault : CaptureFault) (r : Result T CaptureFault)
-    → OnErr r (IfErr r (UnopenedBy asked before new)) → r ≡ Err fault → Unopened before new fault
-unopened_at {T = T} asked before new fault r h e = grind arith
+-- a run that was given up before anything was written
+pub gave_up : (before new : Input) (from to : Output) (front : List ℕ) → Consumes before.left new.left front → to ≡ from → CutOff before new from to
+gave_up before new from to front read same = record {
+  bytes = front;
+  text = [];
+  read = read;
+  wrote = subst (λ (x : Output). Appends from.written x.written []) (sym same) (Appends-nil from.written);
+  front = inl (record { rest = sofar front; is = refl });
+}
+
+-- a capture stands behind its header
+pub opened_by : (before now : Input) (front : List ℕ) (order : Order) (p : Place) → HasRead before now front → now.failed ≡ false → Ok order ≡ header_of front
+    → p ≡ record { order = order; taken = 0; ahead = []; memory = least_room; standing = Open; input = now } → Opened before p
+opened_by before now front order p h fine told is =
+    let long : 24 ≤ length front = elim (cases_lt (length front) 24) [
+      | inl few ↦ absurd (let wrong = told ∙ header_short front few in cc)
+      | inr enough ↦ enough
+    ] in
+    rw is (record {
+      begun = record { header = front; read = h.read; size = omega (arith, long, h.few); order_is = sym told; fine = fine; bounded = h.bounded (omega (arith, long)) };
+      none = refl;
+      fresh = refl;
+      room = refl;
+      goes_on = refl;
+    })
+
+-- a header that is there was read in some calls
+pub few_calls : (before now : Input) (front : List ℕ) (order : Order) → HasRead before now front → Ok order ≡ header_of front → now.calls ≤ 16777216
+few_calls before now front order h told =
+    elim (cases_lt (length front) 24) [
+      | inl few ↦ absurd (let wrong = told ∙ header_short front few in cc)
+      | inr enough ↦ h.bounded (omega (arith, enough))
+    ]
+
+-- what holds of each file whose capture stands there, holds of each whose header was read
+pub ok_opened : {T : Type 0} (r : Result T RunFault) (p : Place) (P Q : Input → T → Type 0) (H : Input → Type 0) → ((before : Input) → H before → Opened before p)
+    → ((before : Input) (x : T) → P before x → Q before x) → IfOk r (λ x. (before : Input) → Opened before p → P before x) → IfOk r (λ x. (before : Input) → H before → Q before x)
+ok_opened (Ok x) p P Q H opens same ok = λ before h. same before x (ok before (opens before h))
+ok_opened (Err why) p P Q H opens same ok = tt
+
+pub err_opened : {T : Type 0} (r : Result T RunFault) (p : Place) (P Q : Input → Type 0) (H : Input → Type 0) → ((before : Input) → H before → Opened before p)
+    → ((before : Input) → P before → Q before) → OnErr r ((before : Input) → Opened before p → P before) → OnErr r ((before : Input) → H before → Q before)
+err_opened (Ok x) p P Q H opens same err = tt
+err_opened (Err why) p P Q H opens same err = λ before h. same before (err before (opens before h))
+
+-- a header that is refused is no device's fault
+told_fault : (n : ℕ) (fault : CaptureFault) (from to : Output) (text : List ℕ) (r : Result Ended RunFault) → Tells n fault from to text r → IfErr r (IsFaultOf false to.failed)
+told_fault n fault from to text (Ok ended) w = tt
+told_fault n fault from to text (Err why) w = w.1
+
+fault_by_kind : (front : List ℕ) (fault : CaptureFault) (from to : Output) (text : List ℕ) (r : Result Ended RunFault) → ((length front < 24) × (fault ≡ CutHeader)) ⊎ IsOfFields fault
+    → Refuses fault 0 from to text r → IfErr r (IsFaultOf false to.failed)
+fault_by_kind front CutHeader from to text r kind w = told_fault 0 CutHeader from to text r w
+fault_by_kind front Magic from to text r kind w = told_fault 0 Magic from to text r w
+fault_by_kind front Version from to text r kind w = told_fault 0 Version from to text r w
+fault_by_kind front Link from to text r kind w = told_fault 0 Link from to text r w
+fault_by_kind front Read from to text r (inl few) w = absurd (let wrong = few.1 in cc)
+fault_by_kind front Read from to text r (inr bad) w = absurd bad
+fault_by_kind front Memory from to text r (inl few) w = absurd (let wrong = few.1 in cc)
+fault_by_kind front Memory from to text r (inr bad) w = absurd bad
+fault_by_kind front RecordLong from to text r kind w = told_fault 0 RecordLong from to text r w
+fault_by_kind front CutRecord from to text r kind w = told_fault 0 CutRecord from to text r w
+
+pub header_fault_is : (new : Input) (front : List ℕ) (fault : CaptureFault) (from to : Output) (text : List ℕ) (r : Result Ended RunFault) → header_of front ≡ Err fault → new.failed ≡ false
+    → Refuses fault 0 from to text r → IfErr r (IsFaultOf new.failed to.failed)
+header_fault_is new front fault from to text r e fine w =
+    subst (λ b. IfErr r (IsFaultOf b to.failed)) (sym fine) (fault_by_kind front fault from to text r (header_fault front fault e) w)
+
+-- the same intake
+pub other_input : (before x y : Input) (from to : Output) (ended : Ended) → Decoded before x from to ended → x ≡ y → Decoded before y from to ended
+other_input before x y from to ended d same = subst (λ z. Decoded before z from to ended) same d
+
+pub other_input_cut : (before x y : Input) (from to : Output) → CutOff before x from to → x ≡ y → CutOff before y from to
+other_input_cut before x y from to d same = subst (λ z. CutOff before z from to) same d

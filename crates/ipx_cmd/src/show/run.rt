@@ -4,15 +4,19 @@ ghost use Rattle.std.specs.Prelude.{◌≡◌, [], false, IfErr, IfOk, OnErr, On
 ghost use Rattle.ipx_wire.specs.Ends.{Input};
 ghost use Rattle.ipx_capture.specs.Place.{Opened, keeps, place};
 ghost use Rattle.ipx_cmd.specs.Decoded.{CutOff, Decoded};
+ghost use Rattle.ipx_recording.specs.Recorded as spec;
 ghost use Rattle.ipx_cmd.specs.inside.Moved.{Moved, Refuses, Tells};
+ghost use Rattle.ipx_cmd.specs.inside.Recording.{HasRead};
 ghost use Rattle.ipx_cmd.specs.WroteFront.{IsFaultOf, WroteFront};
 
 use crate::ended::{Ended, RunFault};
 use crate::show::capture_word::fault_line;
 use crate::show::record_lines::record_lines;
+use crate::show::recording::show_recording;
 use crate::texts::draft::Draft;
 use crate::texts::flushing::{LARGE, flush};
-use ipx_capture::{Capture, CaptureFault};
+use ipx_capture::{Capture, CaptureFault, HEADER_SIZE, Window, file_order, read_front};
+use ipx_recording::is_recording;
 use ipx_wire::{Intake, Outlet};
 use std::alloc::Global;
 use std::io::{Read, Write};
@@ -32,9 +36,37 @@ pub fn decode<R: Read, W: Write>(
     ensures err { OnErr result (CutOff intake.old intake.new outlet.old outlet.new) }
     ensures fault { IfErr result (IsFaultOf intake.new.failed outlet.new.failed) }
 {
+    let mut header = [0; HEADER_SIZE];
+    let Ok(count) = read_front(intake, &mut header) else {
+        return Err(RunFault::Read);
+    };
+    let (front, _) = header.split_at(count);
+    if is_recording(front) {
+        return show_recording(alloc, front, intake, outlet);
+    }
+    show_capture(alloc, front, intake, outlet)
+}
+
+/// Shows the records of a capture that begins with bytes which have been read.
+fn show_capture<R: Read, W: Write>(
+    alloc: Global,
+    front: &[u8],
+    intake: &mut Intake<R>,
+    outlet: &mut Outlet<W>,
+) -> Result<Ended, RunFault>
+    requires front { (before : Input) × HasRead before intake.old front.now }
+    requires capture { spec.is_recording front.now ≡ false }
+    requires intake { intake.old.failed ≡ false }
+    requires outlet { outlet.old.failed ≡ false }
+    ensures ok { IfOk result (λ ended. (before : Input) → HasRead before intake.old front.now → Decoded before intake.new outlet.old outlet.new ended) }
+    ensures err { OnErr result ((before : Input) → HasRead before intake.old front.now → CutOff before intake.new outlet.old outlet.new) }
+    ensures fault { IfErr result (IsFaultOf intake.new.failed outlet.new.failed) }
+{
     let mut text = Vec::new(alloc);
-    match Capture::from_reader(intake, alloc) {
-        Ok(mut capture) => {
+    match file_order(front) {
+        Ok(order) => {
+            let window = Window::new(alloc)?;
+            let mut capture = Capture::begun(intake, order, window);
             let answer = show_records(&mut capture, &mut text, outlet);
             let _intake = capture.into_inner();
             answer

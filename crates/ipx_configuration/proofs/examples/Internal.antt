@@ -1,6 +1,7 @@
 -- A line says the router's own network, which counts among the others.
 use Rattle.std.proofs.Common.{◌≡◌, refl, true, ℕ, List, [], ◌∷◌, replicate, Option, Some, None}
 use Rattle.std.specs.Prelude.{codes}
+use Rattle.ipx_settings.specs.declared.link.Cards.TheVariants as has
 use Rattle.ipx_settings.specs.declared.expected.Expected.TheVariants as expected
 use Rattle.ipx_settings.specs.declared.network.NetworkBegun.TheVariants as network
 use Rattle.ipx_configuration.specs.Carriers.{no_carrier}
@@ -16,7 +17,7 @@ use Rattle.ipx_configuration.specs.declared.fault.Fault.TheVariants as fault
 use Rattle.ipx_configuration.specs.declared.said.InternalSaid.{InternalSaid}
 
 abbrev of_networks : ℕ → Capacity
-of_networks n = record { has_cards = true; networks = n; links = 32; clients = 4096; routes = 64; services = 32 }
+of_networks n = record { cards = has.All; networks = n; links = 32; clients = 4096; routes = 64; services = 32 }
 
 abbrev blank : Configuration
 blank =

@@ -2,6 +2,7 @@
 use Rattle.std.proofs.Common.{◌≡◌, refl, true, ℕ, List, [], ◌∷◌, replicate, Option, Some, None}
 use Rattle.std.specs.Option.{option_map, unwrap_or}
 use Rattle.std.specs.Prelude.{codes}
+use Rattle.ipx_settings.specs.declared.link.Cards.TheVariants as has
 use Rattle.ipx_settings.specs.Names.{padded}
 use Rattle.ipx_settings.specs.Statics.{route_at as route_to_say}
 use Rattle.ipx_settings.specs.declared.expected.Expected.TheVariants as expected
@@ -22,7 +23,7 @@ use Rattle.ipx_configuration.specs.declared.statics.StaticRouteSaid.{StaticRoute
 use Rattle.ipx_configuration.specs.declared.statics.StaticServiceSaid.{StaticServiceSaid}
 
 abbrev capacity : Capacity
-capacity = record { has_cards = true; networks = 32; links = 32; clients = 4096; routes = 64; services = 32 }
+capacity = record { cards = has.All; networks = 32; links = 32; clients = 4096; routes = 64; services = 32 }
 
 abbrev blank : Configuration
 blank =

@@ -14,7 +14,7 @@ use Rattle.ipx_fates.specs.Conditions.{first_of, frame_conditions, datagram_cond
 
 -- no limit refuses it
 abbrev pub nothing : ℕ
-nothing = 28
+nothing = 31
 
 -- a frame of the gateway's own came back
 pub own : Answers

@@ -1,5 +1,5 @@
 -- Lines that begin with internal.
-use Rattle.std.proofs.Common.{◌≡◌, refl, true, false, ℕ, List, [], ◌∷◌, Some, None}
+use Rattle.std.proofs.Common.{◌≡◌, refl, false, ℕ, List, [], ◌∷◌, Some, None}
 use Rattle.std.specs.Prelude.{codes}
 use Rattle.ipx_settings.specs.Lines.{reading_of, read_to}
 use Rattle.ipx_settings.specs.WritingLinks.{spaced}
@@ -7,11 +7,12 @@ use Rattle.ipx_settings.specs.WritingLines.{bytes_digits, line_words}
 use Rattle.ipx_settings.specs.declared.expected.Expected.TheVariants as expected
 use Rattle.ipx_settings.specs.declared.internal.InternalBegun.TheVariants as internal
 use Rattle.ipx_settings.specs.declared.line.Context.{Context}
+use Rattle.ipx_settings.specs.declared.link.Cards.TheVariants as has
 use Rattle.ipx_settings.specs.declared.line.Line.TheVariants as line
 use Rattle.ipx_settings.specs.declared.reading.Reading.{Reading}
 
 abbrev somewhere : Context
-somewhere = record { has_cards = true; is_below_tunnel = false; most_clients = 4096 }
+somewhere = record { cards = has.All; is_below_tunnel = false; most_clients = 4096 }
 
 abbrev read : List ℕ → Reading
 read text = reading_of somewhere text

@@ -36,8 +36,9 @@ public:
     /// That of no line. (it is too large for some stacks)
     Configuration() : all(new ipxr_configuration()) {}
 
-    /// Reads the next line; `number` is its number, from 1. `has_cards` is whether this system has TAPs and interfaces.
-    LineRead line(const std::string &text, std::size_t number, bool has_cards)
+    /// Reads the next line; `number` is its number, from 1. `has_cards` is one of `IPXR_CARDS_..`, or whether this system
+    /// has all cards.
+    LineRead line(const std::string &text, std::size_t number, std::uint8_t has_cards)
     {
         const View it(text);
         LineRead read = {ipxr_setting(), 0, ipxr_line_wrong()};
@@ -66,7 +67,7 @@ private:
 };
 
 /// Reads a line by itself: what its words say up to the first that is wrong. Returns 0 or what was expected there.
-inline std::uint8_t read_line(const std::string &text, bool has_cards, bool is_below_tunnel, std::uint16_t most_clients, ipxr_setting &said)
+inline std::uint8_t read_line(const std::string &text, std::uint8_t has_cards, bool is_below_tunnel, std::uint16_t most_clients, ipxr_setting &said)
 {
     const View it(text);
     return ipxr_settings_line(it.at, it.length, has_cards, is_below_tunnel, most_clients, &said);

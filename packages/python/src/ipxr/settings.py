@@ -10,7 +10,7 @@ from .numbers import MOST_CLIENTS, Expected
 from .text import Node, whole
 from .values import Bytes, packed, six
 
-SHORT, MOST_WORDS = 0xFFFF, 512
+BYTE, SHORT, MOST_WORDS = 0xFF, 0xFFFF, 512
 Text = Union[str, Bytes]
 
 
@@ -37,10 +37,14 @@ def _expected(number: int) -> Optional[Expected]:
     return Expected(number) if number else None
 
 
-def settings_line(text: Text, *, has_cards: bool = True, is_below_tunnel: bool = False, most_clients: int = MOST_CLIENTS) -> Line:
-    """What a line says by itself."""
+def _cards(value: Union[bool, int]) -> int:
+    return int(value) if isinstance(value, bool) else whole(value, BYTE, "has_cards")
+
+
+def settings_line(text: Text, *, has_cards: Union[bool, int] = True, is_below_tunnel: bool = False, most_clients: int = MOST_CLIENTS) -> Line:
+    """What a line says by itself. `has_cards` is whether there are all cards, or one of Cards."""
     given, said = _bytes(text), raw.ipxr_setting()
-    how = bool(has_cards), bool(is_below_tunnel), whole(most_clients, SHORT, "the most clients")
+    how = _cards(has_cards), bool(is_below_tunnel), whole(most_clients, SHORT, "the most clients")
     return Line(_expected(calls.ipxr_settings_line(given, len(given), *how, byref(said))), said)
 
 
@@ -105,11 +109,11 @@ class Configuration:
     def __init__(self) -> None:
         self.state, self._lines = raw.ipxr_configuration(), 0
 
-    def line(self, text: Text, *, has_cards: bool = True) -> ConfigurationLine:
+    def line(self, text: Text, *, has_cards: Union[bool, int] = True) -> ConfigurationLine:
         """Reads the next line."""
         given, said, wrong = _bytes(text), raw.ipxr_setting(), raw.ipxr_line_wrong()
         self._lines += 1
-        of = given, len(given), self._lines, bool(has_cards)
+        of = given, len(given), self._lines, _cards(has_cards)
         return ConfigurationLine(_expected(calls.ipxr_configuration_line(byref(self.state), *of, byref(said), byref(wrong))), said, wrong)
 
     def unlinked(self) -> Optional[int]:

@@ -10,6 +10,10 @@ pub const IPXR_ALL_LINKS: usize = 64;
 pub const IPXR_ALL_SOCKETS: usize = 16;
 /// the most ranges of a list
 pub const IPXR_ALL_RANGES: usize = 16;
+/// the most origins of a link
+pub const IPXR_ALL_ORIGINS: usize = 16;
+/// the most other places of a network
+pub const IPXR_ALL_PEERS: usize = 32;
 /// the most rules of a network, as many as a filter has
 pub const IPXR_ALL_RULES: usize = 64;
 /// the most routes by way of nodes on a network,
@@ -20,9 +24,9 @@ pub const IPXR_ALL_STATIC_SERVICES: usize = 64;
 pub const IPXR_EXPECTED_BELOW_NETWORK: u8 = 32;
 /// a link above: there is none yet below the network's line
 pub const IPXR_EXPECTED_BELOW_LINK: u8 = 33;
-/// a network of DOSBox' above
+/// a network of DOSBox' above, or one of clients by WebSocket
 pub const IPXR_EXPECTED_BELOW_TUNNEL: u8 = 34;
-/// a link of DOSBox' above
+/// a link of DOSBox' above, or one of clients by WebSocket
 pub const IPXR_EXPECTED_BELOW_TUNNEL_LINK: u8 = 35;
 /// above, a network that names no link itself
 pub const IPXR_EXPECTED_BELOW_SEVERAL: u8 = 36;
@@ -54,7 +58,7 @@ pub const IPXR_EXPECTED_SAME_KILOBITS: u8 = 48;
 pub const IPXR_EXPECTED_OTHER_SOCKET: u8 = 49;
 /// at most IPXR_ALL_SOCKETS sockets
 pub const IPXR_EXPECTED_FEWER_SOCKETS: u8 = 50;
-/// at most IPXR_ALL_RANGES ranges
+/// at most IPXR_ALL_RANGES ranges, or IPXR_ALL_ORIGINS origins
 pub const IPXR_EXPECTED_FEWER_RANGES: u8 = 51;
 /// at most IPXR_ALL_RULES rules
 pub const IPXR_EXPECTED_FEWER_RULES: u8 = 60;
@@ -64,6 +68,22 @@ pub const IPXR_EXPECTED_FEWER_ROUTES: u8 = 68;
 pub const IPXR_EXPECTED_FEWER_SERVICES: u8 = 69;
 /// another name of a service: `line` has one of the type with this one
 pub const IPXR_EXPECTED_OTHER_SERVICE: u8 = 70;
+/// below a link by WebSocket (71 to 76 are in ipxr_settings.h)
+pub const IPXR_EXPECTED_BELOW_WEB: u8 = 77;
+/// in a network with a link of peers or by RFC 1234 above (78 and 79 are in ipxr_settings.h)
+pub const IPXR_EXPECTED_BELOW_PEERS: u8 = 80;
+/// another place: `line` has this one
+pub const IPXR_EXPECTED_OTHER_PEER: u8 = 81;
+/// at most IPXR_ALL_PEERS other places
+pub const IPXR_EXPECTED_FEWER_PEERS: u8 = 82;
+/// an address of IPv4, as the link's own is
+pub const IPXR_EXPECTED_PEER_OF_FOUR: u8 = 83;
+/// one of IPv6, alike
+pub const IPXR_EXPECTED_PEER_OF_SIX: u8 = 84;
+/// another link: `line` has the network's link of peers
+pub const IPXR_EXPECTED_ONE_PEERS: u8 = 85;
+/// on the line of a network: the link is the only one of its network
+pub const IPXR_EXPECTED_OWN_LINE: u8 = 86;
 
 /// What carries a link.
 #[repr(C)]
@@ -73,11 +93,12 @@ pub struct ipxr_carrier {
     pub number: u8,
     /// one of IPXR_FRAME_.., or IPXR_NO_FRAME
     pub frames: u8,
-    /// where datagrams and connections come in
+    /// where datagrams and connections come in, or with port 0 the address of the card of a group
     pub local: ipxr_setting_host,
     /// where they go,
     pub remote: ipxr_setting_host,
-    /// or the name of the host there, with zeros behind it, all of them where there is none
+    /// or the name of the host there, or the path of a switch or of a key's file, with zeros behind it, all of them
+    /// where there is none
     pub host: [u8; 254],
     /// of a TAP or an interface, alike
     pub name: [u8; 16],
@@ -122,6 +143,73 @@ impl ipxr_setting_ranges {
     /// All its bytes are 0.
     pub const ZERO: ipxr_setting_ranges = ipxr_setting_ranges {
         list: [ipxr_setting_range::ZERO; 16],
+        count: 0,
+    };
+}
+
+/// Origins of pages, alike.
+#[repr(C)]
+#[derive(Clone, Copy, Debug, PartialEq, Eq)]
+pub struct ipxr_origin {
+    /// with zeros behind it
+    pub text: [u8; 89],
+}
+
+impl ipxr_origin {
+    /// All its bytes are 0.
+    pub const ZERO: ipxr_origin = ipxr_origin {
+        text: [0; 89],
+    };
+}
+
+#[repr(C)]
+#[derive(Clone, Copy, Debug, PartialEq, Eq)]
+pub struct ipxr_origins {
+    pub list: [ipxr_origin; 16],
+    pub count: usize,
+}
+
+impl ipxr_origins {
+    /// All its bytes are 0.
+    pub const ZERO: ipxr_origins = ipxr_origins {
+        list: [ipxr_origin::ZERO; 16],
+        count: 0,
+    };
+}
+
+/// Another place of a network.
+#[repr(C)]
+#[derive(Clone, Copy, Debug, PartialEq, Eq)]
+pub struct ipxr_setting_peer {
+    /// the number of the line that says it
+    pub line: usize,
+    /// where it is,
+    pub at: ipxr_setting_host,
+    /// or the name of the host there, with zeros behind it, all of them where there is none
+    pub host: [u8; 254],
+}
+
+impl ipxr_setting_peer {
+    /// All its bytes are 0.
+    pub const ZERO: ipxr_setting_peer = ipxr_setting_peer {
+        line: 0,
+        at: ipxr_setting_host::ZERO,
+        host: [0; 254],
+    };
+}
+
+/// Those of a network, in the order of their lines: no two are the same.
+#[repr(C)]
+#[derive(Clone, Copy, Debug, PartialEq, Eq)]
+pub struct ipxr_setting_peers {
+    pub list: [ipxr_setting_peer; 32],
+    pub count: usize,
+}
+
+impl ipxr_setting_peers {
+    /// All its bytes are 0.
+    pub const ZERO: ipxr_setting_peers = ipxr_setting_peers {
+        list: [ipxr_setting_peer::ZERO; 32],
         count: 0,
     };
 }
@@ -228,7 +316,7 @@ impl ipxr_number_said {
 
 /// What a network's own line says.
 #[repr(C)]
-#[derive(Clone, Copy, Debug, PartialEq, Eq)]
+#[derive(Debug, PartialEq, Eq)]
 pub struct ipxr_network_setting {
     pub line: usize,
     /// how many links stand above it
@@ -250,6 +338,7 @@ pub struct ipxr_network_setting {
     pub rules: ipxr_rules,
     pub static_routes: ipxr_static_routes,
     pub static_services: ipxr_static_services,
+    pub peers: ipxr_setting_peers,
 }
 
 impl ipxr_network_setting {
@@ -272,6 +361,7 @@ impl ipxr_network_setting {
         rules: ipxr_rules::ZERO,
         static_routes: ipxr_static_routes::ZERO,
         static_services: ipxr_static_services::ZERO,
+        peers: ipxr_setting_peers::ZERO,
     };
 }
 
@@ -291,6 +381,7 @@ pub struct ipxr_link_setting {
     pub trusted: ipxr_setting_ranges,
     /// the number of the line that says that clients' nodes may be their addresses, or 0
     pub nodes_line: usize,
+    pub origins: ipxr_origins,
 }
 
 impl ipxr_link_setting {
@@ -306,6 +397,7 @@ impl ipxr_link_setting {
         allowed: ipxr_setting_ranges::ZERO,
         trusted: ipxr_setting_ranges::ZERO,
         nodes_line: 0,
+        origins: ipxr_origins::ZERO,
     };
 }
 
@@ -392,7 +484,7 @@ pub struct ipxr_line_wrong {
     /// of another line, or 0
     pub line: usize,
     pub numbers: [u32; 2],
-    /// the line stands below a link of DOSBox'
+    /// the line stands below a link of DOSBox', or by WebSocket without frames
     pub is_below_tunnel: bool,
 }
 
@@ -409,7 +501,7 @@ impl ipxr_line_wrong {
 
 /// A link, with all that lines say of it and of its network, and what holds where none says it.
 #[repr(C)]
-#[derive(Clone, Copy, Debug, PartialEq, Eq)]
+#[derive(Debug, PartialEq, Eq)]
 pub struct ipxr_configured {
     /// the number of the line that names the link,
     pub line: usize,
@@ -432,7 +524,7 @@ pub struct ipxr_configured {
     pub has_node: bool,
     pub node: [u8; 6],
     pub carrier: ipxr_carrier,
-    /// the most clients of DOSBox',
+    /// the most clients, of DOSBox' or by WebSocket,
     pub clients: u16,
     /// and of one address
     pub of_address: u16,
@@ -452,6 +544,8 @@ pub struct ipxr_configured {
     pub allowed: ipxr_setting_ranges,
     /// who may be one though he answers no ping
     pub trusted: ipxr_setting_ranges,
+    /// where pages may come from whose programs are clients by WebSocket, or none where no line says it
+    pub origins: ipxr_origins,
     /// clients' nodes may be their addresses
     pub nodes_by_address: bool,
     /// what comes from the cable goes through ipxr_edge_enter
@@ -462,6 +556,8 @@ pub struct ipxr_configured {
     pub static_routes: ipxr_static_routes,
     /// and services
     pub static_services: ipxr_static_services,
+    /// other places of the network, or none where no line says one
+    pub peers: ipxr_setting_peers,
 }
 
 impl ipxr_configured {
@@ -489,18 +585,21 @@ impl ipxr_configured {
         sockets: ipxr_sockets::ZERO,
         allowed: ipxr_setting_ranges::ZERO,
         trusted: ipxr_setting_ranges::ZERO,
+        origins: ipxr_origins::ZERO,
         nodes_by_address: false,
         adopts: false,
         rules: ipxr_rules::ZERO,
         static_routes: ipxr_static_routes::ZERO,
         static_services: ipxr_static_services::ZERO,
+        peers: ipxr_setting_peers::ZERO,
     };
 }
 
 extern "C" {
-    /// Reads the next line, with its end or without; `line` is its number, from 1. `has_cards` is whether this system
-    /// has TAPs and interfaces. Tells what its words say, up to the first that is wrong, and what is wrong. Returns one
-    /// of IPXR_EXPECTED_..; or 0, and then the line is right, or isn't looked at, since what stands above it is wrong.
+    /// Reads the next line, with its end or without; `line` is its number, from 1. `has_cards` is one of IPXR_CARDS_..,
+    /// and any other number is that of all. Tells what its words say, up to the first that is wrong, and what is wrong.
+    /// Returns one of IPXR_EXPECTED_..; or 0, and then the line is right, or isn't looked at, since what stands above
+    /// it is wrong.
     pub fn ipxr_configuration_line(it: *mut ipxr_configuration, text: *const u8, length: usize, line: usize, has_cards: u8, said: *mut ipxr_setting, wrong: *mut ipxr_line_wrong) -> u8;
     /// The line of the last network, if that has no link though no more lines come; or 0.
     pub fn ipxr_configuration_unlinked(it: *const ipxr_configuration) -> usize;

@@ -180,8 +180,14 @@ pub const IPXR_LOST_TOO_MUCH_FOR_ROUTER: u8 = 25;
 pub const IPXR_LOST_FROM_AFAR: u8 = 26;
 /// a rule of the network denies it
 pub const IPXR_LOST_DENIED: u8 = 27;
+/// a datagram of a place that isn't sealed by the key of its network
+pub const IPXR_LOST_NOT_SEALED: u8 = 28;
+/// one that was heard before, or comes too late to tell
+pub const IPXR_LOST_REPEATED: u8 = 29;
+/// one for another session than the gateway's own: recorded, or its sender doesn't know that one yet
+pub const IPXR_LOST_OTHER_SESSION: u8 = 30;
 /// how many there are; of a limit, that it refuses nothing
-pub const IPXR_NO_REASON: u8 = 28;
+pub const IPXR_NO_REASON: u8 = 31;
 /// the router's drops have their places by their numbers: number / 100 \* 10 + number % 100
 pub const IPXR_DROPS: usize = 190;
 
@@ -212,7 +218,7 @@ pub struct ipxr_counts {
     /// packets that came
     pub r#in: u64,
     /// packets, and all else, that are lost, by the reason
-    pub lost: [u64; 28],
+    pub lost: [u64; 31],
     /// packets that the router dropped, by its number
     pub dropped: [u64; 190],
 }
@@ -221,7 +227,7 @@ impl ipxr_counts {
     /// All its bytes are 0.
     pub const ZERO: ipxr_counts = ipxr_counts {
         r#in: 0,
-        lost: [0; 28],
+        lost: [0; 31],
         dropped: [0; 190],
     };
 }

@@ -36,11 +36,15 @@ pub const IPXR_SETTING_DENY: u8 = 14;
 pub const IPXR_SETTING_ROUTE: u8 = 15;
 /// service: `service`
 pub const IPXR_SETTING_SERVICE: u8 = 16;
+/// origins: the other words are origins of pages
+pub const IPXR_SETTING_ORIGINS: u8 = 17;
+/// peer: of `link` where the other place is, `remote` and `host`
+pub const IPXR_SETTING_PEER: u8 = 18;
 /// not all of it was read
 pub const IPXR_OVER_NONE: u8 = 0;
 /// dosbox
 pub const IPXR_OVER_TUNNEL: u8 = 1;
-/// qemu-udp
+/// qemu-udp, or udp
 pub const IPXR_OVER_UDP: u8 = 2;
 /// qemu-tcp listen
 pub const IPXR_OVER_LISTEN: u8 = 3;
@@ -50,6 +54,22 @@ pub const IPXR_OVER_CONNECT: u8 = 4;
 pub const IPXR_OVER_TAP: u8 = 5;
 /// interface
 pub const IPXR_OVER_INTERFACE: u8 = 6;
+/// qemu-mcast: `remote` is the group, and local.four the address of the card by which its frames come and go
+pub const IPXR_OVER_GROUP: u8 = 7;
+/// vde: `host` is the path of the switch
+pub const IPXR_OVER_SWITCH: u8 = 8;
+/// web: clients by WebSocket, of DOSBox' datagrams where `frames` is IPXR_NO_FRAME, or else of frames
+pub const IPXR_OVER_WEB: u8 = 9;
+/// peers: other places, whose datagrams are sealed; `host` is the path of the file with the key
+pub const IPXR_OVER_PEERS: u8 = 10;
+/// rfc1234: other places by RFC 1234; `local` is the address of a card
+pub const IPXR_OVER_RFC1234: u8 = 11;
+/// none: the words tap, interface and vde begin no link there
+pub const IPXR_CARDS_NONE: u8 = 0;
+/// TAPs, Ethernet interfaces and switches of VDE
+pub const IPXR_CARDS_ALL: u8 = 1;
+/// Ethernet interfaces alone
+pub const IPXR_CARDS_INTERFACES: u8 = 2;
 /// The kind of frames of a link that has any: the number behind IPXR_FRAME_SNAP.
 pub const IPXR_FRAME_ANY: u8 = 5;
 /// one of the words that begin a line
@@ -66,7 +86,7 @@ pub const IPXR_EXPECTED_ROUTES: u8 = 5;
 pub const IPXR_EXPECTED_SERVICES: u8 = 6;
 /// one of the words that begin a link
 pub const IPXR_EXPECTED_LINK: u8 = 7;
-/// one of them for a system without cards: this one is a card's
+/// one of them that this system has: it has no such card or switch
 pub const IPXR_EXPECTED_LINK_OF_SYSTEM: u8 = 8;
 /// a numeric address with a port, or a port alone
 pub const IPXR_EXPECTED_ADDRESS: u8 = 9;
@@ -144,6 +164,22 @@ pub const IPXR_EXPECTED_ONE_TYPE: u8 = 65;
 pub const IPXR_EXPECTED_SERVICE_NAME: u8 = 66;
 /// where a service is offered: network, node and socket, with a . between each two
 pub const IPXR_EXPECTED_SERVICE_ADDRESS: u8 = 67;
+/// an address of IPv4 from 224.0.0.0 to 239.255.255.255 with a port that isn't 0 (68 to 70 are in ipxr_configuration.h)
+pub const IPXR_EXPECTED_GROUP: u8 = 71;
+/// via, or a kind of frames
+pub const IPXR_EXPECTED_VIA_OR_FRAMES: u8 = 72;
+/// the address of a card: of IPv4, without a port, and not 0.0.0.0, a group's or 255.255.255.255
+pub const IPXR_EXPECTED_CARD: u8 = 73;
+/// the path of a switch, of 1 to 90 bytes, none of them 0
+pub const IPXR_EXPECTED_SWITCH: u8 = 74;
+/// a kind of frames, or nothing more
+pub const IPXR_EXPECTED_FRAMES_OR_NOTHING: u8 = 75;
+/// , or http:// or https:// and 1 to 80 printable characters of ASCII without /
+pub const IPXR_EXPECTED_ORIGIN: u8 = 76;
+/// the path of a file with a key, of 1 to 253 bytes, none of them 0 (77 is in ipxr_configuration.h)
+pub const IPXR_EXPECTED_KEY_FILE: u8 = 78;
+/// one like IPXR_EXPECTED_CARD, with a port that isn't 0
+pub const IPXR_EXPECTED_CARD_AND_PORT: u8 = 79;
 /// of an address with its port
 pub const IPXR_LONGEST_ADDRESS: usize = 63;
 /// of a link
@@ -182,11 +218,12 @@ pub struct ipxr_setting_link {
     pub frames: u8,
     /// a word of it was read
     pub has_word: bool,
-    /// where datagrams and connections come in
+    /// where datagrams and connections come in, or with port 0 the address of the card of a group
     pub local: ipxr_setting_host,
     /// where they go,
     pub remote: ipxr_setting_host,
-    /// or the name of the host there, with zeros behind it, all of them where there is none
+    /// or the name of the host there, or the path of a switch or of a key's file, with zeros behind it, all of them
+    /// where there is none
     pub host: [u8; 254],
     /// of a TAP or an interface, alike
     pub name: [u8; 16],
@@ -290,7 +327,7 @@ pub struct ipxr_setting {
     /// see IPXR_EXPECTED_FIRST
     pub bits: u8,
     pub network: ipxr_setting_network,
-    /// of a network's line, or of a link's
+    /// of a network's line, or of a link's; of a line `peer` its `remote` and `host` alone
     pub link: ipxr_setting_link,
     /// what other lines say
     pub numbers: [u32; 3],
@@ -336,10 +373,11 @@ impl ipxr_setting_range {
 }
 
 extern "C" {
-    /// Reads a line, with its end or without. `has_cards` is whether this system has TAPs and interfaces;
-    /// `is_below_tunnel`, whether the line stands below that of a link of DOSBox, and `most_clients`, how many clients
-    /// a network may have. Returns one of IPXR_EXPECTED_.., and then the word with the number `said-\>read` is wrong,
-    /// or the line's end; or 0, and then the whole line is right.
+    /// Reads a line, with its end or without. `has_cards` is one of IPXR_CARDS_.., and any other number is that of all;
+    /// `is_below_tunnel` is whether the line stands below a link whose clients send datagrams, by `dosbox`, or by `web`
+    /// without a kind of frames; and `most_clients` is how many clients a network may have. Returns one of
+    /// IPXR_EXPECTED_.., and then the word with the number `said-\>read` is wrong, or the line's end; or 0, and then
+    /// the whole line is right.
     pub fn ipxr_settings_line(text: *const u8, length: usize, has_cards: u8, is_below_tunnel: u8, most_clients: u16, said: *mut ipxr_setting) -> u8;
     /// Where the word of a line with that number stands. Returns how many bytes it has; 0 if there is none, and `start`
     /// stays as it was.

@@ -1,4 +1,4 @@
-use Rattle.std.proofs.Common.{sym, ap, refl, ◌∙◌, ◌≡◌, arith, false, nat_lt}
+use Rattle.std.proofs.Common.{sym, refl, ◌∙◌, ◌≡◌, arith, false, nat_lt}
 use Rattle.std.proofs.lemmas.Bool.{le-ltb}
 use Rattle.ipx_settings.specs.Words.{words, before_mark}
 use Rattle.ipx_configuration.proofs.Adding.{range_more, range_full, range_none, no_range_left}

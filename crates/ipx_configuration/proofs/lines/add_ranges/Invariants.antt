@@ -1,4 +1,4 @@
-use Rattle.std.proofs.Common.{◌≡◌, ◌≤◌, ◌-◌}
+use Rattle.std.proofs.Common.{◌≡◌, ◌-◌}
 use Rattle.ipx_configuration.specs.Lines.{ranges_from, words_from}
 use Rattle.ipx_configuration.proofs.lines.add_ranges.Given as goal
 

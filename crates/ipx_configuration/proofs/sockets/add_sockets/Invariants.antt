@@ -1,4 +1,4 @@
-use Rattle.std.proofs.Common.{◌≡◌, ◌≤◌, ◌-◌}
+use Rattle.std.proofs.Common.{◌≡◌, ◌-◌}
 use Rattle.ipx_configuration.specs.Extends.{sockets_from}
 use Rattle.ipx_configuration.specs.Lines.{words_from}
 use Rattle.ipx_configuration.proofs.sockets.add_sockets.Given as goal

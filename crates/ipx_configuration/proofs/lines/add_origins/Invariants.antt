@@ -1,0 +1,10 @@
+use Rattle.std.proofs.Common.{◌≡◌, ◌-◌}
+use Rattle.ipx_configuration.specs.Lines.{origins_from, words_from}
+use Rattle.ipx_configuration.proofs.lines.add_origins.Given as goal
+
+abbrev pub invariant-loop-number : goal.invariant-loop-number
+invariant-loop-number l =
+    origins_from l.fn.origins 1 (words_from l.text 1 l.read) ≡ origins_from l.it l.number (words_from l.text l.number l.read)
+
+abbrev pub decreases-loop-number : goal.decreases-loop-number
+decreases-loop-number l = l.read - l.number

@@ -1,0 +1,13 @@
+pub mod Lists
+pub mod Slots
+pub mod Positions
+pub mod Said
+pub mod Kept
+pub mod Deciding
+pub mod Standing
+pub mod Found
+pub mod Counted
+pub mod Once
+pub mod Recent
+pub mod Roaming
+pub mod examples

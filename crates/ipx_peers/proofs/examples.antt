@@ -1,0 +1,3 @@
+-- Worked examples: each is checked by computing it.
+pub mod Windows
+pub mod Places

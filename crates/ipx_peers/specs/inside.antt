@@ -1,0 +1,2 @@
+-- what each call does in memory
+pub mod Kept

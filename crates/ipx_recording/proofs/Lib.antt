@@ -1,0 +1,9 @@
+pub mod Beginning
+pub mod Further
+pub mod Parts
+pub mod Sizes
+pub mod Sure
+pub mod Wanting
+pub mod Whole
+pub mod Within
+pub mod examples

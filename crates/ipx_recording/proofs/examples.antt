@@ -1,0 +1,5 @@
+-- Worked examples of the definitions.
+pub mod Blocks
+pub mod Carriers
+pub mod Faults
+pub mod Words

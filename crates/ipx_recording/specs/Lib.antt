@@ -1,0 +1,8 @@
+-- what stands at the front of the bytes, and what is made of it
+pub mod Met
+pub mod Recorded
+pub mod Steps
+pub mod Blocks
+pub mod Further
+-- packets behind link headers
+pub mod Carried
