@@ -82,7 +82,7 @@ impl Peers {
         self.session = session;
         self.sent = 0;
         self.used = 0;
-        forget(&mut self.places);
+        empty_all(&mut self.places);
     }
 
     /// Hears a datagram. Returns what becomes of it.
@@ -207,7 +207,7 @@ impl Peers {
 }
 
 /// All places are forgotten.
-fn forget(places: &mut [Peer])
+fn empty_all(places: &mut [Peer])
     ensures { places.new ≡ map (λ _. no_peer) places.old }
 {
     for place in places.iter_mut() {
