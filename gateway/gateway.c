@@ -21,9 +21,10 @@
 #include "tunnel/tunnel.h"
 #include "web/turns.h"
 
-/* Frames and datagrams of one cable, after which the next has its turn; and how many turns what waits is heard before seconds that are late:
+/* Frames and datagrams of one cable, or milliseconds, after which the next has its turn; how many are heard at once when it begins, and then
+ * twice as many each time: what a router answers may take milliseconds, where the tables are full and a network has many rules. And how many turns what waits is heard before seconds that are late:
  * as many as a cable takes of which the system keeps all that it may, but no longer than so many milliseconds. */
-enum { MOST_AT_ONCE = 64, MOST_TURNS_FIRST = 512, LONGEST_FIRST = 2000 };
+enum { MOST_AT_ONCE = 64, LONGEST_AT_ONCE = 5, FIRST_AT_ONCE = 2, MOST_TURNS_FIRST = 512, LONGEST_FIRST = 2000 };
 
 /* Milliseconds until it is looked again whether a narrow line has room for what waits. */
 enum { LOOKS_AGAIN = 20 };
@@ -102,7 +103,6 @@ void gateway_flush(gateway *it)
         outgoing_send(&it->networks[k]);
         ether_send_due(&it->networks[k]);
     }
-    sites_push();
     peers_push_all(it);
     it->room_count = 0;
 }
@@ -260,17 +260,20 @@ static size_t receive_next(gateway *it, cable *carrier)
     return 0;
 }
 
-/* What came on a cable, as far as it is its turn. Returns whether there may be more. (of pages a whole turn of frames is gone through at once,
+/* What came on a cable, as far as it is its turn. Returns whether there may be more. (of pages so many frames are gone through each time,
  * though the limits may let few of them through: those that went to other pages cost as much) */
 static bool receive(gateway *it, cable *carrier)
 {
-    size_t heard = 0, next = 1;
-    while (next > 0 && heard < MOST_AT_ONCE && cable_is_open(carrier)) {
+    size_t heard = 0, next = 1, *most = &it->arrivals.most;
+    uint64_t until = clock_now() + LONGEST_AT_ONCE;
+    *most = FIRST_AT_ONCE;
+    while (next > 0 && heard < MOST_AT_ONCE && clock_now() < until && cable_is_open(carrier)) {
         next = receive_next(it, carrier);
-        heard += carrier->web != NULL && next > 0 ? MOST_AT_ONCE : next;
+        heard += carrier->web != NULL && next > 0 ? *most : next;
+        *most = 2 * *most < MOST_TOGETHER ? 2 * *most : MOST_TOGETHER;
     }
     carrier->is_behind = heard >= MOST_AT_ONCE;
-    return carrier->is_behind;
+    return next > 0;
 }
 
 /* One second for tunnels, segments and kinds of frames, however many have passed: who could not be asked meanwhile isn't put out. */
@@ -396,6 +399,7 @@ static bool hear(gateway *it, int milliseconds)
         status_attend(it, of_status, (size_t)(of_page - of_status));
         status_page_attend(it, of_page, (size_t)(end - of_page));
     }
+    sites_push();
     return is_more;
 }
 
@@ -410,4 +414,5 @@ void gateway_turn(gateway *it, bool waits)
     let_seconds_pass(it);
     send_pings(it);
     gateway_flush(it);
+    sites_push();
 }

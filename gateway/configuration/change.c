@@ -18,7 +18,7 @@
 
 bool has_changed(const changed *it)
 {
-    return it->added + it->removed + it->reopened + it->clients + it->sockets > 0 || it->is_new_router;
+    return it->added + it->removed + it->reopened + it->clients + it->sockets + it->keys > 0 || it->is_new_router;
 }
 
 /* ---- What stays ---- */
@@ -144,6 +144,19 @@ static void begin_link(gateway *it, size_t number, changed *what)
     else
         what->reopened++;
     on->is_up = false;
+}
+
+/* How many links have another key than before. */
+static size_t new_keys(gateway *it)
+{
+    size_t count = 0;
+    for (size_t k = 0; k < it->cable_count; k++) {
+        peers *of = it->cables[k].peers;
+        count += of != NULL && of->has_new_key;
+        if (of != NULL)
+            of->has_new_key = false;
+    }
+    return count;
 }
 
 static void begin_links(gateway *it, changed *what)
@@ -290,6 +303,7 @@ changed gateway_change(gateway *it, const settings *set)
     count_on(it);
     close_cables();
     begin_links(it, &what);
+    what.keys = new_keys(it);
     take_router(it);
     take_ports(it);
     change_tunnels(it, set, &what);

@@ -10,6 +10,7 @@ typedef struct changed {
     size_t reopened;       /* links of networks that stay */
     size_t clients;        /* networks with other rules for their clients */
     size_t sockets;        /* networks that extend other sockets, or have another edge */
+    size_t keys;           /* links of `peers` with another key */
     size_t faults;         /* links that couldn't be opened, and are tried again each second */
     bool is_new_router;    /* the router was made anew */
     bool is_refused;       /* there was no memory for it: all is as it was */

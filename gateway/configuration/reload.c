@@ -9,7 +9,7 @@
 #include "monitoring/output.h"
 #include "systems/system.h"
 
-enum { SUMMARY_ROOM = 256 };
+enum { SUMMARY_ROOM = 288 };
 
 static const char *name;
 
@@ -59,10 +59,10 @@ static void sum_up(const changed *what, char words[SUMMARY_ROOM])
         snprintf(words, SUMMARY_ROOM, "%s was read again: nothing changed", name);
         return;
     }
-    const char *router = what->is_new_router ? "; the router starts afresh" : "";
+    const char *router = what->is_new_router ? "; the router starts afresh" : "", *keys = what->keys > 0 ? ", other keys" : "";
     snprintf(words, SUMMARY_ROOM, "%.90s was read again: networks and links: %zu added, %zu removed, %zu with another link, "
-             "%zu with other clients, %zu with other sockets or edge%s", name, what->added, what->removed, what->reopened, what->clients,
-             what->sockets, router);
+             "%zu with other clients, %zu with other sockets or edge%s%s", name, what->added, what->removed, what->reopened, what->clients,
+             what->sockets, keys, router);
 }
 
 /* Reads and changes. Returns whether that was done, and tells what; else what is wrong, in text that the caller frees, or NULL where there

@@ -241,6 +241,7 @@ static void hear_of_one(gateway *it, cable *carrier, arrivals *in)
 static void make_room(gateway *it, network *on)
 {
     size_t looked_at = 0;
+    it->arrivals.most = MOST_TOGETHER;
     while (on->cable->is_behind && on->cable->fd >= 0 && looked_at < MOST_ROOM && cable_receive(on->cable, &it->arrivals)) {
         looked_at += it->arrivals.count;
         hear_of_one(it, on->cable, &it->arrivals);

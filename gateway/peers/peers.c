@@ -126,6 +126,18 @@ void peers_close(peers *it)
     free(it);
 }
 
+static void take_key(peers *it, const sealing *with)
+{
+    unsigned number = (unsigned)it->set->network;
+    it->has_new_key = begins(it);
+    if (it->has_new_key) {
+        it->sealing = *with;
+        event("network %08X has another key: all places come anew", number);
+    } else {
+        event("network %08X goes on with the key that it had: the system has no random numbers now", number);
+    }
+}
+
 /* Takes another key where the file has one now. */
 static void follow_key(peers *it)
 {
@@ -133,10 +145,8 @@ static void follow_key(peers *it)
     const char *wrong = key_read(it->set->host, with.key);
     if (wrong != NULL)
         event("network %08X goes on with the key that it had: %s: %s", (unsigned)it->set->network, it->set->host, wrong);
-    else if (memcmp(with.key, it->sealing.key, KEY) != 0 && begins(it)) {
-        it->sealing = with;
-        event("network %08X has another key: all places come anew", (unsigned)it->set->network);
-    }
+    else if (memcmp(with.key, it->sealing.key, KEY) != 0)
+        take_key(it, &with);
     sealing_forget(&with);
 }
 

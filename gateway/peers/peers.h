@@ -43,6 +43,7 @@ typedef struct called {
 typedef struct peers {
     const network_setting *set;
     sealing sealing;
+    bool has_new_key;      /* it took another key, since one looked */
     ipxr_peers known;      /* what the library knows of places */
     place places[IPXR_MOST_PEERS];
     called called[MOST_PEERS];

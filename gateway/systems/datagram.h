@@ -23,7 +23,9 @@ typedef struct arrival {
     uint8_t bytes[MOST_RECEIVED];
 } arrival;
 
+/* What comes by one call, of so many at most. */
 typedef struct arrivals {
+    size_t most;
     size_t count;
     arrival list[MOST_TOGETHER];
 } arrivals;

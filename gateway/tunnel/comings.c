@@ -38,12 +38,21 @@ void tunnel_note_registration(const gateway *it, network *on, member *client)
             roster_registers(client, it->seconds, waiter.seconds_left);
 }
 
+/* The connection of a client may stay. */
+static void tell_page(network *on, const uint8_t place[NODE])
+{
+    address from = address_of(place);
+    web_admits(on->cable->web, &from);
+}
+
 void tunnel_tell_comes(const gateway *it, network *on)
 {
     ipxr_keyed_member last;
     if (ipxr_keyed_client(&on->tunnel, ipxr_keyed_clients(&on->tunnel) - 1, &last) != 0)
         return;
     tunnel_list(on, last.place, last.node);
+    if (on->cable->web != NULL)
+        tell_page(on, last.place);
     member *listed = roster_find(&on->roster, last.place);
     if (listed != NULL)
         tunnel_note_registration(it, on, listed);

@@ -80,9 +80,18 @@ static bool put_frame(page *it, unsigned number, const uint8_t *bytes, size_t le
     return true;
 }
 
-bool page_send(page *it, const uint8_t *message, size_t length)
+static bool put_message(page *it, const uint8_t *message, size_t length)
 {
     return it->state == PAGE_IS_OPEN && put_frame(it, FRAME_BINARY, message, length, PAGE_CONTROL);
+}
+
+/* (what waits goes at the end of a turn, or when there is no more room for it: a call of the system costs more than the bytes) */
+bool page_send(page *it, const uint8_t *message, size_t length)
+{
+    if (put_message(it, message, length))
+        return true;
+    page_push(it);
+    return put_message(it, message, length);
 }
 
 void page_tell(page *it, const char *text, size_t length)

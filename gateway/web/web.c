@@ -181,6 +181,13 @@ bool web_has(web *it, const address *from)
     return page_from(it, from) != NULL;
 }
 
+void web_admits(web *it, const address *from)
+{
+    page *who = page_from(it, from);
+    if (who != NULL)
+        who->has_place = true;
+}
+
 /* ---- What comes ---- */
 
 bool web_has_more(const web *it)
@@ -219,7 +226,7 @@ static void hear(web *it, page *by, arrivals *in, unsigned *left)
 /* (who is asked next has had the least) */
 bool web_receive(web *it, arrivals *in)
 {
-    unsigned left = MOST_TOGETHER;
+    unsigned left = (unsigned)in->most;
     in->count = 0;
     for (size_t k = 0; k < it->count && left > 0; k++) {
         page *next = it->pages[it->turn++ % it->count];

@@ -49,8 +49,9 @@ bool web_receive(web *it, arrivals *in);
 bool web_send_to(web *it, const departure *what);
 bool web_send(web *it, const uint8_t *frame, size_t length);
 
-/* Whether somebody is connected who comes from there. */
+/* Whether somebody is connected who comes from there. And that he is a client now: nobody else may have his place. */
 bool web_has(web *it, const address *from);
+void web_admits(web *it, const address *from);
 
 /* The link at a listener that has a network, in the tunnel or with frames; or NULL. */
 web *web_at(const struct site *at, bool is_tunnel, uint32_t network);

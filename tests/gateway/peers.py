@@ -509,7 +509,7 @@ def places_are_told():
             follower.told(event="peer leaves", address=after)
             follower.told(event="peer comes", address=after)
             key_file(os.path.dirname(path), new_key())
-            gate.asked("reload")
+            assert "other keys" in gate.asked("reload")
             gate.told(f"network {NETWORK:08X} has another key: all places come anew")
             follower.told(event="peer leaves", address=after)
             for it in (place, elsewhere):

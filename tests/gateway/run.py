@@ -20,6 +20,7 @@ import groups
 import houses
 import internal
 import kinds
+import late
 import limits
 import links
 import listed
@@ -59,7 +60,7 @@ from systems import SYSTEM, Windows
 from trying import Counts, left_out
 
 ALL = (counting, words, listed, siphash, queues, unit, orders, status, status_page, events, probes, reloading, staying, tunnel, nodes,
-       links, groups, switches, peers, rfc1234, edge, statics, internal, npcap, paced, beside, six, names, segments, kinds, web, made_up,
+       links, groups, switches, peers, rfc1234, edge, statics, internal, npcap, paced, beside, six, names, segments, kinds, web, late, made_up,
        troubles, reload_memory, wires, conformance, refused, houses, attacks, forged, limits, complaints, asked, fair, slow_pc, far, narrow, lossy,
        dosbox, pc, bochs, together)
 TESTS = {it.__name__: it for it in ALL}

@@ -523,6 +523,16 @@ def too_many():
         assert gate.counted(0x10, "refused") >= 1 or gate.report()
 
 
+def clients_stay():
+    """Who has just become a client keeps its place, though its address has all places and somebody from another one comes"""
+    (tcp,) = free_ports(1)
+    with Gateway(one(tcp, "strangers none\nclients 250\n")) as gate:
+        pages = [Page(tcp) for _ in range(MOST_OF_LINK)]
+        assert answer_to(tcp, head("/ipx/10"), own="127.0.0.2")[0] == 503
+        assert f"clients: {MOST_OF_LINK} of" in gate.report()
+        assert reaches(pages[-1], pages[0]) and reaches(pages[0], pages[-1])
+
+
 def a_page_that_reads_nothing():
     """What a page doesn't read is dropped and counted, takes no memory, and holds up nobody"""
     (tcp,) = free_ports(1)
@@ -597,7 +607,7 @@ def reloads():
 
 
 TESTS = (players, paths, leaves_at_once, silent_ones_leave, requests, origins, frames_of_websocket, fragments, stations,
-         stations_of_a_network, slow_requests, a_crowd, too_many, a_page_that_reads_nothing, garbage, reloads, played_anew(flood_of_a_page), played_anew(flood_of_a_station),
+         stations_of_a_network, slow_requests, a_crowd, too_many, clients_stay, a_page_that_reads_nothing, garbage, reloads, played_anew(flood_of_a_page), played_anew(flood_of_a_station),
          played_anew(two_floods))
 
 # What reloads, looks at memory, or sets the clock.

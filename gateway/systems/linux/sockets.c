@@ -392,7 +392,7 @@ static bool is_sent_here(const any_address *from)
 bool datagrams_receive(int fd, arrivals *in)
 {
     batch *all = rooms_of(in);
-    int count = recvmmsg(fd, all->list, MOST_TOGETHER, MSG_TRUNC, NULL);
+    int count = recvmmsg(fd, all->list, (unsigned)in->most, MSG_TRUNC, NULL);
     for (int k = 0; k < count; k++) {
         in->list[k].length = all->list[k].msg_len;
         in->list[k].from = of_any(&all->places[k]);

@@ -414,7 +414,7 @@ bool datagrams_receive(int fd, arrivals *in)
 {
     ssize_t length = 0;
     in->count = 0;
-    while (in->count < MOST_TOGETHER && (length = receive(fd, &in->list[in->count])) >= 0)
+    while (in->count < in->most && (length = receive(fd, &in->list[in->count])) >= 0)
         in->count++;
     if (in->count == 0 && tells_complaint(length))
         errno = ECONNREFUSED;

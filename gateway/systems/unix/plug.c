@@ -297,11 +297,11 @@ bool plug_receive(plug *it, int fd, arrivals *in)
     bool is_heard = false;
     size_t came = 0;
     in->count = 0;
-    for (; came < MOST_TOGETHER && !it->is_wrong && receive_next(it, fd, &in->list[in->count], &is_heard); came++)
+    for (; came < in->most && !it->is_wrong && receive_next(it, fd, &in->list[in->count], &is_heard); came++)
         in->count += is_heard && !it->is_wrong;
     if (it->is_wrong)
         errno = EPROTO;
-    else if (came == MOST_TOGETHER) /* (of others there may be more) */
+    else if (came == in->most) /* (of others there may be more) */
         errno = EAGAIN;
     return in->count > 0;
 }

@@ -221,6 +221,8 @@ static descriptor *carrier_at(int fd)
 bool datagrams_receive(int fd, arrivals *in)
 {
     in->count = 0;
+    if (in->most == 0 || in->most > MOST_TOGETHER)
+        wrong("%zu datagrams are received together", in->most);
     if (is_none(fd))
         return false;
     descriptor *it = carrier_at(fd);
@@ -234,7 +236,7 @@ bool datagrams_receive(int fd, arrivals *in)
         return false;
     }
     errno = EAGAIN;
-    size_t most = one_in(4) ? between(1, MOST_TOGETHER) : MOST_TOGETHER;
+    size_t most = one_in(4) ? between(1, in->most) : in->most;
     while (it->count > 0 && in->count < most)
         take_next(it, &in->list[in->count++]);
     return in->count > 0;

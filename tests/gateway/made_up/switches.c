@@ -77,7 +77,7 @@ bool plug_receive(plug *it, int fd, arrivals *in)
         return false;
     }
     errno = EAGAIN;
-    while (from->count > 0 && in->count < MOST_TOGETHER)
+    while (from->count > 0 && in->count < in->most)
         take_next(from, &in->list[in->count++]);
     return in->count > 0;
 }
