@@ -1,11 +1,11 @@
 -- What is read behind the fields of a block: its packet, what is left of it, and its length again.
-use Rattle.std.proofs.Common.{◌≡◌, ◌≢◌, ℕ, ◌+◌, ◌-◌, ◌<◌, ◌≤◌, min, List, [], ◌∷◌, ◌++◌, length, drop, refl, inl, inr, sym, ap, ◌∙◌, arith, Ok, Err, Some, append-nil, length-drop, drop-drop}
+use Rattle.std.proofs.Common.{◌≡◌, ◌≢◌, ℕ, ◌+◌, ◌-◌, ◌<◌, ◌≤◌, min, List, [], ◌∷◌, length, drop, refl, inl, inr, sym, ap, ◌∙◌, arith, Ok, Err, Some, append-nil, length-drop, drop-drop}
 use Rattle.std.proofs.lemmas.Bool.{lt-ltb, le-ltb, ne_eqb, cases_lt}
 use Rattle.ipx_wire.specs.Piece.{piece}
 use Rattle.ipx_capture.specs.Order.{u32_in}
 use Rattle.ipx_capture.specs.declared.order.Order.{Order}
 use Rattle.ipx_recording.specs.Met.{met}
-use Rattle.ipx_recording.specs.Recorded.{State, prepend, packets_from, end_at}
+use Rattle.ipx_recording.specs.Recorded.{State, prepend, packets_from}
 use Rattle.ipx_recording.specs.declared.due.Due.{Due}
 use Rattle.ipx_recording.specs.declared.due.Due.TheVariants.{Block, Packet, Rest}
 use Rattle.ipx_recording.specs.declared.interface.Interface.{Interface}

@@ -1,19 +1,17 @@
 -- Sound fields and the same length at the end are a block.
-use Rattle.std.proofs.Common.{◌≡◌, ◌≢◌, ℕ, ◌+◌, ◌-◌, ◌%◌, ◌<◌, ◌≤◌, subst, List, [], ◌∷◌, ◌++◌, length, take, drop, slice_index, refl, sym, ap, ◌∙◌, arith, append_assoc, length-take-le}
+use Rattle.std.proofs.Common.{◌≡◌, ℕ, ◌+◌, ◌-◌, ◌%◌, ◌≤◌, subst, List, ◌++◌, length, take, drop, refl, sym, ap, ◌∙◌, arith, append_assoc, length-take-le}
 use Rattle.std.proofs.Math.Seq.{take-add}
 use Rattle.std.proofs.lemmas.Nat.{be_bytes_4, le_bytes_4}
-use Rattle.std.specs.Int.{w32, to_be_bytes, to_le_bytes}
 use Rattle.ipx_wire.specs.Piece.{piece, IsBytes}
 use Rattle.ipx_capture.specs.Order.{u16_in, u32_in}
 use Rattle.ipx_capture.specs.declared.order.Order.{Order}
 use Rattle.ipx_capture.specs.declared.order.Order.TheVariants.{Big, Little}
 use Rattle.ipx_capture.proofs.Pieces.{length_piece, piece_grown, are_bytes}
-use Rattle.ipx_recording.specs.Blocks.{IsLong, IsSection, IsInterface, IsPacket, IsOther, Announces, mark}
+use Rattle.ipx_recording.specs.Blocks.{IsLong, IsPacket, Announces, mark}
 use Rattle.ipx_recording.specs.Chain.{Place, IsBlock, section, interface, packet, other}
-use Rattle.ipx_recording.specs.Differs.{Told, Begins, Describes, Keeps, Nothing, Says, IsSound, size_in, order_of, shown}
+use Rattle.ipx_recording.specs.Differs.{BlockMeaning, Begins, Describes, Keeps, Nothing, Means, IsSound, size_in, order_of, shown}
 use Rattle.ipx_recording.specs.Differs as say
 use Rattle.ipx_recording.specs.Met.{kind_in, length_in, order_by}
-use Rattle.ipx_recording.specs.Recorded.{Recorded}
 use Rattle.ipx_recording.specs.declared.interface.Interface.{Interface}
 use Rattle.ipx_recording.proofs.Behind.{last_four}
 use Rattle.ipx_recording.proofs.Fields.{inside}
@@ -48,15 +46,15 @@ module _ (order : Order) (b : List ℕ) (f : ℕ) (long : f + 4 ≤ length_in or
       }
 
 module _ (here : Place) (b : List ℕ) where
-  abbrev pub ends : Told → Type 0
-  ends told = u32_in (order_of here told) (piece b (size_in here b told - 4) 4) ≡ size_in here b told
+  abbrev pub ends : BlockMeaning → Type 0
+  ends meaning = u32_in (order_of here meaning) (piece b (size_in here b meaning - 4) 4) ≡ size_in here b meaning
 
 -- the block that the bytes begin with
-pub data Built (here : Place) (b : List ℕ) (told : Told) : Type 0 where
-  built : {next : Place} → IsBlock here (take (size_in here b told) b) (shown here b told) next → Built here b told
+pub data Built (here : Place) (b : List ℕ) (meaning : BlockMeaning) : Type 0 where
+  built : {next : Place} → IsBlock here (take (size_in here b meaning) b) (shown here b meaning) next → Built here b meaning
 
 module _ (here : Place) (b : List ℕ) (bytes : IsBytes b) where
-  section_built : (own : Order) → IsSound here b (Begins own) → size_in here b (Begins own) ≤ length b → ends here b (Begins own) → Says here b (Begins own) → Built here b (Begins own)
+  section_built : (own : Order) → IsSound here b (Begins own) → size_in here b (Begins own) ≤ length b → ends here b (Begins own) → Means here b (Begins own) → Built here b (Begins own)
   section_built own sound there same (say.section is found version) =
       let n : ℕ = length_in own b in
       let least : 28 ≤ n = sound.long.enough in
@@ -72,7 +70,7 @@ module _ (here : Place) (b : List ℕ) (bytes : IsBytes b) where
         long = is_long own b 24 (omega (arith, least)) (omega arith) there sound.long.fours same;
       }))
 
-  interface_built : IsSound here b Describes → size_in here b Describes ≤ length b → ends here b Describes → Says here b Describes → Built here b Describes
+  interface_built : IsSound here b Describes → size_in here b Describes ≤ length b → ends here b Describes → Means here b Describes → Built here b Describes
   interface_built sound there same (say.interface is) =
       let n : ℕ = length_in here.order b in
       let least : 20 ≤ n = sound.long.enough in
@@ -88,7 +86,7 @@ module _ (here : Place) (b : List ℕ) (bytes : IsBytes b) where
         long = is_long here.order b 16 (omega (arith, least)) (omega arith) there sound.long.fours same;
       }) sound.room)
 
-  other_built : IsSound here b Nothing → size_in here b Nothing ≤ length b → ends here b Nothing → Says here b Nothing → Built here b Nothing
+  other_built : IsSound here b Nothing → size_in here b Nothing ≤ length b → ends here b Nothing → Means here b Nothing → Built here b Nothing
   other_built sound there same (say.other n1 n2 n3 n4 n5) =
       let n : ℕ = length_in here.order b in
       let least : 12 ≤ n = sound.long.enough in
@@ -144,11 +142,11 @@ module _ (here : Place) (b : List ℕ) (bytes : IsBytes b) where
       built (subst (λ rs. IsBlock here (take n b) rs (record { order = here.order; interfaces = here.interfaces; number = here.number + 1 }))
       (sym (shown_there here b (fields_there here b (Keeps of front kept) sound there) of front kept (omega (arith, least, there)))) (packet is))
 
-  pub build : (told : Told) → IsSound here b told → size_in here b told ≤ length b → ends here b told → Built here b told
-  build (Begins own) sound there same = section_built own sound there same sound.says
-  build Describes sound there same = interface_built sound there same sound.says
-  build (Keeps of front kept) sound there same = by sound.says
+  pub build : (meaning : BlockMeaning) → IsSound here b meaning → size_in here b meaning ≤ length b → ends here b meaning → Built here b meaning
+  build (Begins own) sound there same = section_built own sound there same sound.means
+  build Describes sound there same = interface_built sound there same sound.means
+  build (Keeps of front kept) sound there same = by sound.means
     where
-      by : Says here b (Keeps of front kept) → Built here b (Keeps of front kept)
+      by : Means here b (Keeps of front kept) → Built here b (Keeps of front kept)
       by (say.packet announced) = packet_built of front kept sound there same announced
-  build Nothing sound there same = other_built sound there same sound.says
+  build Nothing sound there same = other_built sound there same sound.means

@@ -1,9 +1,9 @@
 -- Blocks one behind another are read as what they are, and so are whole files.
-use Rattle.std.proofs.Common.{◌≡◌, ℕ, ◌+◌, ◌<◌, ◌≤◌, List, [], ◌∷◌, ◌++◌, length, refl, sym, ap, ◌∙◌, arith, Ok, Some, None, append-nil, append_assoc}
+use Rattle.std.proofs.Common.{◌≡◌, ℕ, List, [], ◌++◌, refl, sym, ap, ◌∙◌, arith, Ok, Some, None, append-nil, append_assoc}
 use Rattle.ipx_recording.specs.Chain.{Place, IsBlock, AreBlocks, section, interface, packet, other, none, more}
 use Rattle.ipx_recording.specs.Differs.{Differs}
 use Rattle.ipx_recording.specs.Met.{met}
-use Rattle.ipx_recording.specs.Recorded.{Recorded, Contents, prepend, packets_from}
+use Rattle.ipx_recording.specs.Recorded.{Recorded, Contents, prepend}
 use Rattle.ipx_recording.specs.declared.due.Due.TheVariants.{Block}
 use Rattle.ipx_recording.specs.declared.met.Met.TheVariants.{Wants}
 use Rattle.ipx_recording.specs.declared.recording_fault.RecordingFault.{RecordingFault}

@@ -1,5 +1,5 @@
 -- Whatever the bytes are, they are a recording, or they differ from one at a block.
-use Rattle.std.proofs.Common.{◌≡◌, ◌≢◌, false, true, ℕ, zero, suc, ◌+◌, ◌-◌, ◌%◌, ◌<◌, ◌≤◌, get_or, subst, List, [], ◌∷◌, ◌++◌, length, take, drop, slice_get, slice_index, refl, inl, inr, sym, ap, ◌∙◌, arith, Option, Some, None, append_assoc, length-drop}
+use Rattle.std.proofs.Common.{◌≡◌, ◌≢◌, ℕ, zero, suc, ◌+◌, ◌-◌, ◌%◌, ◌<◌, ◌≤◌, subst, List, [], ◌∷◌, ◌++◌, length, take, drop, slice_get, refl, inl, inr, sym, ap, ◌∙◌, arith, Option, Some, None, append_assoc, length-drop}
 use Rattle.std.proofs.lemmas.Bool.{cases_lt, cases_eq}
 use Rattle.std.proofs.lemmas.List.{get_or-drop, take-append-drop}
 use Rattle.ipx_wire.specs.Piece.{piece, IsBytes}
@@ -9,19 +9,18 @@ use Rattle.ipx_capture.specs.declared.order.Order.{Order}
 use Rattle.ipx_recording.specs.Blocks.{Announces}
 use Rattle.ipx_recording.specs.Blocks as form
 use Rattle.ipx_recording.specs.Chain.{Place, IsBlock, AreBlocks, none, more}
-use Rattle.ipx_recording.specs.Differs.{Told, Begins, Describes, Keeps, Nothing, Says, IsOfNone, IsWrong, IsSound, IsKept, HasRoom, IsLength, IsNoLength, Differs, size_in, least, order_of, shown, no_order, other_version, of_none, long, no_length, no_room, no_kind, no_fields, wrong, cut, two_lengths}
+use Rattle.ipx_recording.specs.Differs.{BlockMeaning, Begins, Describes, Keeps, Nothing, Means, IsOfNone, IsWrong, IsSound, IsKept, HasRoom, IsLength, IsNoLength, Differs, size_in, least, order_of, shown, no_order, other_version, of_none, long, no_length, no_room, no_kind, no_fields, wrong, cut, two_lengths}
 use Rattle.ipx_recording.specs.Differs as say
-use Rattle.ipx_recording.specs.Met.{fields_of, kind_in, length_in, order_by, kept_by}
+use Rattle.ipx_recording.specs.Met.{fields_of, kind_in, order_by}
 use Rattle.ipx_recording.specs.Recorded.{Recorded}
 use Rattle.ipx_recording.specs.declared.interface.Interface.{Interface}
 use Rattle.ipx_recording.specs.declared.recording_fault.RecordingFault.{RecordingFault}
 use Rattle.ipx_recording.proofs.Building.{Built, built, build}
-use Rattle.ipx_recording.proofs.Refusals.{fields_there}
 
 -- fields have a fault, or say something
 data Fields (here : Place) (b : List ℕ) : Type 0 where
   faulty : {fault : RecordingFault} → IsWrong here b fault → Fields here b
-  telling : {told : Told} → Says here b told → Fields here b
+  telling : {meaning : BlockMeaning} → Means here b meaning → Fields here b
 
 module _ (here : Place) (b : List ℕ) where
   section_fields : kind_in here.order b ≡ 0x0A0D0D0A → (found : Option Order) → order_by (piece b 8 4) ≡ found → Fields here b
@@ -68,32 +67,32 @@ module _ (here : Place) (b : List ℕ) where
       ]
 
 -- what says something has a fault, or is sound
-data Sound (here : Place) (b : List ℕ) (told : Told) : Type 0 where
-  bad : {fault : RecordingFault} → IsWrong here b fault → Sound here b told
-  good : IsSound here b told → Sound here b told
+data Sound (here : Place) (b : List ℕ) (meaning : BlockMeaning) : Type 0 where
+  bad : {fault : RecordingFault} → IsWrong here b fault → Sound here b meaning
+  good : IsSound here b meaning → Sound here b meaning
 
 module _ (here : Place) (b : List ℕ) where
-  with_room : (told : Told) → Says here b told → IsKept told → IsLength (least told) (size_in here b told) → Sound here b told
-  with_room (Begins own) says kept length = good (record { says = says; kept = kept; long = length; room = tt })
+  with_room : (meaning : BlockMeaning) → Means here b meaning → IsKept meaning → IsLength (least meaning) (size_in here b meaning) → Sound here b meaning
+  with_room (Begins own) says kept length = good (record { means = says; kept = kept; long = length; room = tt })
   with_room Describes says kept size =
       elim (cases_lt (length here.interfaces) 256) [
-        | inl room ↦ good (record { says = says; kept = kept; long = size; room = room })
+        | inl room ↦ good (record { means = says; kept = kept; long = size; room = room })
         | inr many ↦ bad (no_room says size many)
       ]
-  with_room (Keeps of front kept) says few length = good (record { says = says; kept = few; long = length; room = tt })
-  with_room Nothing says kept length = good (record { says = says; kept = kept; long = length; room = tt })
+  with_room (Keeps of front kept) says few length = good (record { means = says; kept = few; long = length; room = tt })
+  with_room Nothing says kept length = good (record { means = says; kept = kept; long = length; room = tt })
 
-  with_length : (told : Told) → Says here b told → IsKept told → Sound here b told
-  with_length told says kept =
-      elim (cases_lt (size_in here b told) (least told)) [
+  with_length : (meaning : BlockMeaning) → Means here b meaning → IsKept meaning → Sound here b meaning
+  with_length meaning says kept =
+      elim (cases_lt (size_in here b meaning) (least meaning)) [
         | inl few ↦ bad (no_length says kept (inl few))
-        | inr enough ↦ elim (cases_eq (size_in here b told % 4) 0) [
-          | inl fours ↦ with_room told says kept (record { enough = enough; fours = fours })
+        | inr enough ↦ elim (cases_eq (size_in here b meaning % 4) 0) [
+          | inl fours ↦ with_room meaning says kept (record { enough = enough; fours = fours })
           | inr uneven ↦ bad (no_length says kept (inr uneven))
         ]
       ]
 
-  sound : (told : Told) → Says here b told → Sound here b told
+  sound : (meaning : BlockMeaning) → Means here b meaning → Sound here b meaning
   sound (Begins own) says = with_length (Begins own) says tt
   sound Describes says = with_length Describes says tt
   sound (Keeps of front kept) says =
@@ -109,32 +108,32 @@ data First (here : Place) (b : List ℕ) : Type 0 where
   differs : {records : List Recorded} {fault : RecordingFault} → Differs here b records fault → First here b
 
 module _ (here : Place) (b : List ℕ) (bytes : IsBytes b) where
-  some_least : (told : Told) → 0 < least told
+  some_least : (meaning : BlockMeaning) → 0 < least meaning
   some_least (Begins own) = omega arith
   some_least Describes = omega arith
   some_least (Keeps of front kept) = omega arith
   some_least Nothing = omega arith
 
-  first_built : (told : Told) → IsSound here b told → size_in here b told ≤ length b → Built here b told → First here b
-  first_built told is enough (built made) = block (omega (arith, is.long.enough, some_least told)) enough made
+  first_built : (meaning : BlockMeaning) → IsSound here b meaning → size_in here b meaning ≤ length b → Built here b meaning → First here b
+  first_built meaning is enough (built made) = block (omega (arith, is.long.enough, some_least meaning)) enough made
 
-  first_sound : (told : Told) → fields_of (kind_in here.order b) ≤ length b → IsSound here b told → First here b
-  first_sound told there is =
-      elim (cases_lt (length b) (size_in here b told)) [
+  first_sound : (meaning : BlockMeaning) → fields_of (kind_in here.order b) ≤ length b → IsSound here b meaning → First here b
+  first_sound meaning there is =
+      elim (cases_lt (length b) (size_in here b meaning)) [
         | inl few ↦ differs (cut there is few)
-        | inr enough ↦ elim (cases_eq (u32_in (order_of here told) (piece b (size_in here b told - 4) 4)) (size_in here b told)) [
-          | inl same ↦ first_built told is enough (build here b bytes told is enough same)
+        | inr enough ↦ elim (cases_eq (u32_in (order_of here meaning) (piece b (size_in here b meaning - 4) 4)) (size_in here b meaning)) [
+          | inl same ↦ first_built meaning is enough (build here b bytes meaning is enough same)
           | inr another ↦ differs (two_lengths is enough another)
         ]
       ]
 
-  first_told : 8 ≤ length b → fields_of (kind_in here.order b) ≤ length b → (told : Told) → Sound here b told → First here b
-  first_told some there told (bad is) = differs (wrong some there is)
-  first_told some there told (good is) = first_sound told there is
+  first_told : 8 ≤ length b → fields_of (kind_in here.order b) ≤ length b → (meaning : BlockMeaning) → Sound here b meaning → First here b
+  first_told some there meaning (bad is) = differs (wrong some there is)
+  first_told some there meaning (good is) = first_sound meaning there is
 
   first_fields : 8 ≤ length b → fields_of (kind_in here.order b) ≤ length b → Fields here b → First here b
   first_fields some there (faulty is) = differs (wrong some there is)
-  first_fields some there (telling {told} says) = first_told some there told (sound here b told says)
+  first_fields some there (telling {meaning} says) = first_told some there meaning (sound here b meaning says)
 
   first : 0 < length b → First here b
   first some =

@@ -1,5 +1,5 @@
 -- What the fields of a block say is what is met.
-use Rattle.std.proofs.Common.{◌≡◌, ◌≢◌, ◌==◌, true, false, ℕ, ◌+◌, ◌-◌, ◌%◌, ◌<◌, ◌≤◌, Bool, if◌then◌else◌, List, length, take, slice_get, refl, inl, inr, sym, ap, ◌∙◌, arith, Option, Result, Ok, Err, Some, None}
+use Rattle.std.proofs.Common.{◌≡◌, ◌≢◌, ◌==◌, true, false, ℕ, ◌+◌, ◌-◌, ◌%◌, ◌<◌, ◌≤◌, if◌then◌else◌, List, length, take, slice_get, refl, inl, inr, sym, ap, ◌∙◌, arith, Option, Result, Ok, Err, Some, None}
 use Rattle.std.proofs.lemmas.Bool.{lt-ltb, le-ltb, lt-leb, le-leb, ne_eqb}
 use Rattle.ipx_wire.specs.Piece.{piece}
 use Rattle.ipx_capture.specs.Order.{u16_in, u32_in}
@@ -9,7 +9,7 @@ use Rattle.ipx_capture.proofs.Pieces.{piece_within}
 use Rattle.ipx_recording.specs.Blocks.{Announces}
 use Rattle.ipx_recording.specs.Blocks as form
 use Rattle.ipx_recording.specs.Chain.{Place}
-use Rattle.ipx_recording.specs.Differs.{Told, Begins, Describes, Keeps, Nothing, Says, IsOfNone, IsWrong, IsSound, IsLength, IsNoLength, size_in, least, no_order, other_version, of_none, long, no_length, no_room}
+use Rattle.ipx_recording.specs.Differs.{BlockMeaning, Begins, Describes, Keeps, Nothing, Means, IsOfNone, IsWrong, IsSound, IsLength, IsNoLength, size_in, least, no_order, other_version, of_none, long, no_length, no_room}
 use Rattle.ipx_recording.specs.Differs as say
 use Rattle.ipx_recording.specs.Met.{met, section, section_in, interface_in, packet_in, simple_in, skipped, block_in, fields_of, kind_in, length_in, order_by, is_length, kept_by}
 use Rattle.ipx_recording.specs.declared.due.Due.TheVariants.{Block, Packet, Rest}
@@ -17,7 +17,7 @@ use Rattle.ipx_recording.specs.declared.interface.Interface.{Interface}
 use Rattle.ipx_recording.specs.declared.met.Met.{Met}
 use Rattle.ipx_recording.specs.declared.met.Met.TheVariants.{Passed, Described, Section}
 use Rattle.ipx_recording.specs.declared.recording_fault.RecordingFault.{RecordingFault}
-use Rattle.ipx_recording.specs.declared.recording_fault.RecordingFault.TheVariants.{Magic, Version, BlockLength, NoInterface, ManyInterfaces, RecordLong}
+use Rattle.ipx_recording.specs.declared.recording_fault.RecordingFault.TheVariants.{Version, BlockLength, NoInterface, ManyInterfaces, RecordLong}
 use Rattle.ipx_recording.proofs.Sizes.{begins_whole}
 
 -- a block by its kind
@@ -154,7 +154,7 @@ module _ (here : Place) (b : List ℕ) (enough : fields_of (kind_in here.order b
   of_none_met (say.old is missing) = old_met here.order here.interfaces b is enough ∙ ap (packet_in 32 24 (u32_in here.order (piece b 20 4)) (length_in here.order b)) missing
   of_none_met (say.simple is missing) = simple_met here.order here.interfaces b is enough ∙ ap (λ o. simple_in here.order o b) missing
 
-  too_long : (of : Interface) (front kept : ℕ) → Says here b (Keeps of front kept) → most_kept < kept → met here.order here.interfaces Block b ≡ Err RecordLong
+  too_long : (of : Interface) (front kept : ℕ) → Means here b (Keeps of front kept) → most_kept < kept → met here.order here.interfaces Block b ≡ Err RecordLong
   too_long of front kept (say.packet announced) many = announced_met here.order here.interfaces b of front kept announced enough ∙ (rw (lt-ltb most_kept kept many) refl)
 
   section_length : (own : Order) (found : Option Order) → found ≡ Some own → u16_in own (piece b 12 2) ≡ 1 → is_length 28 (length_in own b) ≡ false → section_in found b ≡ Err BlockLength
@@ -166,7 +166,7 @@ module _ (here : Place) (b : List ℕ) (enough : fields_of (kind_in here.order b
       let sum : front + 4 + kept + 4 ≡ front + 8 + kept = omega arith in
       rw (le-ltb most_kept kept few) (rw (ap (λ j. is_length j (length_in here.order b)) (sym sum) ∙ not_long (front + 4 + kept + 4) (length_in here.order b) bad) refl)
 
-  bad_length : (told : Told) → Says here b told → say.IsKept told → IsNoLength (least told) (size_in here b told) → met here.order here.interfaces Block b ≡ Err BlockLength
+  bad_length : (meaning : BlockMeaning) → Means here b meaning → say.IsKept meaning → IsNoLength (least meaning) (size_in here b meaning) → met here.order here.interfaces Block b ≡ Err BlockLength
   bad_length (Begins own) (say.section is order version) few bad =
       section_met here.order here.interfaces b is enough ∙ section_length own (order_by (piece b 8 4)) order version (not_long 28 (length_in own b) bad)
   bad_length Describes (say.interface is) few bad = interface_met here.order here.interfaces b is enough ∙ (rw (not_long 20 (length_in here.order b) bad) refl)
@@ -175,7 +175,7 @@ module _ (here : Place) (b : List ℕ) (enough : fields_of (kind_in here.order b
   bad_length Nothing (say.other n1 n2 n3 n4 n5) few bad =
       other_met here.order here.interfaces b n1 n2 n3 n4 n5 enough ∙ (rw (not_long 12 (length_in here.order b) bad) refl)
 
-  too_many : Says here b Describes → IsLength 20 (size_in here b Describes) → 256 ≤ length here.interfaces → met here.order here.interfaces Block b ≡ Err ManyInterfaces
+  too_many : Means here b Describes → IsLength 20 (size_in here b Describes) → 256 ≤ length here.interfaces → met here.order here.interfaces Block b ≡ Err ManyInterfaces
   too_many (say.interface is) good many =
       interface_met here.order here.interfaces b is enough ∙ (rw (long_enough 20 (length_in here.order b) good.enough good.fours) (rw (le-leb 256 (length here.interfaces) many) refl))
 
@@ -187,7 +187,7 @@ module _ (here : Place) (b : List ℕ) (enough : fields_of (kind_in here.order b
   wrong_met _ (other_version {order} is found another) = section_met here.order here.interfaces b is enough ∙ version_met order (order_by (piece b 8 4)) found another
   wrong_met _ (of_none missing) = of_none_met missing
   wrong_met _ (long {of} {front} {kept} says many) = too_long of front kept says many
-  wrong_met _ (no_length {told} says few bad) = bad_length told says few bad
+  wrong_met _ (no_length {meaning} says few bad) = bad_length meaning says few bad
   wrong_met _ (no_room says good many) = too_many says good many
 
   -- fields without a fault
@@ -196,9 +196,9 @@ module _ (here : Place) (b : List ℕ) (enough : fields_of (kind_in here.order b
   section_good own found is version good = grind arith
 
   pub begins_met : (own : Order) → IsSound here b (Begins own) → met here.order here.interfaces Block b ≡ Ok (Section own (Rest (length_in own b - (24 + 4)) (length_in own b)))
-  begins_met own sound = by sound.says
+  begins_met own sound = by sound.means
     where
-      by : Says here b (Begins own) → met here.order here.interfaces Block b ≡ Ok (Section own (Rest (length_in own b - (24 + 4)) (length_in own b)))
+      by : Means here b (Begins own) → met here.order here.interfaces Block b ≡ Ok (Section own (Rest (length_in own b - (24 + 4)) (length_in own b)))
       by (say.section is order version) =
           section_met here.order here.interfaces b is enough
           ∙ section_good own (order_by (piece b 8 4)) order version (long_enough 28 (length_in own b) sound.long.enough sound.long.fours)
@@ -206,9 +206,9 @@ module _ (here : Place) (b : List ℕ) (enough : fields_of (kind_in here.order b
   pub describes_met : IsSound here b Describes
       → met here.order here.interfaces Block b
       ≡ Ok (Described (record { link = u16_in here.order (piece b 8 2); most = u32_in here.order (piece b 12 4) }) (Rest (length_in here.order b - (16 + 4)) (length_in here.order b)))
-  describes_met sound = by sound.says
+  describes_met sound = by sound.means
     where
-      by : Says here b Describes
+      by : Means here b Describes
           → met here.order here.interfaces Block b
           ≡ Ok (Described (record { link = u16_in here.order (piece b 8 2); most = u32_in here.order (piece b 12 4) }) (Rest (length_in here.order b - (16 + 4)) (length_in here.order b)))
       by (say.interface is) =
@@ -216,9 +216,9 @@ module _ (here : Place) (b : List ℕ) (enough : fields_of (kind_in here.order b
           ∙ (rw (long_enough 20 (length_in here.order b) sound.long.enough sound.long.fours) (rw (lt-leb 256 (length here.interfaces) sound.room) refl))
 
   pub nothing_met : IsSound here b Nothing → met here.order here.interfaces Block b ≡ Ok (Passed 8 (Rest (length_in here.order b - (8 + 4)) (length_in here.order b)))
-  nothing_met sound = by sound.says
+  nothing_met sound = by sound.means
     where
-      by : Says here b Nothing → met here.order here.interfaces Block b ≡ Ok (Passed 8 (Rest (length_in here.order b - (8 + 4)) (length_in here.order b)))
+      by : Means here b Nothing → met here.order here.interfaces Block b ≡ Ok (Passed 8 (Rest (length_in here.order b - (8 + 4)) (length_in here.order b)))
       by (say.other n1 n2 n3 n4 n5) =
           other_met here.order here.interfaces b n1 n2 n3 n4 n5 enough ∙ (rw (long_enough 12 (length_in here.order b) sound.long.enough sound.long.fours) refl)
 
@@ -230,8 +230,8 @@ module _ (here : Place) (b : List ℕ) (enough : fields_of (kind_in here.order b
 
   pub keeps_met : (of : Interface) (front kept : ℕ) → IsSound here b (Keeps of front kept)
       → met here.order here.interfaces Block b ≡ Ok (Passed front (Packet of.link kept (length_in here.order b - (front + 4 + kept + 4)) (length_in here.order b)))
-  keeps_met of front kept sound = by sound.says
+  keeps_met of front kept sound = by sound.means
     where
-      by : Says here b (Keeps of front kept)
+      by : Means here b (Keeps of front kept)
           → met here.order here.interfaces Block b ≡ Ok (Passed front (Packet of.link kept (length_in here.order b - (front + 4 + kept + 4)) (length_in here.order b)))
       by (say.packet announced) = announced_met here.order here.interfaces b of front kept announced enough ∙ packet_good of front kept (length_in here.order b) sound.kept sound.long

@@ -1,5 +1,5 @@
 -- A file is read whole just where it is a recording, and refused just where it differs from one.
-use Rattle.std.proofs.Common.{◌≡◌, ◌≢◌, true, false, ℕ, suc, ◌+◌, ◌<◌, ◌≤◌, subst, List, [], ◌∷◌, ◌++◌, length, drop, take, refl, inl, inr, sym, ap, ◌∙◌, arith, Bool, Option, Result, Ok, Err, Some, None, append-nil, length-append}
+use Rattle.std.proofs.Common.{◌≡◌, ◌≢◌, true, false, ℕ, suc, ◌+◌, ◌<◌, ◌≤◌, subst, List, [], ◌++◌, length, drop, refl, inl, inr, sym, ap, ◌∙◌, arith, Bool, Option, Result, Ok, Err, Some, None, append-nil, length-append}
 use Rattle.std.specs.Prelude.{◌↔◌}
 use Rattle.std.proofs.lemmas.Bool.{cases_lt, le-ltb}
 use Rattle.ipx_wire.specs.Piece.{piece, IsBytes}
@@ -9,7 +9,7 @@ use Rattle.ipx_capture.specs.declared.order.Order.TheVariants.{Big}
 use Rattle.ipx_capture.proofs.First.{piece_append}
 use Rattle.ipx_recording.specs.Blocks.{mark, Announces, enhanced, old, simple}
 use Rattle.ipx_recording.specs.Chain.{Place, IsBlock, AreBlocks, IsFile, start, section, interface, packet, other, none, more}
-use Rattle.ipx_recording.specs.Differs.{IsRefused, Differs, short, unmarked, differs}
+use Rattle.ipx_recording.specs.Differs.{IsRefused, short, unmarked, differs}
 use Rattle.ipx_recording.specs.Met.{met, kind_in, fields_of, order_by, section_in}
 use Rattle.ipx_recording.specs.Met as part
 use Rattle.ipx_recording.specs.Recorded.{State, Recorded, Contents, recorded, begins, begun, behind_header, is_recording, is_wanting, size_of, packets, packets_from, prepend, after}

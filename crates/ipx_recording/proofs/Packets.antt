@@ -7,8 +7,8 @@ use Rattle.ipx_capture.proofs.First.{piece_append}
 use Rattle.ipx_recording.specs.Blocks.{Announces, IsPacket, enhanced, old, simple}
 use Rattle.ipx_recording.specs.Chain.{Place}
 use Rattle.ipx_recording.specs.Differs.{Keeps, IsSound, packet}
-use Rattle.ipx_recording.specs.Met.{kind_in, length_in, kept_by}
-use Rattle.ipx_recording.specs.Recorded.{Recorded, prepend, packets_from}
+use Rattle.ipx_recording.specs.Met.{length_in, kept_by}
+use Rattle.ipx_recording.specs.Recorded.{prepend, packets_from}
 use Rattle.ipx_recording.specs.declared.due.Due.TheVariants.{Block}
 use Rattle.ipx_recording.specs.declared.interface.Interface.{Interface}
 use Rattle.ipx_recording.proofs.Behind.{stands}
@@ -84,7 +84,7 @@ module _ (order : Order) (interfaces : List Interface) (n : â„•) (rest : List â„
 
   sound : IsSound here (block ++ rest) (Keeps o.of (length o.front) (length bytes))
   sound = record {
-    says = packet announced;
+    means = packet announced;
     kept = o.few;
     long = record {
       enough = omega (arith, says_length, size_is);

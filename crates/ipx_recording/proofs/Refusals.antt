@@ -1,5 +1,5 @@
 -- Bytes that begin with no block are refused, and those that begin with one aren't.
-use Rattle.std.proofs.Common.{◌≡◌, ◌≢◌, false, true, ℕ, ◌+◌, ◌-◌, ◌<◌, ◌≤◌, List, [], ◌∷◌, ◌++◌, length, drop, refl, inl, inr, sym, ap, ◌∙◌, arith, Ok, Some, length-drop, drop-drop}
+use Rattle.std.proofs.Common.{◌≡◌, ◌≢◌, ℕ, ◌+◌, ◌-◌, ◌<◌, ◌≤◌, List, [], ◌∷◌, ◌++◌, length, drop, refl, inl, inr, sym, ap, ◌∙◌, arith, Ok, Some, length-drop, drop-drop}
 use Rattle.std.proofs.lemmas.Bool.{lt-leb, le-leb, cases_lt}
 use Rattle.ipx_wire.specs.Piece.{piece}
 use Rattle.ipx_capture.specs.Order.{u16_in, u32_in}
@@ -7,7 +7,7 @@ use Rattle.ipx_capture.specs.declared.order.Order.{Order}
 use Rattle.ipx_recording.specs.Blocks.{Announces}
 use Rattle.ipx_recording.specs.Blocks as form
 use Rattle.ipx_recording.specs.Chain.{Place}
-use Rattle.ipx_recording.specs.Differs.{Told, Begins, Describes, Keeps, Nothing, Says, IsSound, Differs, size_in, order_of, least, shown, no_kind, no_fields, wrong, cut, two_lengths}
+use Rattle.ipx_recording.specs.Differs.{BlockMeaning, Begins, Describes, Keeps, Nothing, Means, IsSound, Differs, size_in, order_of, least, shown, no_kind, no_fields, wrong, cut, two_lengths}
 use Rattle.ipx_recording.specs.Differs as say
 use Rattle.ipx_recording.specs.Met.{met, fields_of, kind_in, length_in}
 use Rattle.ipx_recording.specs.Recorded.{State, Recorded, Contents, prepend, packets_from, end_at}
@@ -54,14 +54,14 @@ module _ (here : Place) (b : List ℕ) where
   announced_within _ _ _ (form.old is found) = omega (arith, ap fields_of is, old_fields)
   announced_within _ _ _ (form.simple is found) = omega (arith, ap fields_of is, simple_fields)
 
-  says_within : (told : Told) → Says here b told → fields_of (kind_in here.order b) ≤ least told
+  says_within : (meaning : BlockMeaning) → Means here b meaning → fields_of (kind_in here.order b) ≤ least meaning
   says_within _ (say.section is order version) = omega (arith, ap fields_of is, section_fields)
   says_within _ (say.interface is) = omega (arith, ap fields_of is, interface_fields)
   says_within _ (say.packet {of} {front} {kept} announced) = omega (arith, announced_within of front kept announced)
   says_within _ (say.other n1 n2 n3 n4 n5) = omega (arith, fields_other (kind_in here.order b) n1 n2 n3 n4 n5)
 
-  pub fields_there : (told : Told) → IsSound here b told → size_in here b told ≤ length b → fields_of (kind_in here.order b) ≤ length b
-  fields_there told sound enough = omega (arith, says_within told sound.says, sound.long.enough, enough)
+  pub fields_there : (meaning : BlockMeaning) → IsSound here b meaning → size_in here b meaning ≤ length b → fields_of (kind_in here.order b) ≤ length b
+  fields_there meaning sound enough = omega (arith, says_within meaning sound.means, sound.long.enough, enough)
 
   -- where a block goes on behind its fields
   no_more : here.number + 0 ≡ here.number
@@ -126,11 +126,11 @@ module _ (here : Place) (b : List ℕ) (there : fields_of (kind_in here.order b)
   shown_cut : (of : Interface) (front kept : ℕ) → length b < front + 4 + kept → shown here b (Keeps of front kept) ≡ []
   shown_cut of front kept few = rw (lt-leb (front + 4 + kept) (length b) few) refl
 
-  abbrev refusing : Told → RecordingFault → Contents
-  refusing told fault = record { records = shown here b told; fault = Some fault }
+  abbrev refusing : BlockMeaning → RecordingFault → Contents
+  refusing meaning fault = record { records = shown here b meaning; fault = Some fault }
 
   -- a file that ends inside a block
-  cut_inside : (told : Told) → IsSound here b told → length b < size_in here b told → from here b ≡ refusing told CutBlock
+  cut_inside : (meaning : BlockMeaning) → IsSound here b meaning → length b < size_in here b meaning → from here b ≡ refusing meaning CutBlock
   cut_inside (Begins own) sound few =
       behind_section own sound ∙ close_cut own [] 24 (length_in own b) here.number b (omega (arith, sound.long.enough)) few
   cut_inside Describes sound few =
@@ -151,11 +151,11 @@ module _ (here : Place) (b : List ℕ) (there : fields_of (kind_in here.order b)
   cut_inside Nothing sound few =
       behind_nothing sound ∙ close_cut here.order here.interfaces 8 (length_in here.order b) here.number b (omega (arith, sound.long.enough)) few
 
-  abbrev last : Told → ℕ
-  last told = u32_in (order_of here told) (piece b (size_in here b told - 4) 4)
+  abbrev last : BlockMeaning → ℕ
+  last meaning = u32_in (order_of here meaning) (piece b (size_in here b meaning - 4) 4)
 
   -- a block with two lengths
-  lengths_differ : (told : Told) → IsSound here b told → size_in here b told ≤ length b → last told ≢ size_in here b told → from here b ≡ refusing told LengthAgain
+  lengths_differ : (meaning : BlockMeaning) → IsSound here b meaning → size_in here b meaning ≤ length b → last meaning ≢ size_in here b meaning → from here b ≡ refusing meaning LengthAgain
   lengths_differ (Begins own) sound enough another =
       behind_section own sound ∙ close_wrong own [] 24 (length_in own b) here.number b (omega (arith, sound.long.enough)) enough another
   lengths_differ Describes sound enough another =
@@ -187,5 +187,5 @@ differing here b _ _ (no_kind some few) = cut_kind here b some few
 differing here b _ _ (no_fields some few) = cut_fields here b some few
 differing here b _ _ (wrong {fault} some there is) =
     one_fault (stands here.order here.interfaces Block) here.number b fault (wrong_met here b there fault is)
-differing here b _ _ (cut {told} there sound few) = cut_inside here b there told sound few
-differing here b _ _ (two_lengths {told} sound enough another) = lengths_differ here b (fields_there here b told sound enough) told sound enough another
+differing here b _ _ (cut {meaning} there sound few) = cut_inside here b there meaning sound few
+differing here b _ _ (two_lengths {meaning} sound enough another) = lengths_differ here b (fields_there here b meaning sound enough) meaning sound enough another

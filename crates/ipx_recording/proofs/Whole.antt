@@ -1,19 +1,16 @@
 -- Whole blocks are read as what they are.
-use Rattle.std.proofs.Common.{◌≡◌, ◌≢◌, ◌==◌, true, false, ℕ, ◌+◌, ◌-◌, ◌%◌, ◌<◌, ◌≤◌, min, if◌then◌else◌, List, [], ◌∷◌, ◌++◌, length, take, drop, slice_get, refl, sym, ap, ◌∙◌, arith, Option, Result, Ok, Some, length-append, append_assoc, drop_at, take_at}
-use Rattle.std.proofs.lemmas.Bool.{le-ltb, lt-leb, le-leb, ne_eqb}
+use Rattle.std.proofs.Common.{◌≡◌, true, false, ℕ, ◌+◌, ◌-◌, ◌%◌, ◌<◌, ◌≤◌, min, List, [], ◌∷◌, ◌++◌, length, take, drop, refl, sym, ap, ◌∙◌, arith, Option, Ok, Some, length-append, append_assoc, drop_at}
+use Rattle.std.proofs.lemmas.Bool.{le-ltb, lt-leb}
 use Rattle.ipx_wire.specs.Piece.{piece}
 use Rattle.ipx_capture.specs.Order.{u16_in, u32_in}
-use Rattle.ipx_capture.specs.Records.{most_kept}
 use Rattle.ipx_capture.specs.declared.order.Order.{Order}
-use Rattle.ipx_recording.specs.Blocks.{IsSection, IsInterface, IsPacket, IsOther}
-use Rattle.ipx_recording.specs.Met.{met, section, section_in, interface_in, packet_in, simple_in, skipped, block_in, ends_block, fields_of, kind_in, length_in, order_by, is_length}
+use Rattle.ipx_recording.specs.Blocks.{IsSection, IsInterface, IsOther}
+use Rattle.ipx_recording.specs.Met.{met, section, section_in, interface_in, skipped, block_in, ends_block, fields_of, kind_in, length_in, order_by}
 use Rattle.ipx_recording.specs.Recorded.{State, Recorded, size_of, is_wanting, packets, after, prepend, packets_from, recorded, begins, begun, behind_header, is_recording}
-use Rattle.ipx_recording.specs.declared.due.Due.{Due}
-use Rattle.ipx_recording.specs.declared.due.Due.TheVariants.{Block, Packet, Rest}
+use Rattle.ipx_recording.specs.declared.due.Due.TheVariants.{Block, Rest}
 use Rattle.ipx_recording.specs.declared.interface.Interface.{Interface}
 use Rattle.ipx_recording.specs.declared.met.Met.{Met}
-use Rattle.ipx_recording.specs.declared.met.Met.TheVariants.{Passed, Captured, Described, Section}
-use Rattle.ipx_recording.specs.declared.recording_fault.RecordingFault.{RecordingFault}
+use Rattle.ipx_recording.specs.declared.met.Met.TheVariants.{Passed, Described, Section}
 use Rattle.ipx_recording.proofs.Behind.{stands}
 use Rattle.ipx_recording.proofs.Fields.{block_by, block_is, long_enough, fields_other, by_other, section_fields, interface_fields}
 use Rattle.ipx_recording.proofs.Parts.{taken, skip_some, resting}

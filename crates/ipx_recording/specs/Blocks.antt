@@ -1,5 +1,5 @@
 -- Whole blocks, as they lie in a file (pcapng, sections on each block): fields, what is left to the end of the block, and the length again.
-use Rattle.std.specs.Prelude.{◌≡◌, ◌≢◌, ℕ, ◌≤◌, ◌%◌, List, [], ◌∷◌, ◌++◌, length, slice_get, Some, None}
+use Rattle.std.specs.Prelude.{◌≡◌, ◌≢◌, ℕ, ◌≤◌, ◌%◌, List, [], ◌∷◌, ◌++◌, length, slice_get, Some}
 use Rattle.ipx_wire.specs.Piece.{piece}
 use Rattle.ipx_capture.specs.Order.{u16_in, u32_in}
 use Rattle.ipx_capture.specs.Records.{most_kept}
@@ -44,7 +44,8 @@ pub record IsInterface (order : Order) (i : Interface) (block : List ℕ) : Type
   pub most : u32_in order (piece front 12 4) ≡ i.most
   pub long : IsLong order front again (length block)
 
--- a packet by the form of its block: which interface it is of, how many bytes stand in front of its length on the wire, and how many bytes of it are kept
+-- the three forms of a packet's block: which interface it is of, how many bytes of fields it has, and how many bytes of the packet are kept.
+-- The old form has 2 bytes for the interface; a simple packet is of the first one, and keeps what that keeps
 pub data Announces (order : Order) (interfaces : List Interface) (block : List ℕ) : Interface → (front kept : ℕ) → Type 0 where
   enhanced : {of : Interface} → kind_in order block ≡ packet_kind → slice_get interfaces (u32_in order (piece block 8 4)) ≡ Some of
       → Announces order interfaces block of packet_front (u32_in order (piece block 20 4))
@@ -53,7 +54,7 @@ pub data Announces (order : Order) (interfaces : List Interface) (block : List �
   simple : {of : Interface} → kind_in order block ≡ simple_packet_kind → slice_get interfaces 0 ≡ Some of
       → Announces order interfaces block of simple_front (kept_by of.most (u32_in order (piece block 8 4)))
 
--- a packet of an interface, in one of the three forms: fields, how many bytes it had on the wire, those that are kept, and padding with options
+-- a packet of an interface: fields, how many bytes it had on the wire, those that are kept, and padding with options
 pub record IsPacket (order : Order) (interfaces : List Interface) (link wire : ℕ) (bytes block : List ℕ) : Type 0 where
   pub front : List ℕ
   pub on_wire : List ℕ

@@ -8,13 +8,13 @@ use Rattle.ipx_recording.specs.Met.{most_interfaces}
 use Rattle.ipx_recording.specs.Recorded.{Recorded}
 use Rattle.ipx_recording.specs.declared.interface.Interface.{Interface}
 
--- where a block stands: in a section of this byte order, behind these interfaces, and the number of the next packet
+-- where a block stands: the byte order of its section, the interfaces described before it, and the number of the next packet
 pub record Place : Type 0 where
   pub order : Order
   pub interfaces : List Interface
   pub number : ℕ
 
--- a block at a place, the packets that it has, and the place behind it
+-- a block at a place, the packet in it, and the place behind it
 pub data IsBlock (here : Place) (block : List ℕ) : List Recorded → Place → Type 0 where
   section : {order : Order} → IsSection order block → IsBlock here block [] (record { order = order; interfaces = []; number = here.number })
   interface : {i : Interface} → IsInterface here.order i block → length here.interfaces < most_interfaces
@@ -24,17 +24,17 @@ pub data IsBlock (here : Place) (block : List ℕ) : List Recorded → Place →
       (record { order = here.order; interfaces = here.interfaces; number = here.number + 1 })
   other : IsOther here.order block → IsBlock here block [] here
 
--- blocks one behind another, from a place on, the packets that they have, and the place behind them
+-- blocks one behind another from a place on, their packets, and the place behind them
 pub data AreBlocks : Place → List ℕ → List Recorded → Place → Type 0 where
   none : {here : Place} → AreBlocks here [] [] here
   more : {here next end : Place} {block rest : List ℕ} {first later : List Recorded} → IsBlock here block first next → AreBlocks next rest later end
       → AreBlocks here (block ++ rest) (first ++ later) end
 
--- where a file begins; the kind of a section's header is the same in both byte orders
+-- where a file begins: before its first section, whose kind reads the same in both byte orders
 abbrev pub start : Place
 start = record { order = Big; interfaces = []; number = 1 }
 
--- a recording, and the packets in it
+-- a recording and its packets: it begins with a section's header, and is blocks to its end
 pub record IsFile (bytes : List ℕ) (records : List Recorded) : Type 0 where
   pub marked : piece bytes 0 4 ≡ mark
   pub end : Place

@@ -34,7 +34,7 @@ packet_kind = 6
 abbrev pub most_interfaces : ℕ
 most_interfaces = 256
 
--- how many bytes each kind of block has in front of what its kind leaves open: its options, the packet, or what nobody reads
+-- how many bytes of fields a block has, by its kind: they stand in front of options, of a packet's length on the wire, or of what nobody reads
 abbrev pub section_front : ℕ
 section_front = 24
 
@@ -50,11 +50,11 @@ simple_front = 8
 abbrev pub other_front : ℕ
 other_front = 8
 
--- a length has four bytes, that of a block and that of a packet on the wire
+-- a block's length has four bytes, and so has a packet's on the wire
 abbrev pub length_size : ℕ
 length_size = 4
 
--- how many bytes each kind of block has at least: those, and its length again; a packet's also its length on the wire, and the packet itself, which isn't counted here
+-- how many bytes a block has at least: its fields and its length again, and for a packet its length on the wire; the packet's own bytes come on top
 abbrev pub section_least : ℕ
 section_least = 28
 

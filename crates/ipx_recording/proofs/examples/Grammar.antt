@@ -1,5 +1,5 @@
 -- Files by the grammar: a recording of three blocks, packets in the three forms, and a file that is refused.
-use Rattle.std.proofs.Common.{◌≡◌, ℕ, List, [], ◌∷◌, ◌++◌, refl, arith, inl, Some, None}
+use Rattle.std.proofs.Common.{◌≡◌, ℕ, List, [], ◌∷◌, ◌++◌, refl, arith}
 use Rattle.ipx_capture.proofs.examples.Words.{typed, zeros}
 use Rattle.ipx_capture.specs.declared.order.Order.TheVariants.{Little}
 use Rattle.ipx_recording.specs.Blocks.{IsSection, IsInterface, IsPacket, enhanced, old, simple}
@@ -8,7 +8,7 @@ use Rattle.ipx_recording.specs.Differs.{IsRefused, IsWrong, differs, wrong, of_n
 use Rattle.ipx_recording.specs.Differs as say
 use Rattle.ipx_recording.specs.Met.{fields_of}
 use Rattle.ipx_recording.specs.declared.interface.Interface.{Interface}
-use Rattle.ipx_recording.specs.declared.recording_fault.RecordingFault.TheVariants.{BlockLength, NoInterface}
+use Rattle.ipx_recording.specs.declared.recording_fault.RecordingFault.TheVariants.{NoInterface}
 use Rattle.ipx_recording.proofs.examples.Words as words
 use Rattle.ipx_recording.proofs.examples.Words.{section_fields, little_section, little_interface, little_packet, packet_fields}
 
@@ -114,7 +114,7 @@ a_recording = record {
   marked = refl;
   end = record { order = Little; interfaces = ethernet ∷ []; number = 2 };
   blocks = more {next = opened} {block = little_section} (section is_section)
-  (more {next = described} {block = little_interface 1} (interface is_interface (omega arith)) (more {block = little_packet 0} (packet is_packet) none));
+      (more {next = described} {block = little_interface 1} (interface is_interface (omega arith)) (more {block = little_packet 0} (packet is_packet) none));
 }
 
 -- a packet of a second interface differs, behind two blocks
