@@ -3,6 +3,7 @@ pub mod Behind
 pub mod Building
 pub mod Chained
 pub mod Deciding
+pub mod Excluding
 pub mod Fields
 pub mod Files
 pub mod Further

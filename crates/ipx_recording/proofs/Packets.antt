@@ -33,16 +33,16 @@ announced_front order interfaces a of _ _ (old is found) = omega arith
 announced_front order interfaces a of _ _ (simple is found) = omega arith
 
 -- pieces behind the first list, and the first list itself
-skip : (x z : List ℕ) (at n j : ℕ) → j ≡ length x + at → piece (x ++ z) j n ≡ piece z at n
+pub skip : (x z : List ℕ) (at n j : ℕ) → j ≡ length x + at → piece (x ++ z) j n ≡ piece z at n
 skip x z place n j is =
     ap (λ k. piece (x ++ z) k n) is
     ∙ ap (take n) (sym (drop-drop place (length x) (x ++ z)) ∙ ap (drop place) (drop_at x z (length x) refl))
 
-front_of : (y z : List ℕ) (n : ℕ) → length y ≡ n → piece (y ++ z) 0 n ≡ y
+pub front_of : (y z : List ℕ) (n : ℕ) → length y ≡ n → piece (y ++ z) 0 n ≡ y
 front_of y z n is = take_at y z n is
 
 module _ (order : Order) (interfaces : List Interface) (n : ℕ) (rest : List ℕ) (link wire : ℕ) (bytes block : List ℕ) (o : IsPacket order interfaces link wire bytes block) where
-  abbrev here : Place
+  abbrev pub here : Place
   here = record { order = order; interfaces = interfaces; number = n }
 
   abbrev all : List ℕ
@@ -76,13 +76,13 @@ module _ (order : Order) (interfaces : List Interface) (n : ℕ) (rest : List �
       announces_same order interfaces block (block ++ rest) o.of (length o.front) (length bytes)
       (λ place k h. sym (piece_append block rest place k (omega (arith, h, size_is)))) o.fields
 
-  says_length : length_in order (block ++ rest) ≡ length block
+  pub says_length : length_in order (block ++ rest) ≡ length block
   says_length =
       ap (λ l. length_in order l) laid
       ∙ ap (u32_in order) (piece_append o.front (o.on_wire ++ (bytes ++ (o.options ++ (o.again ++ rest)))) 4 4 (omega (arith, eight)))
       ∙ o.long.in_front
 
-  sound : IsSound here (block ++ rest) (Keeps o.of (length o.front) (length bytes))
+  pub sound : IsSound here (block ++ rest) (Keeps o.of (length o.front) (length bytes))
   sound = record {
     means = packet announced;
     kept = o.few;
@@ -93,7 +93,7 @@ module _ (order : Order) (interfaces : List Interface) (n : ℕ) (rest : List �
     room = tt;
   }
 
-  ends : u32_in order (piece (block ++ rest) (length_in order (block ++ rest) - 4) 4) ≡ length_in order (block ++ rest)
+  pub ends : u32_in order (piece (block ++ rest) (length_in order (block ++ rest) - 4) 4) ≡ length_in order (block ++ rest)
   ends =
       let options : ℕ = length o.options in
       ap (λ j. u32_in order (piece (block ++ rest) (j - 4) 4)) says_length

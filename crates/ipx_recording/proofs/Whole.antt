@@ -79,7 +79,7 @@ section_is : (other : Order) (front : List ℕ) (size : ℕ) (found : Option Ord
     → 28 ≤ size → size % 4 ≡ 0 → section_in found front ≡ Ok (Section other (Rest (size - 28) size))
 section_is other front size found is version long h e = grind (arith, long_enough)
 
-marked : (order : Order) → u32_in order (0x0A ∷ 0x0D ∷ 0x0D ∷ 0x0A ∷ []) ≡ 0x0A0D0D0A
+pub marked : (order : Order) → u32_in order (0x0A ∷ 0x0D ∷ 0x0D ∷ 0x0A ∷ []) ≡ 0x0A0D0D0A
 marked Big = refl
 marked Little = refl
 

@@ -3,8 +3,8 @@ ghost use Rattle.std.specs.Prelude.{◌≡◌, ◌↔◌, ◌+◌, ◌<◌, ◌+
 ghost use Rattle.ipx_wire.specs.Piece.{IsBytes};
 ghost use Rattle.ipx_capture.specs.declared.order.Order.{Order};
 ghost use Rattle.ipx_recording.specs.Blocks.{IsSection, IsInterface, IsPacket, IsOther, between};
-ghost use Rattle.ipx_recording.specs.Chain.{IsFile};
-ghost use Rattle.ipx_recording.specs.Differs.{IsRefused};
+ghost use Rattle.ipx_recording.specs.Chain.{Place, IsBlock, IsFile};
+ghost use Rattle.ipx_recording.specs.Differs.{Differs, IsRefused};
 ghost use Rattle.ipx_recording.specs.Further.{Continues};
 ghost use Rattle.ipx_recording.specs.Met.{met, most_interfaces};
 ghost use Rattle.ipx_recording.specs.Recorded.{State, recorded, packets_from, packets, prepend, after, size_of, is_wanting, end_at, Recorded};
@@ -46,10 +46,12 @@ pub fn blocks()
 {}
 
 /// The reader accepts exactly the recordings. A file is read to its end without a fault just where it is blocks one behind another, the first of
-/// them a section's header, and then its packets are those of the blocks. Every other file is refused at the first block that differs, with
-/// the packets in front of that, and the fault says in what it differs.
+/// them a section's header, and then its packets are those of the blocks. Every other file is refused at the first bytes that begin with no
+/// block, with the packets in front of these, and the fault says why they don't; they never differ where a block stands.
 pub fn files()
     ensures whole { (bytes : List ℕ) (records : List Recorded) → IsBytes bytes → IsFile bytes records ↔ (recorded bytes ≡ record { records = records; fault = None }) }
     ensures refused { (bytes : List ℕ) (records : List Recorded) (fault : RecordingFault) → IsBytes bytes
         → IsRefused bytes records fault ↔ (recorded bytes ≡ record { records = records; fault = Some fault }) }
+    ensures first { (here next : Place) (block rest : List ℕ) (records shown : List Recorded) (fault : RecordingFault) → IsBlock here block records next
+        → Differs here (block ++ rest) shown fault → ⊥ }
 {}
