@@ -17,7 +17,7 @@ marked : (rest : List ℕ) → is_recording (mark ++ rest) ≡ true
 unfolding is_recording
 marked rest = grind arith
 
-beginning_is : (bytes : List ℕ) → is_recording bytes ≡ true → bytes ≡ mark ++ drop 4 bytes
+pub beginning_is : (bytes : List ℕ) → is_recording bytes ≡ true → bytes ≡ mark ++ drop 4 bytes
 unfolding is_recording
 beginning_is bytes is = beginning mark bytes is
 

@@ -1,6 +1,15 @@
 pub mod Beginning
+pub mod Behind
+pub mod Building
+pub mod Chained
+pub mod Deciding
+pub mod Excluding
+pub mod Fields
+pub mod Files
 pub mod Further
+pub mod Packets
 pub mod Parts
+pub mod Refusals
 pub mod Sizes
 pub mod Sure
 pub mod Wanting

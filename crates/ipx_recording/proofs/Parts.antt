@@ -37,7 +37,7 @@ enough (suc m) (suc k) s n b h g = met_same s n b (parts m) (parts k) (met s.ord
     (λ x takes t j. enough m k t j (drop (size_of x) b) (omega (arith, h, takes.some, takes.few, length-drop (size_of x) b)) (omega (arith, g, takes.some, takes.few, length-drop (size_of x) b)))
 
 -- a part that is there, and what follows it
-one_part : (s : State) (n : ℕ) (b : List ℕ) (m : Met) → met s.order s.interfaces s.due b ≡ Ok m → is_wanting m ≡ false
+pub one_part : (s : State) (n : ℕ) (b : List ℕ) (m : Met) → met s.order s.interfaces s.due b ≡ Ok m → is_wanting m ≡ false
     → packets_from s n b ≡ prepend (packets n b m) (packets_from (after s m) (n + length (packets n b m)) (drop (size_of m) b))
 unfolding packets_from
 one_part s n b m told sure =

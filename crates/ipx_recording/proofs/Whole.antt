@@ -1,28 +1,24 @@
 -- Whole blocks are read as what they are.
-use Rattle.std.proofs.Common.{◌≡◌, ◌≢◌, ◌==◌, true, false, ℕ, ◌+◌, ◌-◌, ◌%◌, ◌<◌, ◌≤◌, min, if◌then◌else◌, List, [], ◌∷◌, ◌++◌, length, take, drop, slice_get, refl, sym, ap, ◌∙◌, arith, Option, Result, Ok, Some, length-append, append_assoc, drop_at, take_at}
-use Rattle.std.proofs.lemmas.Bool.{le-ltb, lt-leb, le-leb, ne_eqb}
+use Rattle.std.proofs.Common.{◌≡◌, true, false, ℕ, ◌+◌, ◌-◌, ◌%◌, ◌<◌, ◌≤◌, min, List, [], ◌∷◌, ◌++◌, length, take, drop, refl, sym, ap, ◌∙◌, arith, Option, Ok, Some, length-append, append_assoc, drop_at}
+use Rattle.std.proofs.lemmas.Bool.{le-ltb, lt-leb}
 use Rattle.ipx_wire.specs.Piece.{piece}
 use Rattle.ipx_capture.specs.Order.{u16_in, u32_in}
-use Rattle.ipx_capture.specs.Records.{most_kept}
 use Rattle.ipx_capture.specs.declared.order.Order.{Order}
-use Rattle.ipx_recording.specs.Blocks.{IsSection, IsInterface, IsPacket, IsOther}
-use Rattle.ipx_recording.specs.Met.{met, section, section_in, interface_in, packet_in, simple_in, skipped, block_in, ends_block, fields_of, kind_in, length_in, order_by, is_length}
+use Rattle.ipx_recording.specs.Blocks.{IsSection, IsInterface, IsOther}
+use Rattle.ipx_recording.specs.Met.{met, section, section_in, interface_in, skipped, block_in, ends_block, fields_of, kind_in, length_in, order_by}
 use Rattle.ipx_recording.specs.Recorded.{State, Recorded, size_of, is_wanting, packets, after, prepend, packets_from, recorded, begins, begun, behind_header, is_recording}
-use Rattle.ipx_recording.specs.declared.due.Due.{Due}
-use Rattle.ipx_recording.specs.declared.due.Due.TheVariants.{Block, Packet, Rest}
+use Rattle.ipx_recording.specs.declared.due.Due.TheVariants.{Block, Rest}
 use Rattle.ipx_recording.specs.declared.interface.Interface.{Interface}
 use Rattle.ipx_recording.specs.declared.met.Met.{Met}
-use Rattle.ipx_recording.specs.declared.met.Met.TheVariants.{Passed, Captured, Described, Section}
-use Rattle.ipx_recording.specs.declared.recording_fault.RecordingFault.{RecordingFault}
+use Rattle.ipx_recording.specs.declared.met.Met.TheVariants.{Passed, Described, Section}
+use Rattle.ipx_recording.proofs.Behind.{stands}
+use Rattle.ipx_recording.proofs.Fields.{block_by, block_is, long_enough, fields_other, by_other, section_fields, interface_fields}
 use Rattle.ipx_recording.proofs.Parts.{taken, skip_some, resting}
 use Rattle.ipx_recording.proofs.Sizes.{begins_whole}
 use Rattle.ipx_recording.proofs.Beginning.{begins_whole as begins_whole_file}
 use Rattle.ipx_capture.proofs.First.{piece_append}
 use Rattle.ipx_capture.specs.Frame.{begins as begins_with}
 use Rattle.ipx_capture.specs.declared.order.Order.TheVariants.{Big, Little}
-
-abbrev pub stands : Order → List Interface → Due → State
-stands order interfaces due = record { order = order; interfaces = interfaces; due = due }
 
 drop_all : (a : List ℕ) → drop (length a) a ≡ []
 drop_all [] = refl
@@ -64,20 +60,6 @@ block_ends order interfaces left size n content again rest is four same =
     ∙ ap (packets_from (resting order interfaces 0 size) n) (drop_at content (again ++ rest) left is)
     ∙ alone (resting order interfaces 0 size) (stands order interfaces Block) n n again rest (Passed 4 Block) [] (again_met order interfaces size again four same) refl (sym four) refl refl (omega arith)
 
--- a block by its kind
-abbrev pub block_by : ℕ → Order → List Interface → List ℕ → Result Met RecordingFault
-block_by kind order interfaces front =
-    if kind == 0x0A0D0D0A then section front
-    else if kind == 1 then interface_in order interfaces front
-    else if kind == 3 then simple_in order (slice_get interfaces 0) front
-    else if kind == 6 then packet_in 32 24 (u32_in order (piece front 20 4)) (length_in order front) (slice_get interfaces (u32_in order (piece front 8 4)))
-    else if kind == 2 then packet_in 32 24 (u32_in order (piece front 20 4)) (length_in order front) (slice_get interfaces (u16_in order (piece front 8 2)))
-    else skipped (length_in order front)
-
-block_is : (order : Order) (interfaces : List Interface) (front : List ℕ) → block_in order interfaces front ≡ block_by (kind_in order front) order interfaces front
-unfolding block_in
-block_is order interfaces front = refl
-
 -- the fields of a block, and no byte more
 front_met : (order : Order) (interfaces : List Interface) (front : List ℕ) (kind : ℕ) → kind_in order front ≡ kind → 8 ≤ length front → fields_of kind ≡ length front
     → met order interfaces Block front ≡ block_by kind order interfaces front
@@ -90,17 +72,6 @@ front_met order interfaces front kind is some whole =
     ∙ block_is order interfaces front
     ∙ ap (λ k. block_by k order interfaces front) is
 
-long_enough : (least n : ℕ) → least ≤ n → n % 4 ≡ 0 → is_length least n ≡ true
-long_enough least n h e = grind (arith, le-leb)
-
-fields_other : (k : ℕ) → k ≢ 0x0A0D0D0A → k ≢ 1 → k ≢ 6 → k ≢ 2 → k ≢ 3 → fields_of k ≡ 8
-unfolding fields_of
-fields_other k a b c d e = rw (ne_eqb k 0x0A0D0D0A a) (rw (ne_eqb k 1 b) (rw (ne_eqb k 3 e) (rw (ne_eqb k 6 c) (rw (ne_eqb k 2 d) refl))))
-
-by_other : (k : ℕ) (order : Order) (interfaces : List Interface) (front : List ℕ) → k ≢ 0x0A0D0D0A → k ≢ 1 → k ≢ 6 → k ≢ 2 → k ≢ 3
-    → block_by k order interfaces front ≡ skipped (length_in order front)
-by_other k order interfaces front a b c d e = rw (ne_eqb k 0x0A0D0D0A a) (rw (ne_eqb k 1 b) (rw (ne_eqb k 3 e) (rw (ne_eqb k 6 c) (rw (ne_eqb k 2 d) refl))))
-
 skips : (n m : ℕ) → n ≡ m → 12 ≤ m → m % 4 ≡ 0 → skipped n ≡ Ok (Passed 8 (Rest (m - 12) m))
 skips n m is h e = rw is (rw (long_enough 12 m h e) refl)
 
@@ -108,21 +79,9 @@ section_is : (other : Order) (front : List ℕ) (size : ℕ) (found : Option Ord
     → 28 ≤ size → size % 4 ≡ 0 → section_in found front ≡ Ok (Section other (Rest (size - 28) size))
 section_is other front size found is version long h e = grind (arith, long_enough)
 
-marked : (order : Order) → u32_in order (0x0A ∷ 0x0D ∷ 0x0D ∷ 0x0A ∷ []) ≡ 0x0A0D0D0A
+pub marked : (order : Order) → u32_in order (0x0A ∷ 0x0D ∷ 0x0D ∷ 0x0A ∷ []) ≡ 0x0A0D0D0A
 marked Big = refl
 marked Little = refl
-
-section_fields : fields_of 0x0A0D0D0A ≡ 24
-unfolding fields_of
-section_fields = refl
-
-interface_fields : fields_of 1 ≡ 16
-unfolding fields_of
-interface_fields = refl
-
-packet_fields : fields_of 6 ≡ 24
-unfolding fields_of
-packet_fields = refl
 
 module _ (order : Order) (interfaces : List Interface) (n : ℕ) (rest : List ℕ) where
   pub other_read : (block : List ℕ) → IsOther order block
@@ -165,7 +124,7 @@ module _ (order : Order) (interfaces : List Interface) (n : ℕ) (rest : List �
       let size : ℕ = length block in
       let sum : size ≡ 28 + length o.options = omega (arith, ap length o.layout, length-append o.front (o.options ++ o.again), length-append o.options o.again, o.fields, o.long.four) in
       let told : met order interfaces Block o.front ≡ Ok (Section other (Rest (size - 28) size)) =
-      front_met order interfaces o.front 0x0A0D0D0A (ap (u32_in order) o.mark ∙ marked order) (omega (arith, o.fields)) (section_fields ∙ sym o.fields)
+      front_met order interfaces o.front 0x0A0D0D0A (ap (u32_in order) o.mark_is ∙ marked order) (omega (arith, o.fields)) (section_fields ∙ sym o.fields)
       ∙ section_is other o.front size (order_by (piece o.front 8 4)) o.order_is o.version o.long.in_front (omega (arith, sum)) o.long.fours in
       ap (λ (l : List ℕ). packets_from (stands order interfaces Block) n (l ++ rest)) o.layout
       ∙ ap (packets_from (stands order interfaces Block) n) (append_assoc o.front (o.options ++ o.again) rest ∙ ap (λ (l : List ℕ). o.front ++ l) (append_assoc o.options o.again rest))
@@ -173,65 +132,11 @@ module _ (order : Order) (interfaces : List Interface) (n : ℕ) (rest : List �
       told refl (sym o.fields) refl refl (omega arith)
       ∙ block_ends other [] (size - 28) size n o.options o.again rest (omega (arith, sum)) o.long.four o.long.at_end
 
-  packet_fits : (kept size : ℕ) (found : Option Interface) (i : Interface) → found ≡ Some i → kept ≤ most_kept → 32 + kept ≤ size → size % 4 ≡ 0
-      → packet_in 32 24 kept size found ≡ Ok (Passed 24 (Packet i.link kept (size - (32 + kept)) size))
-  packet_fits kept size found i is few h e = grind (arith, long_enough, le-ltb)
-
-  captured : (link kept left size wire : ℕ) (on_wire bytes : List ℕ) → length on_wire ≡ 4 → kept ≡ length bytes → u32_in order on_wire ≡ wire
-      → met order interfaces (Packet link kept left size) (on_wire ++ bytes) ≡ Ok (Captured link kept wire (Rest left size))
-  unfolding met
-  captured link kept left size wire on_wire bytes four is wired =
-      let enough : length (on_wire ++ bytes) ≡ 4 + kept = omega (arith, length-append on_wire bytes, four, is) in
-      ap Ok (rw (le-ltb (length (on_wire ++ bytes)) (4 + kept) (omega (arith, enough))) refl
-      ∙ ap (λ (l : List ℕ). Captured link kept (u32_in order l) (Rest left size)) (take_at on_wire bytes 4 four)
-      ∙ ap (λ w. Captured link kept w (Rest left size)) wired)
-
-  kept_bytes : (kept : ℕ) (on_wire bytes : List ℕ) → length on_wire ≡ 4 → kept ≡ length bytes → piece (on_wire ++ bytes) 4 kept ≡ bytes
-  kept_bytes kept on_wire bytes four is = ap (take kept) (drop_at on_wire bytes 4 four) ∙ ap (λ j. take j bytes) is ∙ take_all bytes
-
-  pub packet_read : (link wire : ℕ) (bytes block : List ℕ) → IsPacket order interfaces link wire bytes block
-      → packets_from (stands order interfaces Block) n (block ++ rest)
-      ≡ prepend (record { number = n; link = link; wire = wire; bytes = bytes } ∷ []) (packets_from (stands order interfaces Block) (n + 1) rest)
-  packet_read link wire bytes block o =
-      let size : ℕ = length block in
-      let kept : ℕ = length bytes in
-      let left : ℕ = size - (32 + kept) in
-      let inner : List ℕ = o.on_wire ++ bytes in
-      let sum : size ≡ 32 + kept + length o.options = omega (
-        arith,
-        ap length o.layout,
-        length-append o.front (inner ++ (o.options ++ o.again)),
-        length-append inner (o.options ++ o.again),
-        length-append o.on_wire bytes,
-        length-append o.options o.again,
-        o.fields,
-        o.four,
-        o.long.four,
-      ) in
-      let told : met order interfaces Block o.front ≡ Ok (Passed 24 (Packet o.of.link kept left size)) =
-      front_met order interfaces o.front 6 o.kind (omega (arith, o.fields)) (packet_fields ∙ sym o.fields)
-      ∙ ap (λ j. packet_in 32 24 j (length_in order o.front) (slice_get interfaces (u32_in order (piece o.front 8 4)))) o.kept
-      ∙ ap (λ j. packet_in 32 24 kept j (slice_get interfaces (u32_in order (piece o.front 8 4)))) o.long.in_front
-      ∙ packet_fits kept size (slice_get interfaces (u32_in order (piece o.front 8 4))) o.of o.interface o.few (omega (arith, sum)) o.long.fours in
-      let tail : List ℕ = o.options ++ (o.again ++ rest) in
-      ap (λ (l : List ℕ). packets_from (stands order interfaces Block) n (l ++ rest)) o.layout
-      ∙ ap (packets_from (stands order interfaces Block) n) (append_assoc o.front (inner ++ (o.options ++ o.again)) rest
-      ∙ ap (λ (l : List ℕ). o.front ++ l) (append_assoc inner (o.options ++ o.again) rest ∙ ap (λ (l : List ℕ). inner ++ l) (append_assoc o.options o.again rest)))
-      ∙ alone (stands order interfaces Block) (stands order interfaces (Packet o.of.link kept left size)) n n o.front (inner ++ tail) (Passed 24 (Packet o.of.link kept left size)) []
-      told refl (sym o.fields) refl refl (omega arith)
-      ∙ alone (stands order interfaces (Packet o.of.link kept left size)) (stands order interfaces (Rest left size)) n (n + 1) inner tail (Captured o.of.link kept wire (Rest left size))
-      (record { number = n; link = link; wire = wire; bytes = bytes } ∷ [])
-      (captured o.of.link kept left size wire o.on_wire bytes o.four refl o.wire_is) refl (omega (arith, length-append o.on_wire bytes, o.four)) refl
-      (ap (λ (l : List ℕ). record { number = n; link = o.of.link; wire = wire; bytes = l } ∷ []) (kept_bytes kept o.on_wire bytes o.four refl)
-      ∙ ap (λ x. record { number = n; link = x; wire = wire; bytes = bytes } ∷ []) (sym o.link_is)) refl
-      ∙ ap (prepend (record { number = n; link = link; wire = wire; bytes = bytes } ∷ []))
-      (block_ends order interfaces left size (n + 1) o.options o.again rest (omega (arith, sum)) o.long.four o.long.at_end)
-
 -- a file begins with a section
 section_in_front : (a b : List ℕ) → 24 ≤ length a → section (a ++ b) ≡ section a
 section_in_front a b enough = grind (arith, piece_append)
 
-mark_front : (front rest : List ℕ) → 24 ≤ length front → piece front 0 4 ≡ 0x0A ∷ 0x0D ∷ 0x0D ∷ 0x0A ∷ [] → is_recording (front ++ rest) ≡ true
+pub mark_front : (front rest : List ℕ) → 24 ≤ length front → piece front 0 4 ≡ 0x0A ∷ 0x0D ∷ 0x0D ∷ 0x0A ∷ [] → is_recording (front ++ rest) ≡ true
 unfolding is_recording
 mark_front [] rest enough e = absurd (omega arith)
 mark_front (a ∷ []) rest enough e = absurd (omega arith)
@@ -250,7 +155,7 @@ file_read other block rest o =
     let fields : 24 ≤ length o.front = omega (arith, o.fields) in
     let all : block ++ rest ≡ o.front ++ tail = ap (λ (l : List ℕ). l ++ rest) o.layout ∙ append_assoc o.front (o.options ++ o.again) rest ∙ ap (λ (l : List ℕ). o.front ++ l) (append_assoc o.options o.again rest) in
     let told : begins (o.front ++ tail) ≡ Ok (stands other [] (Rest (size - 28) size)) =
-    begins_whole_file (o.front ++ tail) enough (mark_front o.front tail fields o.mark)
+    begins_whole_file (o.front ++ tail) enough (mark_front o.front tail fields o.mark_is)
     ∙ ap begun (section_in_front o.front tail fields ∙ section_is other o.front size (order_by (piece o.front 8 4)) o.order_is o.version o.long.in_front (omega (arith, sum)) o.long.fours) in
     ap recorded all
     ∙ ap (λ x. behind_header x (o.front ++ tail)) told

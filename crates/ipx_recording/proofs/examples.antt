@@ -2,4 +2,5 @@
 pub mod Blocks
 pub mod Carriers
 pub mod Faults
+pub mod Grammar
 pub mod Words

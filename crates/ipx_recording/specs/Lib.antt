@@ -3,6 +3,8 @@ pub mod Met
 pub mod Recorded
 pub mod Steps
 pub mod Blocks
+pub mod Chain
+pub mod Differs
 pub mod Further
 -- packets behind link headers
 pub mod Carried

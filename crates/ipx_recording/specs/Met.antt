@@ -34,6 +34,42 @@ packet_kind = 6
 abbrev pub most_interfaces : ℕ
 most_interfaces = 256
 
+-- how many bytes of fields a block has, by its kind: they stand in front of options, of a packet's length on the wire, or of what nobody reads
+abbrev pub section_front : ℕ
+section_front = 24
+
+abbrev pub interface_front : ℕ
+interface_front = 16
+
+abbrev pub packet_front : ℕ
+packet_front = 24
+
+abbrev pub simple_front : ℕ
+simple_front = 8
+
+abbrev pub other_front : ℕ
+other_front = 8
+
+-- a block's length has four bytes, and so has a packet's on the wire
+abbrev pub length_size : ℕ
+length_size = 4
+
+-- how many bytes a block has at least: its fields and its length again, and for a packet its length on the wire; the packet's own bytes come on top
+abbrev pub section_least : ℕ
+section_least = 28
+
+abbrev pub interface_least : ℕ
+interface_least = 20
+
+abbrev pub packet_least : ℕ
+packet_least = 32
+
+abbrev pub simple_least : ℕ
+simple_least = 16
+
+abbrev pub other_least : ℕ
+other_least = 12
+
 -- kind and length, as a block begins
 abbrev pub kind_in : Order → List ℕ → ℕ
 kind_in order bytes = u32_in order (piece bytes 0 4)
@@ -44,12 +80,12 @@ length_in order bytes = u32_in order (piece bytes 4 4)
 -- how many bytes of a block say what it has
 unfoldable pub fields_of : ℕ → ℕ
 fields_of kind =
-    if kind == section_kind then 24
-    else if kind == interface_kind then 16
-    else if kind == simple_packet_kind then 12
-    else if kind == packet_kind then 24
-    else if kind == old_packet_kind then 24
-    else 8
+    if kind == section_kind then section_front
+    else if kind == interface_kind then interface_front
+    else if kind == simple_packet_kind then simple_front + length_size
+    else if kind == packet_kind then packet_front
+    else if kind == old_packet_kind then packet_front
+    else other_front
 
 -- a block's length is a multiple of four, and holds at least this much
 abbrev pub is_length : ℕ → ℕ → Bool
@@ -67,8 +103,8 @@ abbrev pub section_in : Option Order → List ℕ → Result Met RecordingFault
 section_in None front = Err Magic
 section_in (Some order) front =
     if not (u16_in order (piece front 12 2) == 1) then Err Version
-    else if not (is_length 28 (length_in order front)) then Err BlockLength
-    else Ok (Section order (Rest (length_in order front - 28) (length_in order front)))
+    else if not (is_length section_least (length_in order front)) then Err BlockLength
+    else Ok (Section order (Rest (length_in order front - section_least) (length_in order front)))
 
 abbrev pub section : List ℕ → Result Met RecordingFault
 section front = section_in (order_by (piece front 8 4)) front
@@ -76,9 +112,9 @@ section front = section_in (order_by (piece front 8 4)) front
 -- an interface: kind 4, length 4, link type 2, nothing 2, most bytes kept of a packet 4 (0 is no limit); then options
 abbrev pub interface_in : Order → List Interface → List ℕ → Result Met RecordingFault
 interface_in order interfaces front =
-    if not (is_length 20 (length_in order front)) then Err BlockLength
+    if not (is_length interface_least (length_in order front)) then Err BlockLength
     else if nat_le most_interfaces (length interfaces) then Err ManyInterfaces
-    else Ok (Described (record { link = u16_in order (piece front 8 2); most = u32_in order (piece front 12 4) }) (Rest (length_in order front - 20) (length_in order front)))
+    else Ok (Described (record { link = u16_in order (piece front 8 2); most = u32_in order (piece front 12 4) }) (Rest (length_in order front - interface_least) (length_in order front)))
 
 -- the packet of a block of this length, of which `around` bytes aren't the packet's; it begins `size` bytes from the block's first, with how long it was on the wire
 abbrev pub packet_in : (around size kept n : ℕ) → Option Interface → Result Met RecordingFault
@@ -95,11 +131,11 @@ kept_by most wire = if most == 0 then wire else min most wire
 -- a simple packet: kind 4, length 4, on the wire 4, and the packet, which is of the first interface
 abbrev pub simple_in : Order → Option Interface → List ℕ → Result Met RecordingFault
 simple_in order None front = Err NoInterface
-simple_in order (Some i) front = packet_in 16 8 (kept_by i.most (u32_in order (piece front 8 4))) (length_in order front) (Some i)
+simple_in order (Some i) front = packet_in simple_least simple_front (kept_by i.most (u32_in order (piece front 8 4))) (length_in order front) (Some i)
 
 -- a block that shows nothing
 abbrev pub skipped : ℕ → Result Met RecordingFault
-skipped n = if not (is_length 12 n) then Err BlockLength else Ok (Passed 8 (Rest (n - 12) n))
+skipped n = if not (is_length other_least n) then Err BlockLength else Ok (Passed other_front (Rest (n - other_least) n))
 
 -- an enhanced packet: kind 4, length 4, interface 4, time 8, kept 4, on the wire 4, the packet; then options.
 -- The old form has 2 bytes for the interface and 2 for packets lost
@@ -109,24 +145,24 @@ block_in order interfaces front =
     else if kind_in order front == interface_kind then interface_in order interfaces front
     else if kind_in order front == simple_packet_kind then simple_in order (slice_get interfaces 0) front
     else if kind_in order front == packet_kind then
-    packet_in 32 24 (u32_in order (piece front 20 4)) (length_in order front) (slice_get interfaces (u32_in order (piece front 8 4)))
+    packet_in packet_least packet_front (u32_in order (piece front 20 4)) (length_in order front) (slice_get interfaces (u32_in order (piece front 8 4)))
     else if kind_in order front == old_packet_kind then
-    packet_in 32 24 (u32_in order (piece front 20 4)) (length_in order front) (slice_get interfaces (u16_in order (piece front 8 2)))
+    packet_in packet_least packet_front (u32_in order (piece front 20 4)) (length_in order front) (slice_get interfaces (u16_in order (piece front 8 2)))
     else skipped (length_in order front)
 
 -- a block begins: its fields, once they are there
 abbrev pub begins_block : Order → List Interface → List ℕ → Result Met RecordingFault
 begins_block order interfaces bytes =
-    if nat_lt (length bytes) 8 then Ok (Wants 8)
+    if nat_lt (length bytes) other_front then Ok (Wants other_front)
     else if nat_lt (length bytes) (fields_of (kind_in order bytes)) then Ok (Wants (fields_of (kind_in order bytes)))
     else block_in order interfaces (take (fields_of (kind_in order bytes)) bytes)
 
 -- at its end a block has its length again
 abbrev pub length_again : Order → ℕ → List ℕ → Result Met RecordingFault
 length_again order n bytes =
-    if nat_lt (length bytes) 4 then Ok (Wants 4)
+    if nat_lt (length bytes) length_size then Ok (Wants length_size)
     else if not (u32_in order (piece bytes 0 4) == n) then Err LengthAgain
-    else Ok (Passed 4 Block)
+    else Ok (Passed length_size Block)
 
 -- what is left of a block is skipped, as far as it is there; then comes its length again
 abbrev pub ends_block : Order → ℕ → ℕ → List ℕ → Result Met RecordingFault
@@ -138,7 +174,7 @@ ends_block order left n bytes =
 -- a packet, once its bytes are there, behind how many it had on the wire
 abbrev pub packet_at : Order → List ℕ → (link kept : ℕ) → Due → Met
 packet_at order bytes link kept rest =
-    if nat_lt (length bytes) (4 + kept) then Wants (4 + kept) else Captured link kept (u32_in order (piece bytes 0 4)) rest
+    if nat_lt (length bytes) (length_size + kept) then Wants (length_size + kept) else Captured link kept (u32_in order (piece bytes 0 4)) rest
 
 -- what stands at the front of the bytes
 unfoldable pub met : Order → List Interface → Due → List ℕ → Result Met RecordingFault

@@ -4,7 +4,7 @@ use Rattle.ipx_wire.specs.Piece.{piece}
 use Rattle.ipx_capture.specs.Frame.{begins as begins_with}
 use Rattle.ipx_capture.specs.declared.order.Order.{Order}
 use Rattle.ipx_capture.specs.declared.order.Order.TheVariants.{Big}
-use Rattle.ipx_recording.specs.Met.{met, section}
+use Rattle.ipx_recording.specs.Met.{met, section, section_front, interface_front, length_size}
 use Rattle.ipx_recording.specs.declared.due.Due.{Due}
 use Rattle.ipx_recording.specs.declared.due.Due.TheVariants.{Block, Packet, Rest}
 use Rattle.ipx_recording.specs.declared.interface.Interface.{Interface}
@@ -43,9 +43,9 @@ is_wanting (Section order due) = false
 abbrev pub size_of : Met → ℕ
 size_of (Wants n) = 0
 size_of (Passed n due) = n
-size_of (Captured link kept wire due) = 4 + kept
-size_of (Described i due) = 16
-size_of (Section order due) = 24
+size_of (Captured link kept wire due) = length_size + kept
+size_of (Described i due) = interface_front
+size_of (Section order due) = section_front
 
 -- what comes next: a section forgets the interfaces of the one before
 abbrev pub after : State → Met → State
@@ -59,7 +59,7 @@ after s (Section order due) = record { order = order; interfaces = []; due = due
 abbrev pub packets : ℕ → List ℕ → Met → List Recorded
 packets n bytes (Wants k) = []
 packets n bytes (Passed k due) = []
-packets n bytes (Captured link kept wire due) = record { number = n; link = link; wire = wire; bytes = piece bytes 4 kept } ∷ []
+packets n bytes (Captured link kept wire due) = record { number = n; link = link; wire = wire; bytes = piece bytes length_size kept } ∷ []
 packets n bytes (Described i due) = []
 packets n bytes (Section order due) = []
 
@@ -96,7 +96,7 @@ is_recording bytes = begins_with (0x0A ∷ 0x0D ∷ 0x0D ∷ 0x0A ∷ []) bytes
 
 -- how many bytes say what the first section is
 abbrev pub header_size : ℕ
-header_size = 24
+header_size = section_front
 
 -- where a file stands behind its first section's fields, or the fault of these
 abbrev pub begun : Result Met RecordingFault → Result State RecordingFault

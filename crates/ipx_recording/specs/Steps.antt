@@ -1,7 +1,7 @@
 -- What a call of `step` does.
 use Rattle.std.specs.Prelude.{◌≡◌, ℕ, ◌+◌, ◌<◌, ◌≤◌, List, length, Ok, Err}
 use Rattle.ipx_capture.specs.Records.{most_kept}
-use Rattle.ipx_recording.specs.Met.{met, most_interfaces}
+use Rattle.ipx_recording.specs.Met.{met, most_interfaces, section_front, interface_front, length_size}
 use Rattle.ipx_recording.specs.Recorded.{State, after}
 use Rattle.ipx_recording.specs.declared.due.Due.{Due}
 use Rattle.ipx_recording.specs.declared.due.Due.TheVariants.{Block, Packet, Rest}
@@ -17,8 +17,8 @@ abbrev pub step_of : Met → Step
 step_of (part.Wants n) = step.Wants n
 step_of (part.Passed n due) = step.Passed n
 step_of (part.Captured link kept wire due) = step.Packet (record { link = link; size = kept; wire = wire })
-step_of (part.Described i due) = step.Passed 16
-step_of (part.Section order due) = step.Passed 24
+step_of (part.Described i due) = step.Passed interface_front
+step_of (part.Section order due) = step.Passed section_front
 
 -- the part at the front of the bytes was taken
 pub record Stepped (old new : State) (bytes : List ℕ) (answer : Step) : Type 0 where
@@ -40,7 +40,7 @@ IsDue (Rest left n) = Unit {0}
 
 -- what is met of a section with these interfaces
 abbrev pub Fits : List Interface → Met → Type 0
-Fits interfaces (part.Wants n) = n ≤ 4 + most_kept
+Fits interfaces (part.Wants n) = n ≤ length_size + most_kept
 Fits interfaces (part.Passed n due) = IsDue due
 Fits interfaces (part.Captured link kept wire due) = IsDue due
 Fits interfaces (part.Described i due) = (length interfaces < most_interfaces) × IsDue due
@@ -48,7 +48,7 @@ Fits interfaces (part.Section order due) = IsDue due
 
 -- so few bytes are ever needed
 abbrev pub IsFew : Step → Type 0
-IsFew (step.Wants n) = n ≤ 4 + most_kept
+IsFew (step.Wants n) = n ≤ length_size + most_kept
 IsFew (step.Passed n) = Unit {0}
 IsFew (step.Packet p) = Unit {0}
 
@@ -56,4 +56,4 @@ IsFew (step.Packet p) = Unit {0}
 abbrev pub IsWithin : List ℕ → Step → Type 0
 IsWithin bytes (step.Wants n) = length bytes < n
 IsWithin bytes (step.Passed n) = (1 ≤ n) × (n ≤ length bytes)
-IsWithin bytes (step.Packet p) = 4 + p.size ≤ length bytes
+IsWithin bytes (step.Packet p) = length_size + p.size ≤ length bytes

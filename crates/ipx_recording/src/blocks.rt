@@ -33,6 +33,39 @@ const ORDER: u32 = 0x1A2B_3C4D;
 /// How many bytes a packet keeps at most.
 const LONGEST: u32 = 262_144;
 
+/// How many bytes a section's header has in front of its options.
+pub(crate) const SECTION_FRONT: usize = 24;
+
+/// How many bytes an interface has in front of its options.
+pub(crate) const INTERFACE_FRONT: usize = 16;
+
+/// How many bytes stand in front of a packet's length on the wire, in the old form too.
+const PACKET_FRONT: usize = 24;
+
+/// How many bytes stand in front of a simple packet's length on the wire.
+const SIMPLE_FRONT: usize = 8;
+
+/// How many bytes of any other block are read.
+const OTHER_FRONT: usize = 8;
+
+/// How many bytes a length has.
+const LENGTH_SIZE: usize = 4;
+
+/// How many bytes a section's header has at least.
+const SECTION_LEAST: u32 = 28;
+
+/// How many bytes an interface has at least.
+const INTERFACE_LEAST: u32 = 20;
+
+/// How many bytes a packet's block has at least beside the packet.
+const PACKET_LEAST: u32 = 32;
+
+/// How many bytes a simple packet's block has at least beside the packet.
+const SIMPLE_LEAST: u32 = 16;
+
+/// How many bytes any other block has at least.
+const OTHER_LEAST: u32 = 12;
+
 /// How many interfaces a section has at most.
 pub(crate) const MOST_INTERFACES: usize = 256;
 
@@ -64,7 +97,7 @@ fn take_packet(order: Order, bytes: &[u8], link: u16, kept: u32, rest: Due) -> M
     ensures value { result ≡ spec.packet_at order bytes.now link kept rest }
     ensures fits { (i : List Interface) → Fits i result }
 {
-    let need = 4 + kept as usize;
+    let need = LENGTH_SIZE + kept as usize;
     if bytes.len() < need {
         return Met::Wants(need);
     }
@@ -76,8 +109,8 @@ fn begin_block(order: Order, interfaces: &[Interface], bytes: &[u8]) -> Result<M
     ensures value { result ≡ spec.begins_block order interfaces.now bytes.now }
     ensures fits { IfOk result (Fits interfaces.now) }
 {
-    if bytes.len() < 8 {
-        return Ok(Met::Wants(8));
+    if bytes.len() < OTHER_FRONT {
+        return Ok(Met::Wants(OTHER_FRONT));
     }
     let need = fields(order.u32_at(bytes, 0));
     if bytes.len() < need {
@@ -91,23 +124,22 @@ fn begin_block(order: Order, interfaces: &[Interface], bytes: &[u8]) -> Result<M
 #[tactic(auto, unfolding(crate::specs::Met::fields_of))]
 fn fields(kind: u32) -> usize
     ensures value { result ≡ fields_of kind }
-    ensures least { 8 ≤ result }
-    ensures most { result ≤ 24 }
+    ensures least { spec.other_front ≤ result }
+    ensures most { result ≤ spec.section_front }
 {
     match kind {
-        SECTION => 24,
-        INTERFACE => 16,
-        SIMPLE_PACKET => 12,
-        PACKET => 24,
-        OLD_PACKET => 24,
-        _ => 8,
+        SECTION => SECTION_FRONT,
+        INTERFACE => INTERFACE_FRONT,
+        SIMPLE_PACKET => SIMPLE_FRONT + LENGTH_SIZE,
+        PACKET | OLD_PACKET => PACKET_FRONT,
+        _ => OTHER_FRONT,
     }
 }
 
 /// A block by its fields.
 #[tactic(auto, unfolding(crate::specs::Met::block_in, crate::specs::Met::fields_of))]
 fn read_block(order: Order, interfaces: &[Interface], front: &[u8]) -> Result<Met, RecordingFault>
-    requires some { 8 ≤ length front.now }
+    requires some { spec.other_front ≤ length front.now }
     requires whole { fields_of (kind_in order front.now) ≤ length front.now }
     ensures value { result ≡ spec.block_in order interfaces.now front.now }
     ensures fits { IfOk result (Fits interfaces.now) }
@@ -126,19 +158,31 @@ fn read_block(order: Order, interfaces: &[Interface], front: &[u8]) -> Result<Me
     if kind == PACKET {
         let number = order.u32_at(front, 8) as usize;
         let interface = interfaces.get(number).copied();
-        return read_packet(32, 24, order.u32_at(front, 20), length, interface);
+        return read_packet(
+            PACKET_LEAST,
+            PACKET_FRONT,
+            order.u32_at(front, 20),
+            length,
+            interface,
+        );
     }
     if kind == OLD_PACKET {
         let number = usize::from(order.u16_at(front, 8));
         let interface = interfaces.get(number).copied();
-        return read_packet(32, 24, order.u32_at(front, 20), length, interface);
+        return read_packet(
+            PACKET_LEAST,
+            PACKET_FRONT,
+            order.u32_at(front, 20),
+            length,
+            interface,
+        );
     }
     skip_block(length)
 }
 
 /// The header of a section.
 pub(crate) fn read_section(front: &[u8]) -> Result<Met, RecordingFault>
-    requires { 24 ≤ length front.now }
+    requires { spec.section_front ≤ length front.now }
     ensures value { result ≡ spec.section front.now }
     ensures fits { IfOk result (λ m. (i : List Interface) → Fits i m) }
 {
@@ -149,15 +193,15 @@ pub(crate) fn read_section(front: &[u8]) -> Result<Met, RecordingFault>
         return Err(RecordingFault::Version);
     }
     let length = order.u32_at(front, 4);
-    if !is_length(28, length) {
+    if !is_length(SECTION_LEAST, length) {
         return Err(RecordingFault::BlockLength);
     }
-    Ok(Met::Section(order, Due::Rest(length - 28, length)))
+    Ok(Met::Section(order, Due::Rest(length - SECTION_LEAST, length)))
 }
 
 /// The byte order in which the third number of a section is what it must be.
 fn order_by(front: &[u8]) -> Option<Order>
-    requires { 24 ≤ length front.now }
+    requires { spec.section_front ≤ length front.now }
     ensures { result ≡ spec.order_by (piece front.now 8 4) }
 {
     if Order::Big.u32_at(front, 8) == ORDER {
@@ -182,12 +226,12 @@ fn read_interface(
     interfaces: &[Interface],
     front: &[u8],
 ) -> Result<Met, RecordingFault>
-    requires { 16 ≤ length front.now }
+    requires { spec.interface_front ≤ length front.now }
     ensures value { result ≡ spec.interface_in order interfaces.now front.now }
     ensures fits { IfOk result (Fits interfaces.now) }
 {
     let length = order.u32_at(front, 4);
-    if !is_length(20, length) {
+    if !is_length(INTERFACE_LEAST, length) {
         return Err(RecordingFault::BlockLength);
     }
     if interfaces.len() >= MOST_INTERFACES {
@@ -197,12 +241,12 @@ fn read_interface(
         link: order.u16_at(front, 8),
         most: order.u32_at(front, 12),
     };
-    Ok(Met::Described(interface, Due::Rest(length - 20, length)))
+    Ok(Met::Described(interface, Due::Rest(length - INTERFACE_LEAST, length)))
 }
 
 /// A packet of the first interface, without a time.
 fn read_simple(order: Order, interfaces: &[Interface], front: &[u8]) -> Result<Met, RecordingFault>
-    requires { 12 ≤ length front.now }
+    requires { spec.simple_front + spec.length_size ≤ length front.now }
     ensures value { result ≡ spec.simple_in order (slice_get interfaces.now 0) front.now }
     ensures fits { IfOk result (Fits interfaces.now) }
 {
@@ -210,7 +254,13 @@ fn read_simple(order: Order, interfaces: &[Interface], front: &[u8]) -> Result<M
         return Err(RecordingFault::NoInterface);
     };
     let kept = kept_by(interface.most, order.u32_at(front, 8));
-    read_packet(16, 8, kept, order.u32_at(front, 4), Some(interface))
+    read_packet(
+        SIMPLE_LEAST,
+        SIMPLE_FRONT,
+        kept,
+        order.u32_at(front, 4),
+        Some(interface),
+    )
 }
 
 /// How many bytes of a packet are kept, where so many are kept at most.
@@ -228,7 +278,7 @@ fn read_packet(
     length: u32,
     interface: Option<Interface>,
 ) -> Result<Met, RecordingFault>
-    requires { around ≤ 32 }
+    requires { around ≤ spec.packet_least }
     ensures value { result ≡ spec.packet_in around size kept length interface }
     ensures fits { IfOk result (λ m. (i : List Interface) → Fits i m) }
 {
@@ -252,10 +302,10 @@ fn skip_block(length: u32) -> Result<Met, RecordingFault>
     ensures value { result ≡ spec.skipped length }
     ensures fits { IfOk result (λ m. (i : List Interface) → Fits i m) }
 {
-    if !is_length(12, length) {
+    if !is_length(OTHER_LEAST, length) {
         return Err(RecordingFault::BlockLength);
     }
-    Ok(Met::Passed(8, Due::Rest(length - 12, length)))
+    Ok(Met::Passed(OTHER_FRONT, Due::Rest(length - OTHER_LEAST, length)))
 }
 
 /// What is left of a block, and its length again.
@@ -278,11 +328,11 @@ fn compare_length(order: Order, length: u32, bytes: &[u8]) -> Result<Met, Record
     ensures value { result ≡ spec.length_again order length bytes.now }
     ensures fits { IfOk result (λ m. (i : List Interface) → Fits i m) }
 {
-    if bytes.len() < 4 {
-        return Ok(Met::Wants(4));
+    if bytes.len() < LENGTH_SIZE {
+        return Ok(Met::Wants(LENGTH_SIZE));
     }
     if order.u32_at(bytes, 0) != length {
         return Err(RecordingFault::LengthAgain);
     }
-    Ok(Met::Passed(4, Due::Block))
+    Ok(Met::Passed(LENGTH_SIZE, Due::Block))
 }

@@ -6,7 +6,8 @@
 //!   blocks by their length. It reads no file, keeps no bytes and takes no memory.
 //! - `carried` finds the IPX bytes of a packet by the link type of its interface: Ethernet with up to two tags of 802.1Q, PPP, IP, and what
 //!   Linux records of all its interfaces; in frames, behind the protocol number of PPP, and in datagrams of UDP.
-//! - The laws say that the pieces in which the bytes come make no difference, what further bytes change, and as what whole blocks are read.
+//! - The laws say that the pieces in which the bytes come make no difference, what further bytes change, as what whole blocks are read, which
+//!   files are accepted, and where any other is refused.
 //!
 //! It looks at no time and at no option.
 #![tactic(auto)]

@@ -2,7 +2,7 @@
 ghost use Rattle.std.specs.Prelude.{◌≡◌, ◌≤◌, IfOk, IfErr, length};
 ghost use Rattle.ipx_recording.specs.Recorded as spec;
 
-use crate::blocks::{MOST_INTERFACES, look, read_section};
+use crate::blocks::{INTERFACE_FRONT, MOST_INTERFACES, SECTION_FRONT, look, read_section};
 use crate::due::Due;
 use crate::interface::Interface;
 use crate::met::Met;
@@ -165,13 +165,13 @@ impl Recording {
             Met::Described(interface, due) => {
                 self.interfaces.push(interface);
                 self.due = due;
-                Step::Passed(16)
+                Step::Passed(INTERFACE_FRONT)
             }
             Met::Section(order, due) => {
                 self.order = order;
                 self.interfaces.clear();
                 self.due = due;
-                Step::Passed(24)
+                Step::Passed(SECTION_FRONT)
             }
         }
     }

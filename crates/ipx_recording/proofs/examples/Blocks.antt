@@ -3,7 +3,7 @@ use Rattle.std.proofs.Common.{◌≡◌, ℕ, List, [], ◌∷◌, ◌++◌, ref
 use Rattle.ipx_capture.proofs.examples.Words.{typed, zeros}
 use Rattle.ipx_recording.specs.Met.{met, block_in, fields_of}
 use Rattle.ipx_recording.specs.Recorded.{recorded, begins, is_recording, packets_from}
-use Rattle.ipx_recording.proofs.examples.Words.{little_section, little_interface, little_packet, unknown, packet}
+use Rattle.ipx_recording.proofs.examples.Words.{little_section, little_interface, little_packet, old_packet, unknown, packet}
 
 -- a section, an interface and a packet
 pub one : recorded (little_section ++ little_interface 1 ++ little_packet 0) ≡ record { records = packet 1 1 ∷ []; fault = None }
@@ -42,3 +42,8 @@ pub simple : recorded (little_section ++ little_interface 1 ++ (3 ∷ 0 ∷ 0 �
     ≡ record { records = packet 1 1 ∷ []; fault = None }
 unfolding begins is_recording packets_from met block_in fields_of
 simple = refl
+
+-- a packet in the old form
+pub old_form : recorded (little_section ++ little_interface 1 ++ old_packet) ≡ record { records = packet 1 1 ∷ []; fault = None }
+unfolding begins is_recording packets_from met block_in fields_of
+old_form = refl

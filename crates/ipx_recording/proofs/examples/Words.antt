@@ -23,6 +23,16 @@ packet_fields number = 6 ∷ 0 ∷ 0 ∷ 0 ∷ 88 ∷ 0 ∷ 0 ∷ 0 ∷ [] ++ (n
 abbrev pub little_packet : ℕ → List ℕ
 little_packet number = packet_fields number ++ typed ++ (0 ∷ 0 ∷ []) ++ (88 ∷ 0 ∷ 0 ∷ 0 ∷ [])
 
+-- the same in the old form, after seven packets that were lost
+abbrev pub old_packet : List ℕ
+old_packet =
+    2 ∷ 0 ∷ 0 ∷ 0 ∷ 88 ∷ 0 ∷ 0 ∷ 0 ∷ [] ++ (0 ∷ 0 ∷ 7 ∷ 0 ∷ []) ++ zeros ++ zeros ++ (54 ∷ 0 ∷ 0 ∷ 0 ∷ []) ++ (54 ∷ 0 ∷ 0 ∷ 0 ∷ []) ++ typed ++ (0 ∷ 0 ∷ [])
+    ++ (88 ∷ 0 ∷ 0 ∷ 0 ∷ [])
+
+-- a simple packet of 60 bytes on the wire, where 54 are kept
+abbrev pub simple_packet : List ℕ
+simple_packet = 3 ∷ 0 ∷ 0 ∷ 0 ∷ 72 ∷ 0 ∷ 0 ∷ 0 ∷ [] ++ (60 ∷ 0 ∷ 0 ∷ 0 ∷ []) ++ typed ++ (0 ∷ 0 ∷ []) ++ (72 ∷ 0 ∷ 0 ∷ 0 ∷ [])
+
 -- a block of 16 bytes that nobody knows
 abbrev pub unknown : List ℕ
 unknown = 99 ∷ 0 ∷ 0 ∷ 0 ∷ 16 ∷ 0 ∷ 0 ∷ 0 ∷ [] ++ zeros ++ (16 ∷ 0 ∷ 0 ∷ 0 ∷ [])

@@ -1,4 +1,5 @@
-use Rattle.ipx_recording.proofs.Whole.{file_read, section_read, interface_read, packet_read, other_read}
+use Rattle.ipx_recording.proofs.Packets.{packet_read}
+use Rattle.ipx_recording.proofs.Whole.{file_read, section_read, interface_read, other_read}
 use Rattle.ipx_recording.proofs.laws.blocks.Goals as goal
 
 pub returns-clause-file : goal.returns-clause-file
