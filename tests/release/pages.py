@@ -1,4 +1,5 @@
-"""What is read of a release: its numbers, the manual pages, the pages of the crates, links, and the words that shells complete."""
+"""What is read of a release: its numbers, the manual pages, the pages of the crates, links, programs that a page shows, and the words that
+shells complete."""
 import glob
 import os
 import posixpath
@@ -97,6 +98,25 @@ def broken_links(folder):
 
 def try_links():
     tell("every link of the documents leads to a file", "".join(broken_links(TOP)))
+
+
+# ---- Programs ----
+
+
+def shown_programs():
+    """What EMBED.md shows whole and a test builds or runs: each with its text, without the comment at its beginning."""
+    of_readme = "".join(re.findall(r"(?ms)^```c\n(.*?)^```$", text_of("README.md")))
+    in_c = text_of("tests/embed/readme.c").replace('#include "readme.inc"\n', of_readme)
+    yield "the lines of README.md in C", in_c[in_c.index("#include") :]
+    yield "the server in JavaScript", text_of("packages/javascript/examples/server.mjs")
+
+
+def try_shown():
+    """A program that is copied from the page is the one that a test builds or runs."""
+    page = "\n".join(it.strip() for it in text_of("docs/EMBED.md").splitlines())
+    for what, text in shown_programs():
+        wanted = "\n".join(it.strip() for it in text.splitlines())
+        tell(f"EMBED.md shows {what} as a whole program", "" if f"\n{wanted}\n" in page else "    it has other lines")
 
 
 # ---- Completions ----
