@@ -188,7 +188,7 @@ typedef struct ipxr_setting {
     uint8_t kind;              /* one of IPXR_SETTING_.. */
     uint8_t bits;              /* see IPXR_EXPECTED_FIRST */
     ipxr_setting_network network;
-    ipxr_setting_link link;       /* of a network's line, or of a link's; of a line `peer` its `remote` and `host` alone */
+    ipxr_setting_link link;       /* of a network's line, or of a link's, and of a line `peer` its `remote` and `host` alone */
     uint32_t numbers[3];       /* what other lines say */
     ipxr_rule rule;            /* what a rule says, where all its words were read, and else all bytes 0, */
     ipxr_static_route route;   /* what a line `route` says, alike, */

@@ -72,7 +72,7 @@ ALTERED = (
     (EDGE, "_RULES 64", "_RULES 63"),
     (EDGE, "uint16_t hops, const uint8_t *bytes", "uint32_t hops, const uint8_t *bytes"),
     (FATES, "uint16_t number; /*", "uint8_t number; /*"),
-    (FATES, "uint64_t lost[28];", "uint64_t lost[27];"),
+    (FATES, "uint64_t lost[31];", "uint64_t lost[30];"),
     (FATES, "ipxr_counts *counts, uint8_t why", "ipxr_counts *counts, uint16_t why"),
     (PEERS, "uint64_t slots[256]", "uint64_t slots[255]"),
     (PEERS, "uint8_t echo[16];", "uint8_t other[16];"),
