@@ -242,14 +242,14 @@ static void hear_all(gateway *it, cable *carrier, arrivals *in)
     gateway_flush(it);
 }
 
-/* The next that came on a cable, sent on. Returns how many: frames, datagrams, or a complaint that nobody hears; 0 where there is none. */
+/* The next that came on a cable, sent on. Returns how many: frames, datagrams, or one where nobody hears what came; 0 where there is none. */
 static size_t receive_next(gateway *it, cable *carrier)
 {
     arrivals *in = &it->arrivals;
     if (cable_receive(carrier, in)) {
         limits_look_at_clock(); /* (in a turn more may come than a limit lets pass at once) */
         hear_all(it, carrier, in);
-        return in->count;
+        return in->count > 0 ? in->count : 1;
     }
     if (carrier->set->type == LINK_QEMU_UDP && errno == ECONNREFUSED) {
         gateway_lose(first_on(it, carrier), NOBODY_THERE);

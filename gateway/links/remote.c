@@ -5,9 +5,10 @@
 
 #include "systems/clock.h"
 
-/* Milliseconds from one question for a name to the next; and questions that may be under way: one for each link, and as many that a reload
- * has left to their threads. (where nobody answers each has a thread and a file for long, and reloads would use up both) */
-enum { MINUTE = 60000, MOST_UNDER_WAY = 2 * MOST_LINKS };
+/* Milliseconds from the answer to one question for a name to the next question. And questions that may be under way: of a link that names several
+ * machines; and of all links, and as many as one for each that a reload has left to their threads. So a link whose names nobody knows keeps no other
+ * one waiting. (where nobody answers each has a thread and a file for long, and reloads would use up both) */
+enum { MINUTE = 60000, MOST_OF_LINK = 8, MOST_UNDER_WAY = (MOST_OF_LINK + 1) * MOST_LINKS };
 
 const char REMOTE_UNKNOWN[] = "no address of that name is known yet";
 
@@ -65,7 +66,7 @@ static wanted wanted_by(const network_setting *set)
 
 far_end far_end_of(const network_setting *set)
 {
-    return (far_end){has_name(set) ? set->host : "", set->remote, wanted_by(set)};
+    return (far_end){has_name(set) ? set->host : "", set->remote, wanted_by(set), NULL};
 }
 
 /* The question for a name, that is under way; or NULL. */
@@ -82,26 +83,37 @@ static question *begin(const far_end *of)
     return NULL;
 }
 
+/* From now on a question is under way, or is no more. */
+static void put(remote *it, question *made, size_t *asking)
+{
+    if (it->asking != NULL)
+        --*it->asking;
+    if (asking != NULL)
+        ++*asking;
+    it->question = made;
+    it->asking = asking;
+    it->asked = clock_now();
+}
+
 /* (where there is no memory, no thread or no place it is asked again with the next look) */
 static void ask(remote *it, const far_end *of)
 {
-    if (!takes_place())
+    if ((of->asking != NULL && *of->asking >= MOST_OF_LINK) || !takes_place())
         return;
     question *made = begin(of);
     if (made == NULL) {
         give_place();
         return;
     }
-    it->question = made;
-    it->asked = clock_now();
+    put(it, made, of->asking);
 }
 
 void remote_end(remote *it)
 {
     question *left = it->question;
-    it->question = NULL;
     if (left == NULL)
         return;
+    put(it, NULL, NULL);
     resolver_lock();
     left->is_left = true;
     bool is_answered = left->is_answered;

@@ -16,7 +16,8 @@ struct question;
 typedef struct far_end {
     const char *host; /* its name, or "": then it is the address, */
     address at;       /* whose port it has in any case; */
-    wanted which;     /* and which of the name's addresses may be used */
+    wanted which;     /* which of the name's addresses may be used; */
+    size_t *asking;   /* and how many names of its link are asked for now, where that may name several; else NULL */
 } far_end;
 
 typedef struct remote {
@@ -25,7 +26,8 @@ typedef struct remote {
     answers found;             /* all addresses of the name, */
     size_t turn;               /* and which of them that is */
     struct question *question; /* that is under way, or NULL */
-    uint64_t asked;            /* milliseconds of the clock when one was last asked, or 0 */
+    size_t *asking;            /* what counts it then, or NULL, */
+    uint64_t asked;            /* and milliseconds of the clock when one was last asked, or answered, or 0 */
 } remote;
 
 /* What a link lacks whose other end isn't known. */

@@ -16,16 +16,16 @@ enum { MOST_FRAMED = IPXR_LONGEST_FRAME - 2 * NODE - 2 };
 
 /* ---- Peers ---- */
 
-static far_end far_end_of_peer(const rfc1234_peer *who)
+static far_end far_end_of_peer(rfc1234 *it, const rfc1234_peer *who)
 {
-    return (far_end){who->host, who->at, ADDRESS_OF_IPV4};
+    return (far_end){who->host, who->at, ADDRESS_OF_IPV4, &it->asking};
 }
 
-static void begin(rfc1234_peer *who, const peer_setting *line)
+static void begin(rfc1234 *it, rfc1234_peer *who, const peer_setting *line)
 {
     *who = (rfc1234_peer){.at = line->at};
     strcpy(who->host, line->host);
-    far_end of = far_end_of_peer(who);
+    far_end of = far_end_of_peer(it, who);
     remote_begin(&who->remote, &of);
 }
 
@@ -50,7 +50,7 @@ void rfc1234_follow(rfc1234 *it, const network_setting *set)
     it->set = set;
     for (it->count = 0; it->count < set->peer_count; it->count++)
         if (!takes_old(&it->peers[it->count], before, &count, &set->peers[it->count]))
-            begin(&it->peers[it->count], &set->peers[it->count]);
+            begin(it, &it->peers[it->count], &set->peers[it->count]);
     while (count > 0)
         remote_end(&before[--count].remote);
 }
@@ -73,7 +73,7 @@ void rfc1234_close(rfc1234 *it)
 void rfc1234_look(rfc1234 *it)
 {
     for (rfc1234_peer *who = it->peers; who < it->peers + it->count; who++) {
-        far_end of = far_end_of_peer(who);
+        far_end of = far_end_of_peer(it, who);
         (void)remote_look(&who->remote, &of, clock_now() - who->heard >= SILENT);
     }
 }
@@ -152,22 +152,34 @@ static bool has_node(const rfc1234_peer *who, const uint8_t *node)
     return same_node(node, own);
 }
 
-/* Sends a packet to one. Returns whether it is on its way. */
-static bool goes_to(const rfc1234_peer *who, int fd, const uint8_t *packet)
+/* Sends a packet to some at once. Returns whether it is on its way to any. (one for whom the system refuses it keeps it from nobody else) */
+static bool goes_to_all(int fd, const departure *list, size_t count)
 {
-    departure what = {.to = who->remote.at, .length = get16(packet + AT_LENGTH), .bytes = packet};
-    return clock_now() - who->heard >= MAY_BE_GONE ? datagram_send_to(fd, &what) : datagrams_send(fd, &what, 1) == 1;
+    bool is_sent = false;
+    for (size_t next = 0; next < count;) {
+        size_t sent = datagrams_send(fd, list + next, count - next);
+        is_sent = is_sent || sent > 0;
+        next += sent > 0 ? sent : 1;
+    }
+    return is_sent;
 }
 
-/* (one for whom the system refuses it keeps it from nobody else) */
 bool rfc1234_send(rfc1234 *it, int fd, const uint8_t *frame, size_t length)
 {
-    size_t front;
+    size_t front, count = 0;
     bool is_sent = false;
+    departure there[MOST_PEERS];
     if (ipxr_frame_read(frame, length, &front) == IPXR_NO_FRAME || !has_length(frame + front, length - front))
         return false;
-    for (const rfc1234_peer *who = it->peers; who < it->peers + it->count; who++)
-        if (who->remote.is_known && (is_broadcast(frame) || has_node(who, frame)))
-            is_sent = goes_to(who, fd, frame + front) || is_sent;
-    return is_sent;
+    const uint8_t *packet = frame + front;
+    for (const rfc1234_peer *who = it->peers; who < it->peers + it->count; who++) {
+        departure what = {.to = who->remote.at, .length = get16(packet + AT_LENGTH), .bytes = packet};
+        if (!who->remote.is_known || !(is_broadcast(frame) || has_node(who, frame)))
+            continue;
+        if (clock_now() - who->heard >= MAY_BE_GONE)
+            is_sent = datagram_send_to(fd, &what) || is_sent;
+        else
+            there[count++] = what;
+    }
+    return goes_to_all(fd, there, count) || is_sent;
 }

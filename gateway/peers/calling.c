@@ -16,9 +16,9 @@ enum {
 /* ---- Configurations ---- */
 
 /* The other end. (datagrams go from an address to one of the same kind) */
-static far_end far_end_of_called(const peers *it, const called *who)
+static far_end far_end_of_called(peers *it, const called *who)
 {
-    return (far_end){who->host, who->at, it->set->local.is_six ? ADDRESS_OF_IPV6 : ADDRESS_OF_IPV4};
+    return (far_end){who->host, who->at, it->set->local.is_six ? ADDRESS_OF_IPV6 : ADDRESS_OF_IPV4, &it->asking};
 }
 
 /* Whom a line names, who is called already: of so many, of whom it is taken away. Returns whether he is. */
@@ -34,7 +34,7 @@ static bool takes_old(called *it, called *list, size_t *count, const peer_settin
     return true;
 }
 
-static void begin(const peers *it, called *who, const peer_setting *line)
+static void begin(peers *it, called *who, const peer_setting *line)
 {
     *who = (called){.at = line->at};
     strcpy(who->host, line->host);

@@ -48,6 +48,7 @@ typedef struct peers {
     place places[IPXR_MOST_PEERS];
     called called[MOST_PEERS];
     size_t called_count;
+    size_t asking;         /* of their names so many are asked for now */
     among among;           /* what they say */
     unsealed opened;       /* the datagram that was opened last */
     uint64_t unopened;     /* how many datagrams since one looked weren't sealed by the key, */
