@@ -5,10 +5,13 @@
 
 #include "systems/clock.h"
 
-/* Milliseconds from the answer to one question for a name to the next question. And questions that may be under way: of a link that names several
- * machines; and of all links, and as many as one for each that a reload has left to their threads. So a link whose names nobody knows keeps no other
- * one waiting. (where nobody answers each has a thread and a file for long, and reloads would use up both) */
-enum { MINUTE = 60000, MOST_OF_LINK = 8, MOST_UNDER_WAY = (MOST_OF_LINK + 1) * MOST_LINKS };
+/* Milliseconds from one question for a name to the next. */
+enum { MINUTE = 60000 };
+
+/* Questions that may be under way: one for each link that names one machine, and as many that a reload has left to their threads; and MOST_OF_LINK
+ * for each that names several, those that are left among them. So names that nobody knows keep no other link waiting. (where nobody answers each has
+ * a thread and a file for long, and reloads would use up both) */
+enum { MOST_OF_LINK = 8, MOST_OF_ONE = 2 * MOST_LINKS, MOST_OF_SEVERAL = MOST_OF_LINK * MOST_LINKS };
 
 const char REMOTE_UNKNOWN[] = "no address of that name is known yet";
 
@@ -18,32 +21,33 @@ const char REMOTE_UNKNOWN[] = "no address of that name is known yet";
 typedef struct question {
     char host[HOST_ROOM];
     wanted which;
-    bool is_answered, is_left;
+    bool is_of_several, is_answered, is_left;
     answers found;
 } question;
 
-static size_t under_way; /* looked at by one at a time, too */
+static size_t under_way[2]; /* of links that name one machine, and several; looked at by one at a time, too */
 
 /* One more question is under way. Returns false where there are too many. */
-static bool takes_place(void)
+static bool takes_place(bool is_of_several)
 {
     resolver_lock();
-    bool has_place = under_way < MOST_UNDER_WAY;
-    under_way += has_place;
+    bool has_place = under_way[is_of_several] < (is_of_several ? MOST_OF_SEVERAL : MOST_OF_ONE);
+    under_way[is_of_several] += has_place;
     resolver_unlock();
     return has_place;
 }
 
-static void give_place(void)
+static void give_place(bool is_of_several)
 {
     resolver_lock();
-    under_way--;
+    under_way[is_of_several]--;
     resolver_unlock();
 }
 
 static void run(void *given)
 {
     question *it = given;
+    bool is_of_several = it->is_of_several;
     answers found;
     resolver_ask(it->host, it->which, &found);
     resolver_lock();
@@ -53,7 +57,7 @@ static void run(void *given)
     resolver_unlock();
     if (is_left)
         free(it);
-    give_place();
+    give_place(is_of_several);
 }
 
 /* Datagrams go from an address to one of the same kind. */
@@ -77,6 +81,7 @@ static question *begin(const far_end *of)
         return NULL;
     strcpy(made->host, of->host);
     made->which = of->which;
+    made->is_of_several = of->asking != NULL;
     if (resolver_begin(run, made))
         return made;
     free(made);
@@ -92,20 +97,21 @@ static void put(remote *it, question *made, size_t *asking)
         ++*asking;
     it->question = made;
     it->asking = asking;
-    it->asked = clock_now();
 }
 
 /* (where there is no memory, no thread or no place it is asked again with the next look) */
 static void ask(remote *it, const far_end *of)
 {
-    if ((of->asking != NULL && *of->asking >= MOST_OF_LINK) || !takes_place())
+    bool is_of_several = of->asking != NULL;
+    if ((is_of_several && *of->asking >= MOST_OF_LINK) || !takes_place(is_of_several))
         return;
     question *made = begin(of);
     if (made == NULL) {
-        give_place();
+        give_place(is_of_several);
         return;
     }
     put(it, made, of->asking);
+    it->asked = clock_now();
 }
 
 void remote_end(remote *it)
@@ -179,9 +185,10 @@ bool remote_look(remote *it, const far_end *of, bool is_wanted)
     answers found;
     if (of->host[0] == '\0')
         return false;
-    if (takes_answer(it, &found) && found.count > 0) {
-        it->found = found;
-        return use(it, turn_of(it), of->at.port);
+    if (takes_answer(it, &found)) { /* (and other names have their turn) */
+        if (found.count > 0)
+            it->found = found;
+        return found.count > 0 && use(it, turn_of(it), of->at.port);
     }
     if (it->question == NULL && (it->asked == 0 || ((is_wanted || !it->is_known) && clock_now() - it->asked >= MINUTE)))
         ask(it, of);

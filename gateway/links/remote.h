@@ -27,7 +27,7 @@ typedef struct remote {
     size_t turn;               /* and which of them that is */
     struct question *question; /* that is under way, or NULL */
     size_t *asking;            /* what counts it then, or NULL, */
-    uint64_t asked;            /* and milliseconds of the clock when one was last asked, or answered, or 0 */
+    uint64_t asked;            /* and milliseconds of the clock when one was last asked, or 0 */
 } remote;
 
 /* What a link lacks whose other end isn't known. */

@@ -72,7 +72,9 @@ void rfc1234_close(rfc1234 *it)
 
 void rfc1234_look(rfc1234 *it)
 {
-    for (rfc1234_peer *who = it->peers; who < it->peers + it->count; who++) {
+    it->turn++;
+    for (size_t k = 0; k < it->count; k++) {
+        rfc1234_peer *who = &it->peers[(it->turn + k) % it->count];
         far_end of = far_end_of_peer(it, who);
         (void)remote_look(&who->remote, &of, clock_now() - who->heard >= SILENT);
     }

@@ -25,7 +25,8 @@ typedef struct rfc1234 {
     const network_setting *set;
     rfc1234_peer peers[MOST_PEERS];
     size_t count;
-    size_t asking;              /* of their names so many are asked for now */
+    size_t asking;              /* of their names so many are asked for now, */
+    size_t turn;                /* and of whom one looks first */
     reason lost[MOST_TOGETHER]; /* why of the datagrams that came last some aren't heard, */
     size_t lost_count;          /* and how many */
 } rfc1234;

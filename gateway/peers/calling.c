@@ -118,7 +118,9 @@ static void keep_awake(peers *it, int fd, called *who, size_t number, const addr
 
 void calling_second(peers *it, int fd)
 {
-    for (called *who = it->called; who < it->called + it->called_count; who++) {
+    it->turn++;
+    for (size_t k = 0; k < it->called_count; k++) {
+        called *who = &it->called[(it->turn + k) % it->called_count];
         size_t number;
         address at;
         far_end of = far_end_of_called(it, who);

@@ -48,7 +48,8 @@ typedef struct peers {
     place places[IPXR_MOST_PEERS];
     called called[MOST_PEERS];
     size_t called_count;
-    size_t asking;         /* of their names so many are asked for now */
+    size_t asking;         /* of their names so many are asked for now, */
+    size_t turn;           /* and of whom one looks first */
     among among;           /* what they say */
     unsealed opened;       /* the datagram that was opened last */
     uint64_t unopened;     /* how many datagrams since one looked weren't sealed by the key, */

@@ -31,6 +31,7 @@ TWENTY = 20
 CALLS = 5  # that are taken and cut
 LINKS, TURNS = 30, 10  # of links to names, and configurations that name them
 MOST_UNDER_WAY, OTHERS = 128, 8  # questions at once, and threads that a gateway may have beside them
+NETWORKS, NAMED, OF_LINK = 10, 32, 8  # of links that name several machines, how many each, and of these how many are asked for at once
 
 
 def link(kind):
@@ -87,7 +88,7 @@ class Names:
     def question(self):
         """Waits for a question."""
         bytes_, who = self.udp.recvfrom(512)
-        assert NAME.split(".", 1)[0].encode() in bytes_, bytes_
+        assert NAME.split(".", 1)[0].encode() in bytes_ or b"slow" in bytes_, bytes_
         return bytes_, who
 
     def answer(self, question, addresses):
@@ -162,6 +163,27 @@ def reloads_beside_silence():
             return all(it["state"] == "up" for it in gate.shown("links"))
 
         until(are_known, "all names are known")
+
+
+def several_names_nobody_knows():
+    """While nobody answers for the names of links that have many, a link behind them is asked for and up; then all names are asked for"""
+    text = tunnels(1)
+    for k in range(NETWORKS):
+        text += f"network {0x100 + k:X} 1 576 rfc1234 127.0.0.1:{5100 + k}\n" + "".join(f"peer slow{k}x{n}.test:213\n" for n in range(NAMED))
+    with Names(1) as names, Gateway(text + f"network 20 1 1490 qemu-udp 127.0.0.1:5001 {NAME}:5002 raw\n", before=names.before) as gate:
+        slow, known = [], []
+        while not known or len(slow) < NETWORKS * OF_LINK:
+            question = names.question()
+            (slow if b"slow" in question[0] else known).append(question)
+        names.answer(known[0], ["127.0.0.3"])
+        assert told_with(gate, "127.0.0.3:5002")
+        threads = len(os.listdir(f"/proc/{gate.run.process()}/task"))
+        assert threads <= NETWORKS * OF_LINK + OTHERS, threads
+        asked_for = set()
+        while len(asked_for) < NETWORKS * NAMED:
+            question = slow.pop() if slow else names.question()
+            asked_for.add(question[0][12 : question[0].index(b"\0", 12)])
+            names.answer(question, [])
 
 
 def the_next_address():
@@ -260,6 +282,8 @@ def asked_again():
             names.gives()
             assert gate.told("network 00000020 is down").endswith(UNKNOWN)
             clock.let_pass(MINUTE)
+            gate.report()  # (it has taken the answer then)
+            clock.let_pass(1)
             names.gives("127.0.0.2")
             until(lambda: clock.let_pass(1) or "can't connect" in gate.report(), "nobody at the first address")
             clock.let_pass(MINUTE)
@@ -294,7 +318,7 @@ def inside():
     if mounts.returncode != 0 or not all(os.path.exists(f"/etc/{it}") for it in ("hosts", "resolv.conf", "nsswitch.conf")):
         left_out("names that the test gives out", "its own can't stand in place of the system's")
         return Counts()
-    counts = tried(nobody_waits, an_end_doesnt_wait, reloads_beside_silence, the_next_address, each_fails_in_its_way, one_who_goes_at_once,
+    counts = tried(nobody_waits, an_end_doesnt_wait, reloads_beside_silence, several_names_nobody_knows, the_next_address, each_fails_in_its_way, one_who_goes_at_once,
                    no_room_for_a_call, its_own, asked_again, another_address)
     return counts + tried(of_six) if has_six() else counts
 
