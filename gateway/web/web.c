@@ -234,7 +234,7 @@ bool web_receive(web *it, arrivals *in)
             hear(it, next, in, &left);
     }
     errno = EAGAIN;
-    return in->count > 0;
+    return left < in->most;
 }
 
 /* ---- What goes ---- */

@@ -41,7 +41,8 @@ void web_close(web *it);
 /* The same link by another configuration. */
 void web_follow(web *it, const network_setting *set);
 
-/* Whether there is something that wasn't heard; and the next messages, of pages by turns. Returns false where there are none now. */
+/* Whether there is something that wasn't heard; and the next messages, of pages by turns. Returns false where there are none now. (all that came may
+ * have been for other pages: then there are some, of which the gateway hears none) */
 bool web_has_more(const web *it);
 bool web_receive(web *it, arrivals *in);
 

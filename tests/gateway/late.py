@@ -1,13 +1,15 @@
 """How late players are heard while others make the gateway work: by questions that cost much, and by frames that many pages receive."""
 import contextlib
 import multiprocessing
+import select
 import socket
+import struct
 import threading
 import time
 
 from edge import QUERY
 from frames import Tcp, Udp, frame
-from lab import EVERYONE, GAME, SAP, Client, Gateway, address, ears, fresh, free_ports, packet, played_anew
+from lab import EVERYONE, GAME, LIMIT, SAP, Client, Gateway, address, fresh, free_ports, packet, played_anew
 from pages import Frames
 from trying import begin, figures, tried
 
@@ -17,6 +19,8 @@ RULES, SERVICES, OF_NETWORK = 64, 1024, 64
 LONG = "N" * 40  # with which all names begin, so that a rule is known as another one's late
 PC = bytes.fromhex("020000000AA1")
 ROOM_NETWORK, PAGES = 0x20, 235
+QUIET_NETWORK, ONE, OTHER = 0x30, bytes.fromhex("02000000A001"), bytes.fromhex("02000000B001")
+RATE, AT_DATA = 700, 44  # frames a second, and where in one its data begin
 AT_ONCE, EVERY, SECONDS = 20, 0.02, 4  # a PC's frames that it says together, every so many seconds, for so long
 LATEST = 0.8  # seconds
 
@@ -128,7 +132,47 @@ def a_pc_floods_a_room():
         assert longest < LATEST, longest
 
 
-TESTS = played_anew(all_services_are_asked_for), played_anew(a_pc_floods_a_room)
+def heard_of(page):
+    """The times that frames of a page have with them, as far as they came."""
+    while select.select([page], [], [], 0)[0]:
+        page.web.read()
+    got, page.web.messages = page.web.messages, []
+    return [struct.unpack(">d", it[AT_DATA : AT_DATA + 8])[0] for it in got if it[6:12] == ONE]
+
+
+def page_lateness(one, other):
+    """The longest that a frame took from one page to another, said hundreds of times a second; all come."""
+    times, said = [], 0
+    end = time.monotonic() + SECONDS
+    while time.monotonic() < end or len(times) < said:
+        assert time.monotonic() < end + LIMIT, f"{len(times)} frames of {said} came"
+        if time.monotonic() < end:
+            data = struct.pack(">d", time.monotonic()).ljust(100)
+            one.send(frame("raw", OTHER, ONE, packet(address(QUIET_NETWORK, OTHER, GAME), address(QUIET_NETWORK, ONE, GAME), data)))
+            said += 1
+        times += [time.monotonic() - it for it in heard_of(other)]
+        time.sleep(1 / RATE)
+    return max(times)
+
+
+def pages_hear_each_other():
+    """The same flood: two pages of another room, one of which says 700 frames a second to the other, are heard at once"""
+    port, quiet, line = free_ports(3)
+    text = f"network {QUIET_NETWORK:X} 1 1490 web 127.0.0.1:{quiet} raw\nrate 100000 50000\nnetwork {ROOM_NETWORK:X} 1 1490\n" \
+        f"link qemu-tcp listen 127.0.0.1:{line} raw\nlink web 127.0.0.1:{port} raw\nrate 4000 100\n"
+    with Gateway(text), heard_by_pages(port):
+        one, other = (Frames(quiet, QUIET_NETWORK) for _ in range(2))
+        other.send(frame("raw", EVERYONE, OTHER, packet(address(0, EVERYONE, GAME), address(QUIET_NETWORK, OTHER, GAME), b"here")))
+        one.receive()
+        wire = Tcp(socket.create_connection(("127.0.0.1", line)))
+        said = frame("raw", EVERYONE, PC, packet(address(ROOM_NETWORK, EVERYONE, GAME), address(ROOM_NETWORK, PC, GAME), bytes(1000)))
+        with saying_much(wire, said):
+            longest = page_lateness(one, other)
+        figures(f"a frame took {longest:.2f} s at most")
+        assert longest < LATEST, longest
+
+
+TESTS = played_anew(all_services_are_asked_for), played_anew(a_pc_floods_a_room), played_anew(pages_hear_each_other)
 
 
 def main():
