@@ -184,6 +184,7 @@ def several_names_nobody_knows():
             question = slow.pop() if slow else names.question()
             asked_for.add(question[0][12 : question[0].index(b"\0", 12)])
             names.answer(question, [])
+        until(lambda: len(os.listdir(f"/proc/{gate.run.process()}/task")) <= OTHERS, "the end of the last question")
 
 
 def the_next_address():
@@ -282,8 +283,7 @@ def asked_again():
             names.gives()
             assert gate.told("network 00000020 is down").endswith(UNKNOWN)
             clock.let_pass(MINUTE)
-            gate.report()  # (it has taken the answer then)
-            clock.let_pass(1)
+            until(lambda: clock.let_pass(1) or select.select([names.udp], [], [], 0.1)[0], "the next question")
             names.gives("127.0.0.2")
             until(lambda: clock.let_pass(1) or "can't connect" in gate.report(), "nobody at the first address")
             clock.let_pass(MINUTE)
